@@ -1,0 +1,99 @@
+-- Laws of the tests, sums and first hits below n. Assumes nothing.
+use mathlib.Core.Path.{_≡_, refl, sym, _∙_, ap, subst}
+use mathlib.Core.Logic.{_≢_, _⊎_, inl, inr, ⊎-elim}
+use mathlib.Core.Bool.{Bool, true, false, _&&_, _||_, true≢false}
+use mathlib.Core.Option.{Option, none, some}
+use Prim.Native.Nat.{ℕ, zero, suc, _+_, _*_, _≤_, _<_}
+use native.Mathlib.Omega.{arith}
+use native.Mathlib.Decide.{ℕ-discrete}
+use Rattle.base.specs.Answers.{orElse}
+use Rattle.base.specs.Below.{allBelow, anyBelow, countBelow, sumBelow, numbered, firstBelow, concatBelow}
+use Rattle.base.proofs.Answers.{and-left, and-right, and-intro, or-left, or-right, or-intro, orElse-none, orElse-some}
+
+-- a number below suc n is below n or is n
+pub below-suc : (n i : ℕ) → i < suc n → (i < n) ⊎ (i ≡ n)
+below-suc n i h = go (ℕ-discrete i n)
+  where
+    go : Dec (i ≡ n) → (i < n) ⊎ (i ≡ n)
+    go (yes e) = inr e
+    go (no ne) = inl (omega arith)
+
+pub eq-or-ne : (i j : ℕ) → (i ≡ j) ⊎ (i ≢ j)
+eq-or-ne i j = go (ℕ-discrete i j)
+  where
+    go : Dec (i ≡ j) → (i ≡ j) ⊎ (i ≢ j)
+    go (yes e) = inl e
+    go (no ne) = inr ne
+
+-- a fact of every number below suc n: of those below n, and of n
+pub step-below : (P : ℕ → Type 0) (n : ℕ) → ((i : ℕ) → i < n → P i) → P n → (i : ℕ) → i < suc n → P i
+step-below P n h z i k = ⊎-elim (λ l. h i l) (λ q. subst P (sym q) z) (below-suc n i k)
+
+pub all-at : (n : ℕ) (p : ℕ → Bool) → allBelow n p ≡ true → (i : ℕ) → i < n → p i ≡ true
+all-at zero p e i h = absurd (omega arith)
+all-at (suc n) p e i h = step-below (λ i. p i ≡ true) n (all-at n p (and-left (allBelow n p) (p n) e)) (and-right (allBelow n p) (p n) e) i h
+
+pub all-intro : (n : ℕ) (p : ℕ → Bool) → ((i : ℕ) → i < n → p i ≡ true) → allBelow n p ≡ true
+all-intro zero p h = refl
+all-intro (suc n) p h = and-intro (allBelow n p) (p n) (all-intro n p (λ i k. h i (omega arith))) (h n (omega arith))
+
+pub none-at : (n : ℕ) (p : ℕ → Bool) → anyBelow n p ≡ false → (i : ℕ) → i < n → p i ≡ false
+none-at zero p e i h = absurd (omega arith)
+none-at (suc n) p e i h = step-below (λ i. p i ≡ false) n (none-at n p (or-left (anyBelow n p) (p n) e)) (or-right (anyBelow n p) (p n) e) i h
+
+pub none-intro : (n : ℕ) (p : ℕ → Bool) → ((i : ℕ) → i < n → p i ≡ false) → anyBelow n p ≡ false
+none-intro zero p h = refl
+none-intro (suc n) p h = or-intro (anyBelow n p) (p n) (none-intro n p (λ i k. h i (omega arith))) (h n (omega arith))
+
+pub any-intro : (n : ℕ) (p : ℕ → Bool) (i : ℕ) → i < n → p i ≡ true → anyBelow n p ≡ true
+any-intro n p i h e = go (anyBelow n p) refl
+  where
+    go : (b : Bool) → anyBelow n p ≡ b → anyBelow n p ≡ true
+    go true q = q
+    go false q = absurd (true≢false (sym e ∙ none-at n p q i h))
+
+pub any-cong : (n : ℕ) (p q : ℕ → Bool) → ((i : ℕ) → i < n → p i ≡ q i) → anyBelow n p ≡ anyBelow n q
+any-cong zero p q h = refl
+any-cong (suc n) p q h = rw (any-cong n p q (λ i k. h i (omega arith)), h n (omega arith))
+
+module _ {A : Type 0} where
+  un-numbered : (n : ℕ) (o : Option A) → numbered n o ≡ none → o ≡ none
+  un-numbered n none q = refl
+  un-numbered n (some a) q = cc
+
+  pub first-none-at : (n : ℕ) (f : ℕ → Option A) → firstBelow n f ≡ none → (i : ℕ) → i < n → f i ≡ none
+  first-none-at zero f e i h = absurd (omega arith)
+  first-none-at (suc n) f e i h =
+      let b : (firstBelow n f ≡ none) × (numbered n (f n) ≡ none) = orElse-none (firstBelow n f) (numbered n (f n)) e in
+      step-below (λ i. f i ≡ none) n (first-none-at n f (b .0)) (un-numbered n (f n) (b .1)) i h
+
+  pub first-none : (n : ℕ) (f : ℕ → Option A) → ((i : ℕ) → i < n → f i ≡ none) → firstBelow n f ≡ none
+  first-none zero f h = refl
+  first-none (suc n) f h = rw (first-none n f (λ i k. h i (omega arith)), h n (omega arith))
+
+  pub first-cong : (n : ℕ) (f g : ℕ → Option A) → ((i : ℕ) → i < n → f i ≡ g i) → firstBelow n f ≡ firstBelow n g
+  first-cong zero f g h = refl
+  first-cong (suc n) f g h = rw (first-cong n f g (λ i k. h i (omega arith)), h n (omega arith))
+
+  -- the only answer is the first
+  pub first-only : (n : ℕ) (f : ℕ → Option A) (i : ℕ) (a : A) → i < n → f i ≡ some a → ((j : ℕ) → j < n → j ≢ i → f j ≡ none) → firstBelow n f ≡ some (i, a)
+  first-only zero f i a h e u = absurd (omega arith)
+  first-only (suc n) f i a h e u =
+      ⊎-elim
+      (λ k. rw (first-only n f i a k e (λ j l. u j (omega arith))))
+      (λ q. rw (first-none n f (λ j l. u j (omega arith) (omega arith)), ← q, e))
+      (below-suc n i h)
+
+  numbered-some : (n : ℕ) (o : Option A) (i : ℕ) (a : A) → numbered n o ≡ some (i, a) → (n ≡ i) × (o ≡ some a)
+  numbered-some n none i a e = (cc, cc)
+  numbered-some n (some b) i a e =
+      let p : _≡_ {A = ℕ × A} (n, b) (i, a) = cc in
+      (ap (λ x. x .0) p, ap (λ x. some (x .1)) p)
+
+  pub first-hit : (n : ℕ) (f : ℕ → Option A) (i : ℕ) (a : A) → firstBelow n f ≡ some (i, a) → (i < n) × (f i ≡ some a)
+  first-hit zero f i a e = absurd (let z : _≡_ {A = ℕ} 0 1 = cc in omega arith)
+  first-hit (suc n) f i a e =
+      ⊎-elim
+      (λ p. let h = first-hit n f i a p in (omega (arith, h .0), h .1))
+      (λ p. let q = numbered-some n (f n) i a p in (omega (arith, q .0), rw (← (q .0)) (q .1)))
+      (orElse-some (firstBelow n f) (numbered n (f n)) (i, a) e)

@@ -1,0 +1,159 @@
+-- Laws of lists of numbers: what a loop that reads, stores, compares or fills needs. Assumes nothing.
+use mathlib.Core.Path.{_≡_, refl, sym, ap, ap₂, _∙_}
+use mathlib.Core.Bool.{Bool, true, false, _&&_}
+use mathlib.Core.List.{List, [], _∷_, _++_, map, append-assoc, append-nil}
+use Prim.Native.Nat.{ℕ, zero, suc, _+_, _*_, _-_, _≤_, _<_}
+use native.Mathlib.Nat.{add-suc, suc-add, add-zero, zero-add, not-suc-le-zero, le-of-suc-le-suc, sub-zero}
+use native.Mathlib.Numerals.{add-one}
+use native.Mathlib.Omega.{arith}
+use borrow.Author.Tests.{eq-eqb, ne-eqb, eqb-true}
+use lib.Dec.{T, eqb, eqb→eq, lit<}
+use lib.ListN.{length, take, drop, getD, set, replicate, length-take, length-drop, length-map, take-append-drop, List·getD-append}
+use lib.Seq.{take-all, take-length, drop-cons, drop-drop, drop-at, take-append-seam, getD-drop, getD-append-add, paste, drop-length}
+use Rattle.base.proofs.Answers.{and-left, and-right}
+use Rattle.base.specs.Lists.{part, put, eqs, table, rows, Bytes}
+
+-- ---- parts and stores
+
+-- the part from i to the end
+pub to-end : (i : ℕ) (s : List ℕ) → take (length s - i) (drop i s) ≡ drop i s
+to-end i s = take-all (length s - i) (drop i s) (omega (arith, length-drop i s))
+
+-- the part from i to n: one element, and the part after it
+pub part-cons : (a : List ℕ) (i n : ℕ) → i < n → n ≤ length a → part i (n - i) a ≡ getD a i 0 ∷ part (i + 1) (n - (i + 1)) a
+part-cons a i n h k =
+    let e : n - i ≡ suc (n - (i + 1)) = omega arith in
+    let z : i < length a = omega arith in
+    rw (e, drop-cons a i 0, add-one)
+
+pub length-part : (at n : ℕ) (s : List ℕ) → at + n ≤ length s → length (part at n s) ≡ n
+length-part at n s h = simp (length-take, length-drop) (omega arith)
+
+pub part-put : (at : ℕ) (bs s : List ℕ) → at + length bs ≤ length s → part at (length bs) (put at bs s) ≡ bs
+part-put at bs s h =
+    let e : length (take at s) ≡ at = simp length-take (omega arith) in
+    rw (drop-at, take-append-seam)
+
+pub put-part : (at n : ℕ) (s : List ℕ) → at + n ≤ length s → put at (part at n s) s ≡ s
+put-part at n s h = rw (length-part at n s h, ← drop-drop n at s, take-append-drop, take-append-drop)
+
+-- a store that is done byte by byte
+pub paste-all : (d : List ℕ) (at : ℕ) (m : List ℕ) → paste d at m (length m) ≡ put at m d
+paste-all d at m = rw (take-length, append-assoc)
+
+-- ---- bytes
+
+pub bytes-drop : (n : ℕ) (l : List ℕ) → Bytes l → Bytes (drop n l)
+bytes-drop n l b k = rw getD-drop (b (n + k))
+
+pub bytes-take : (n : ℕ) (l : List ℕ) → Bytes l → Bytes (take n l)
+bytes-take zero l b k = lit< tt
+bytes-take (suc n) [] b k = lit< tt
+bytes-take (suc n) (x ∷ l) b zero = b 0
+bytes-take (suc n) (x ∷ l) b (suc k) = bytes-take n l (λ j. b (suc j)) k
+
+pub bytes-part : (at n : ℕ) (l : List ℕ) → Bytes l → Bytes (part at n l)
+bytes-part at n l b = bytes-take n (drop at l) (bytes-drop at l b)
+
+-- ---- comparison
+
+pub eqs-refl : (a : List ℕ) → eqs a a ≡ true
+unfolding eqs
+eqs-refl [] = refl
+eqs-refl (x ∷ a) = rw (eq-eqb x x refl) (eqs-refl a)
+
+pub eqs-true : (a b : List ℕ) → eqs a b ≡ true → a ≡ b
+unfolding eqs
+eqs-true [] [] e = refl
+eqs-true [] (y ∷ b) e = cc
+eqs-true (x ∷ a) [] e = cc
+eqs-true (x ∷ a) (y ∷ b) e =
+    ap₂ (λ (z : ℕ) (l : List ℕ). z ∷ l) (eqb-true x y (and-left (eqb x y) (eqs a b) e)) (eqs-true a b (and-right (eqb x y) (eqs a b) e))
+
+pub eqs-false : (a b : List ℕ) → (a ≡ b → ⊥) → eqs a b ≡ false
+eqs-false a b n = go (eqs a b) refl
+  where
+    go : (t : Bool) → eqs a b ≡ t → eqs a b ≡ false
+    go true e = absurd (n (eqs-true a b e))
+    go false e = e
+
+pub eqs-lengths : (a b : List ℕ) → (length a ≡ length b → ⊥) → eqs a b ≡ false
+eqs-lengths a b n = eqs-false a b (λ (e : a ≡ b). n (ap length e))
+
+eqs-step : (a b : List ℕ) (i : ℕ) → i < length a → i < length b →
+    eqs (drop i a) (drop i b) ≡ eqb (getD a i 0) (getD b i 0) && eqs (drop (i + 1) a) (drop (i + 1) b)
+unfolding eqs
+eqs-step a b i h k = rw (drop-cons a i 0, drop-cons b i 0, add-one)
+
+-- a turn of a comparison: the elements are equal, or they are not
+pub eqs-go : (a b : List ℕ) (i : ℕ) → i < length a → i < length b → getD a i 0 ≡ getD b i 0 →
+    eqs (drop i a) (drop i b) ≡ eqs (drop (i + 1) a) (drop (i + 1) b)
+eqs-go a b i h k e = eqs-step a b i h k ∙ rw (eq-eqb _ _ e)
+
+pub eqs-stop : (a b : List ℕ) (i : ℕ) → i < length a → i < length b → (getD a i 0 ≡ getD b i 0 → ⊥) → eqs (drop i a) (drop i b) ≡ false
+eqs-stop a b i h k n = eqs-step a b i h k ∙ rw (ne-eqb _ _ n)
+
+pub eqs-end : (a b : List ℕ) → length a ≡ length b → eqs (drop (length a) a) (drop (length a) b) ≡ true
+unfolding eqs
+eqs-end a b e = rw (drop-length a, e, drop-length b)
+
+-- two lists, compared by a test that computes
+pub same : (xs ys : List ℕ) → T (eqs xs ys) → xs ≡ ys
+same xs ys t = go (eqs xs ys) refl t
+  where
+    go : (b : Bool) → eqs xs ys ≡ b → T b → xs ≡ ys
+    go true e u = eqs-true xs ys e
+    go false e u = absurd u
+
+-- ---- tables by a rule
+
+module _ {A : Type 0} where
+  table-from : (f : ℕ → A) (d : A) (i n k : ℕ) → k < n → getD (table f i n) k d ≡ f (i + k)
+  table-from f d i zero k h = absurd (not-suc-le-zero h)
+  table-from f d i (suc n) zero h = ap f (sym (add-zero i))
+  table-from f d i (suc n) (suc k) h = table-from f d (suc i) n k (le-of-suc-le-suc h) ∙ ap f (suc-add i k ∙ sym (add-suc i k))
+
+  pub table-at : (f : ℕ → A) (d : A) (n k : ℕ) → k < n → getD (table f 0 n) k d ≡ f k
+  table-at f d n k h = table-from f d 0 n k h ∙ ap f (zero-add k)
+
+  fill-suc : (f : ℕ → A) (k n : ℕ) (d : List A) → n < length d → set (table f k n ++ drop n d) n (f (k + n)) ≡ table f k (suc n) ++ drop (suc n) d
+  fill-suc f k n [] l = absurd (not-suc-le-zero l)
+  fill-suc f k zero (x ∷ d) l = rw add-zero
+  fill-suc f k (suc n) (x ∷ d) l = rw (add-suc, ← suc-add) (ap (λ (t : List A). f k ∷ t) (fill-suc f (suc k) n d (le-of-suc-le-suc l)))
+
+  -- a list filled by a rule: one store more
+  pub fill-more : (f : ℕ → A) (n : ℕ) (d : List A) → n < length d → set (table f 0 n ++ drop n d) n (f n) ≡ table f 0 (n + 1) ++ drop (n + 1) d
+  fill-more f n d l = rw add-one (rw zero-add at (fill-suc f 0 n d l))
+
+-- f j times
+abbrev pub times : (ℕ → ℕ) → ℕ → ℕ → ℕ
+times f zero x = x
+times f (suc j) x = times f j (f x)
+
+map-at : (f : ℕ → ℕ) (l : List ℕ) (k : ℕ) → k < length l → getD (map f l) k 0 ≡ f (getD l k 0)
+map-at f [] k h = absurd (not-suc-le-zero h)
+map-at f (x ∷ l) zero h = refl
+map-at f (x ∷ l) (suc k) h = map-at f l k (le-of-suc-le-suc h)
+
+-- entry k of row j
+pub row-at : (f : ℕ → ℕ) (n : ℕ) (l : List ℕ) (j k : ℕ) → j < n → k < length l → getD (rows f n l) (j * length l + k) 0 ≡ times f j (getD l k 0)
+row-at f zero l j k h g = absurd (not-suc-le-zero h)
+row-at f (suc n) l zero k h g =
+    let e : 0 * length l + k ≡ k = omega arith in
+    rw e (List·getD-append l (rows f n (map f l)) 0 k g)
+row-at f (suc n) l (suc j) k h g =
+    let e : suc j * length l + k ≡ length l + (j * length (map f l) + k) = rw length-map (omega arith) in
+    let g′ : k < length (map f l) = rw length-map g in
+    rw (e, getD-append-add l (rows f n (map f l)), row-at f n (map f l) j k (le-of-suc-le-suc h) g′, map-at f l k)
+
+-- ---- a fact of every entry of a list
+
+module _ {A : Type 0} where
+  abbrev pub All : (A → Type 0) → List A → Type 0
+  All P [] = Unit {0}
+  All P (x ∷ xs) = P x × All P xs
+
+  pub all-entries : (P : A → Type 0) (d : A) → P d → (xs : List A) → All P xs → (k : ℕ) → P (getD xs k d)
+  all-entries P d z [] t k = z
+  all-entries P d z (x ∷ xs) t zero = t .0
+  all-entries P d z (x ∷ xs) t (suc k) = all-entries P d z xs (t .1) k
