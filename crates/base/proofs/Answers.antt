@@ -4,11 +4,9 @@ use mathlib.Core.Logic.{_⊎_, inl, inr}
 use mathlib.Core.Bool.{Bool, true, false, not, _&&_, _||_, cond, true≢false, false≢true}
 use mathlib.Core.Option.{Option, none, some}
 use mathlib.Core.List.{List, [], _∷_}
-use Prim.Native.Nat.{ℕ, zero, suc, _+_, _≤_, _<_}
-use native.Mathlib.Omega.{arith}
-use lib.Dec.{eqb}
-use borrow.Author.Tests.{ne-eqb}
-use Rattle.base.specs.Answers.{orElse, allOf, firstBroken}
+use Prim.Native.Nat.{ℕ, zero, suc}
+use lib.ListN.{getD}
+use Rattle.base.specs.Answers.{orElse, allOf}
 
 -- two values of one test
 pub clash : {b : Bool} {A : Type 0} → b ≡ false → b ≡ true → A
@@ -42,6 +40,10 @@ pub or-true-right : (a b : Bool) → b ≡ true → a || b ≡ true
 or-true-right true b e = refl
 or-true-right false b e = e
 
+pub or-true-cases : (a b : Bool) → a || b ≡ true → (a ≡ true) ⊎ (b ≡ true)
+or-true-cases true b e = inl refl
+or-true-cases false b e = inr e
+
 module _ {A : Type 0} where
   pub orElse-none : (a b : Option A) → orElse a b ≡ none → (a ≡ none) × (b ≡ none)
   orElse-none none b e = (refl, e)
@@ -51,12 +53,18 @@ module _ {A : Type 0} where
   orElse-some none b x e = inr e
   orElse-some (some y) b x e = inl e
 
--- all rules hold exactly if none is the first broken
-pub all-unbroken : (n : ℕ) (l : List Bool) → 0 < n → allOf l ≡ eqb (firstBroken n l) 0
-all-unbroken n [] h = refl
-all-unbroken n (true ∷ l) h = all-unbroken (suc n) l (omega arith)
-all-unbroken zero (false ∷ l) h = absurd (omega arith)
-all-unbroken (suc n) (false ∷ l) h = sym (ne-eqb (suc n) 0 (λ (e : suc n ≡ 0). absurd (omega arith)))
+-- one rule that does not hold is enough
+pub one-broken : (l : List Bool) (k : ℕ) → getD l k true ≡ false → allOf l ≡ false
+one-broken [] k e = absurd (true≢false e)
+one-broken (b ∷ l) zero e = rw e
+one-broken (true ∷ l) (suc k) e = one-broken l k e
+one-broken (false ∷ l) (suc k) e = refl
+
+-- each rule of those that all hold
+pub each-holds : (l : List Bool) → allOf l ≡ true → (k : ℕ) → getD l k true ≡ true
+each-holds [] e k = refl
+each-holds (b ∷ l) e zero = and-left b (allOf l) e
+each-holds (b ∷ l) e (suc k) = each-holds l (and-right b (allOf l) e) k
 
 module _ {A : Type 0} where
   -- a choice between two answers that came out as the first, or as the second

@@ -24,9 +24,3 @@ module _ {A B : Type 0} where
 abbrev pub allOf : List Bool → Bool
 allOf [] = true
 allOf (b ∷ bs) = b && allOf bs
-
--- the number of the first rule that does not hold, counted from n; 0 if all hold
-abbrev pub firstBroken : ℕ → List Bool → ℕ
-firstBroken n [] = 0
-firstBroken n (true ∷ bs) = firstBroken (suc n) bs
-firstBroken n (false ∷ bs) = n

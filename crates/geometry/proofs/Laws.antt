@@ -1,0 +1,99 @@
+-- Laws of units and multiples. Assumes nothing.
+use mathlib.Core.Path.{_≡_, refl, sym, ap, _∙_}
+use mathlib.Core.Logic.{⊎-elim}
+use mathlib.Core.Bool.{Bool, true, false, _||_, _&&_, false≢true, and-true}
+use Prim.Native.Nat.{ℕ, zero, suc, _+_, _-_, _*_, _/_, _%_, _^_, _≤_, _<_}
+use native.Mathlib.Nat.{pow-suc, pow-le-pow-right, one-le-pow, div-add-mod', mod-lt, mul-mod-left, mul-le-mul-right, div-lt-iff-lt-mul}
+use native.Mathlib.Numerals.{add-one}
+use native.Mathlib.Omega.{arith}
+use lib.Dec.{eqb, leb, lit<}
+use lib.ListN.{getD, length}
+use mathlib.Core.List.{List}
+use borrow.Author.Tests.{eqb-true, eq-eqb, ne-eqb, le-leb, lt-leb}
+use Rattle.base.specs.Below.{anyBelow}
+use Rattle.base.specs.Answers.{Answer, given, refused}
+use Rattle.base.proofs.Answers.{or-true-cases, one-broken, each-holds}
+use Rattle.base.proofs.Below.{any-intro}
+use Rattle.geometry.specs.declared.Geometry.{Geometry}
+use Rattle.geometry.specs.Slip.{opens, slipRules, wellFormed}
+use Rattle.geometry.specs.Geometry.{goodUnit, roundUp, geometryRules, geometryOf, makeGeometry, vidStart, dataStart, lebSize}
+
+-- ---- units
+
+power-range : (m n : ℕ) → anyBelow m (λ (k : ℕ). eqb n (2 ^ k)) ≡ true → (0 < n) × (n < 2 ^ m)
+power-range zero n e = absurd (false≢true e)
+power-range (suc m) n e =
+    ⊎-elim
+    (λ (l : anyBelow m (λ (k : ℕ). eqb n (2 ^ k)) ≡ true). let r = power-range m n l in (r .0, rw pow-suc (omega arith)))
+    (λ (l : eqb n (2 ^ m) ≡ true). let q = eqb-true n (2 ^ m) l in let p = one-le-pow m 2 (lit< tt) in (omega arith, rw pow-suc (omega arith)))
+    (or-true-cases (anyBelow m (λ (k : ℕ). eqb n (2 ^ k))) (eqb n (2 ^ m)) e)
+
+-- a unit is above 0 and below 8,192
+pub unit-range : (n : ℕ) → goodUnit n ≡ true → (0 < n) × (n < 8192)
+unfolding goodUnit
+unit-range n e = power-range 13 n e
+
+-- a turn of the search for a power
+pub power-more : (n k : ℕ) → anyBelow k (λ (j : ℕ). eqb n (2 ^ j)) ≡ false → (n ≡ 2 ^ k → ⊥) → anyBelow (k + 1) (λ (j : ℕ). eqb n (2 ^ j)) ≡ false
+power-more n k e h = rw (add-one, e, ne-eqb _ _ h)
+
+pub power-found : (n k : ℕ) → k < 13 → n ≡ 2 ^ k → goodUnit n ≡ true
+unfolding goodUnit
+power-found n k h e = any-intro 13 (λ (j : ℕ). eqb n (2 ^ j)) k h (eq-eqb _ _ e)
+
+-- ---- the smallest multiple
+
+pub round-below : (m x : ℕ) → 0 < m → roundUp m x < x + m
+unfolding roundUp
+round-below m x h = omega (arith, div-add-mod' (x + (m - 1)) m)
+
+pub round-at-least : (m x : ℕ) → 0 < m → x ≤ roundUp m x
+unfolding roundUp
+round-at-least m x h = omega (arith, div-add-mod' (x + (m - 1)) m, mod-lt (x + (m - 1)) h)
+
+pub round-multiple : (m x : ℕ) → roundUp m x % m ≡ 0
+unfolding roundUp
+round-multiple m x = mul-mod-left ((x + (m - 1)) / m) m
+
+-- no smaller multiple is at least x
+pub round-least : (m x k : ℕ) → 0 < m → x ≤ k * m → roundUp m x ≤ k * m
+unfolding roundUp
+round-least m x k h l =
+    let q : (x + (m - 1)) / m < k + 1 = div-lt-iff-lt-mul h .1 (omega arith) in
+    mul-le-mul-right m (omega arith)
+
+-- ---- refusal 2: one rule broken is enough
+pub outside : (peb unit sub k : ℕ) → getD (geometryRules peb unit sub) k true ≡ false → refused 2 0 ≡ geometryOf peb unit sub
+unfolding geometryOf
+outside peb unit sub k e = rw (one-broken (geometryRules peb unit sub) k e)
+
+-- the geometry where every rule holds; `vid` and `dat` are the starts as computed
+pub inside : (peb unit sub vid dat : ℕ) → goodUnit unit ≡ true → goodUnit sub ≡ true → sub ≤ unit → 1024 ≤ peb → peb ≤ 262144 → peb % unit ≡ 0
+    → vid ≡ roundUp sub 64 → dat ≡ roundUp unit (vid + 64) → dat + 172 ≤ peb
+    → given (record { «peb_size» = peb; unit = unit; «sub_unit» = sub; «vid_start» = vid; «data_start» = dat; «leb_size» = peb - dat }) ≡ geometryOf peb unit sub
+unfolding geometryOf geometryRules makeGeometry lebSize dataStart vidStart
+inside peb unit sub vid dat u s o l h m v d z =
+    let w : 172 ≤ peb - dat = omega arith in
+    rw (← v, ← d, u, s, le-leb _ _ o, le-leb _ _ l, le-leb _ _ h, eq-eqb _ _ m, le-leb _ _ w)
+
+pub too-short : (peb unit sub vid dat : ℕ) → vid ≡ roundUp sub 64 → dat ≡ roundUp unit (vid + 64) → peb < dat + 172 → refused 2 0 ≡ geometryOf peb unit sub
+unfolding geometryRules lebSize dataStart vidStart
+too-short peb unit sub vid dat v d z =
+    let w : peb - dat < 172 = omega arith in
+    outside peb unit sub 6 (rw (← v, ← d, lt-leb _ _ w))
+
+-- ---- the slip
+
+-- refusal 1: one test broken is enough
+pub malformed : (s : List ℕ) (k : ℕ) → getD (slipRules s) k true ≡ false → false ≡ wellFormed s
+unfolding wellFormed
+malformed s k e = sym (one-broken (slipRules s) k e)
+
+-- with the other tests passed, the last field decides
+pub last-field : (s : List ℕ) {r : Bool} → length s ≡ 20 → opens 0 1 4 s ≡ true → opens 7 2 2 s ≡ true → opens 12 3 2 s ≡ true → r ≡ opens 17 0 0 s → r ≡ wellFormed s
+unfolding wellFormed slipRules
+last-field s l a b c e = e ∙ rw (a, b, c, eq-eqb _ _ l) (sym (and-true (opens 17 0 0 s)))
+
+pub slip-length : (s : List ℕ) → wellFormed s ≡ true → length s ≡ 20
+unfolding wellFormed slipRules
+slip-length s e = eqb-true (length s) 20 (each-holds (slipRules s) e 4)

@@ -1,0 +1,106 @@
+-- `geometry::rules::measure` meets its contract: one broken rule refuses, else the geometry is the one of the rules. Assumes nothing.
+use mathlib.Core.Path.{_≡_, refl, sym, ap, _∙_}
+use Prim.Native.Nat.{_≤_, _<_, _-_, _+_}
+use native.Mathlib.Omega.{arith}
+use borrow.Author.Needs.{needs}
+use mathlib.Core.Bool.{true}
+use borrow.Author.Tests.{not-true, not-false, lt-leb, ne-eqb}
+use Rattle.geometry.specs.Geometry.{goodUnit, geometryRules}
+use Rattle.geometry.proofs.Laws.{unit-range, outside, inside, too-short}
+use borrow.Author.Needs.{needs}
+use Rattle.geometry.proofs.rules.measure.Statement.{statement}
+use Rattle.geometry.proofs.rules.measure.Tie as tie
+use Rattle.geometry.proofs.rules.measure.Reads as reads
+use Rattle.geometry.proofs.rules.measure.Lts as lts
+use Rattle.geometry.proofs.rules.is_unit.Reads as is-unit-reads
+use Rattle.geometry.proofs.rules.round_up.Reads as round-up-reads
+
+-- both units, past their tests
+unit-good : (c : tie.Else2) → goodUnit (c .before .before .before .before .args .unit) ≡ true
+unit-good c = sym (c .before .before .before .is-unit .ensures) ∙ not-false (c .before .before .before .is-unit .result) (c .before .before .if1 .left)
+
+sub-unit-good : (c : tie.Else2) → goodUnit (c .before .before .before .before .args .sub-unit) ≡ true
+sub-unit-good c = sym (c .before .is-unit2 .ensures) ∙ not-false (c .before .is-unit2 .result) (c .if2 .left)
+
+unit-small : (c : tie.Else2) → (0 < c .before .before .before .before .args .unit) × (c .before .before .before .before .args .unit < 8192)
+unit-small c = unit-range (c .before .before .before .before .args .unit) (unit-good c)
+
+sub-unit-small : (c : tie.Else2) → (0 < c .before .before .before .before .args .sub-unit) × (c .before .before .before .before .args .sub-unit < 8192)
+sub-unit-small c = unit-range (c .before .before .before .before .args .sub-unit) (sub-unit-good c)
+
+is-unit-requires : tie.Need-is-unit-requires
+is-unit-requires c κs = search needs
+
+returns : tie.Need-returns
+unfolding geometryRules
+returns c = outside (c .before .before .args .peb-size) (c .before .before .args .unit) (c .before .before .args .sub-unit) 0 (sym (c .before .is-unit .ensures) ∙ not-true (c .before .is-unit .result) (c .if1 .taken))
+
+is-unit-requires-2 : tie.Need-is-unit-requires-2
+is-unit-requires-2 c κs = search needs
+
+returns-2 : tie.Need-returns-2
+unfolding geometryRules
+returns-2 c = outside (c .before .before .before .before .args .peb-size) (c .before .before .before .before .args .unit) (c .before .before .before .before .args .sub-unit) 1 (sym (c .before .is-unit2 .ensures) ∙ not-true (c .before .is-unit2 .result) (c .if2 .taken))
+
+returns-3 : tie.Need-returns-3
+unfolding geometryRules
+returns-3 c = outside (c .before .before .before .before .before .args .peb-size) (c .before .before .before .before .before .args .unit) (c .before .before .before .before .before .args .sub-unit) 2 (lt-leb _ _ (c .if3 .taken))
+
+returns-4 : tie.Need-returns-4
+unfolding geometryRules
+returns-4 c = outside (c .before .before .before .before .before .before .args .peb-size) (c .before .before .before .before .before .before .args .unit) (c .before .before .before .before .before .before .args .sub-unit) 3 (lt-leb _ _ (c .if4 .taken))
+
+returns-5 : tie.Need-returns-5
+unfolding geometryRules
+returns-5 c = outside (c .before .before .before .before .before .before .before .args .peb-size) (c .before .before .before .before .before .before .before .args .unit) (c .before .before .before .before .before .before .before .args .sub-unit) 4 (lt-leb _ _ (c .if5 .taken))
+
+rem-if6 : tie.Need-rem-if6
+rem-if6 c = omega (arith, unit-small (c .before .before .before))
+
+returns-6 : tie.Need-returns-6
+unfolding geometryRules
+returns-6 c = outside (c .before .before .before .before .before .before .before .before .args .peb-size) (c .before .before .before .before .before .before .before .before .args .unit) (c .before .before .before .before .before .before .before .before .args .sub-unit) 5 (ne-eqb _ _ (c .if6 .taken))
+
+round-up-requires : tie.Need-round-up-requires
+round-up-requires c κs = omega (arith, sub-unit-small (c .before .before .before .before))
+
+add-round-up : tie.Need-add-round-up
+add-round-up c = omega (arith, sub-unit-small (c .before .before .before .before .before))
+
+round-up-requires-2 : tie.Need-round-up-requires-2
+round-up-requires-2 c κs = omega (arith, sub-unit-small (c .before .before .before .before .before), unit-small (c .before .before .before .before .before))
+
+add-if7 : tie.Need-add-if7
+add-if7 c = omega (arith, sub-unit-small (c .before .before .before .before .before .before), unit-small (c .before .before .before .before .before .before))
+
+returns-7 : tie.Need-returns-7
+returns-7 c = too-short (c .before .before .before .before .before .before .before .before .before .before .before .args .peb-size) (c .before .before .before .before .before .before .before .before .before .before .before .args .unit) (c .before .before .before .before .before .before .before .before .before .before .before .args .sub-unit) (c .before .before .round-up .result) (c .before .round-up2 .result) (c .before .before .round-up .ensures .0) (c .before .round-up2 .ensures .0) (c .if7 .taken)
+
+sub-t8 : tie.Need-sub-t8
+sub-t8 c = search needs
+
+returns-8 : tie.Need-returns-8
+returns-8 c =
+    let a = c .before .before .before .before .before .before .before .before .before .before .before .args in
+    inside (a .peb-size) (a .unit) (a .sub-unit) (c .before .before .round-up .result) (c .before .round-up2 .result) (unit-good (c .before .before .before .before .before .before .before)) (sub-unit-good (c .before .before .before .before .before .before .before)) (c .before .before .before .before .before .before .if3 .left) (c .before .before .before .before .before .if4 .left) (c .before .before .before .before .if5 .left) (c .before .before .before .if6 .left) (c .before .before .round-up .ensures .0) (c .before .round-up2 .ensures .0) (c .if7 .left)
+
+pub measure-spec : {M : Type 1} → statement M
+measure-spec =
+    tie.close
+    (tie.spec
+    is-unit-requires
+    returns
+    is-unit-requires-2
+    returns-2
+    returns-3
+    returns-4
+    returns-5
+    rem-if6
+    returns-6
+    round-up-requires
+    add-round-up
+    round-up-requires-2
+    add-if7
+    returns-7
+    sub-t8
+    returns-8)

@@ -1,0 +1,72 @@
+-- `geometry::slip::read_slip` meets its contract. Assumes nothing.
+use mathlib.Core.Path.{_≡_, refl, sym, ap, _∙_}
+use Prim.Native.Nat.{_≤_, _<_, _-_, _+_}
+use native.Mathlib.Omega.{arith}
+use borrow.Author.Needs.{needs}
+use mathlib.Core.Bool.{true}
+use lib.ListN.{length}
+use borrow.Author.Tests.{not-true, not-false}
+use Rattle.geometry.specs.Slip.{valueAt, wellFormed, slipGeometry}
+use Rattle.geometry.proofs.Laws.{slip-length}
+use borrow.Author.Needs.{needs}
+use Rattle.geometry.proofs.slip.read_slip.Statement.{statement}
+use Rattle.geometry.proofs.slip.read_slip.Tie as tie
+use Rattle.geometry.proofs.slip.read_slip.Reads as reads
+use Rattle.geometry.proofs.slip.read_slip.Lts as lts
+use Rattle.field.proofs.read.Reads as read-reads
+use Rattle.geometry.proofs.rules.measure.Reads as measure-reads
+use Rattle.geometry.proofs.slip.well_formed.Reads as well-formed-reads
+
+well-formed-requires : tie.Need-well-formed-requires
+well-formed-requires c κs = search needs
+
+-- past the test the slip is well formed
+formed : (c : tie.Else1) → wellFormed (c .before .before .before .args .slip .now) ≡ true
+formed c = sym (c .before .well-formed .ensures) ∙ not-false (c .before .well-formed .result) (c .if1 .left)
+
+twenty : (c : tie.Else1) → length (c .before .before .before .args .slip .now) ≡ 20
+twenty c = slip-length (c .before .before .before .args .slip .now) (formed c)
+
+returns : tie.Need-returns
+unfolding slipGeometry
+returns c = rw (← (c .before .well-formed .ensures), not-true (c .before .well-formed .result) (c .if1 .taken))
+
+read-requires : tie.Need-read-requires
+read-requires c κs = omega (arith, twenty c)
+
+cast-peb-size : tie.Need-cast-peb-size
+cast-peb-size c = search needs
+
+read-requires-2 : tie.Need-read-requires-2
+read-requires-2 c κs = omega (arith, twenty (c .before))
+
+cast-unit : tie.Need-cast-unit
+cast-unit c = search needs
+
+read-requires-3 : tie.Need-read-requires-3
+read-requires-3 c κs = omega (arith, twenty (c .before .before))
+
+cast-sub-unit : tie.Need-cast-sub-unit
+cast-sub-unit c = search needs
+
+measure-requires : tie.Need-measure-requires
+measure-requires c κs = search needs
+
+returns-2 : tie.Need-returns-2
+unfolding slipGeometry valueAt
+returns-2 c = c .measure .ensures ∙ rw (formed (c .before .before .before .before), c .before .before .before .read .ensures .0, c .before .before .read2 .ensures .0, c .before .read3 .ensures .0)
+
+pub read-slip-spec : {M : Type 1} → statement M
+read-slip-spec =
+    tie.close
+    (tie.spec
+    well-formed-requires
+    returns
+    read-requires
+    cast-peb-size
+    read-requires-2
+    cast-unit
+    read-requires-3
+    cast-sub-unit
+    measure-requires
+    returns-2)

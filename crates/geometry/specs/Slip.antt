@@ -1,0 +1,30 @@
+-- 01 'The slip and the geometry': the slip that precedes the image. Assumes nothing.
+use Prim.Native.Nat.{ℕ, _+_}
+use mathlib.Core.Bool.{Bool, cond}
+use mathlib.Core.List.{List, [], _∷_}
+use lib.Dec.{eqb}
+use lib.ListN.{length}
+use Rattle.base.specs.Answers.{Answer, refused, allOf}
+use Rattle.base.specs.Lists.{part, eqs}
+use Rattle.field.specs.Be.{beOf, toBe}
+use Rattle.geometry.specs.Geometry.{geometryOf}
+use Rattle.geometry.specs.declared.Geometry.{Geometry}
+
+-- "fields of one-byte tag, two-byte length, value": does the field at `at` have this tag and length?
+unfoldable pub opens : ℕ → ℕ → ℕ → List ℕ → Bool
+opens at tag len s = eqs (part at 3 s) (tag ∷ toBe 2 len)
+
+-- the value of the field at `at`
+unfoldable pub valueAt : ℕ → ℕ → List ℕ → ℕ
+valueAt at len s = beOf (part (at + 3) len s)
+
+-- "In this order, each once: tag 1, length 4, PEB size; tag 2, length 2, unit; tag 3, length 2, sub-unit; tag 0, length 0."
+unfoldable pub slipRules : List ℕ → List Bool
+slipRules s = opens 0 1 4 s ∷ opens 7 2 2 s ∷ opens 12 3 2 s ∷ opens 17 0 0 s ∷ eqb (length s) 20 ∷ []
+
+unfoldable pub wellFormed : List ℕ → Bool
+wellFormed s = allOf (slipRules s)
+
+-- refusal 1: "slip malformed"; then refusal 2
+unfoldable pub slipGeometry : List ℕ → Answer Geometry
+slipGeometry s = cond (wellFormed s) (geometryOf (valueAt 0 4 s) (valueAt 7 2 s) (valueAt 12 2 s)) (refused 1 0)

@@ -1,0 +1,23 @@
+// The slip before an image, and the geometry of the flash chip that it gives.
+mod rules;
+mod slip;
+
+pub use rules::measure;
+pub use slip::read_slip;
+
+// Where headers and data stand in a physical block (PEB), and how long a logical one (LEB) is.
+pub struct Geometry {
+    pub peb_size: u32,
+    pub unit: u32,
+    pub sub_unit: u32,
+    pub vid_start: u32,
+    pub data_start: u32,
+    pub leb_size: u32,
+}
+
+// A geometry, or refusal 1 (the slip is malformed) or 2 (the numbers are outside the rules).
+pub enum GeometryRead {
+    Good(Geometry),
+    Malformed,
+    Outside,
+}
