@@ -71,7 +71,6 @@ SLIP_FIELDS = ((1, 4), (2, 2), (3, 2), (0, 0))
 
 MIN_PEB_SIZE = 1024
 MAX_PEB_SIZE = 262144
-MAX_UNIT = 4096
 HEADER_SIZE = 64
 RECORD_SIZE = 172
 
@@ -96,7 +95,7 @@ def read_slip(slip):
 
 def is_unit(value):
     """A power of two, 1 to 4,096."""
-    return value in [2 ** exponent for exponent in range(13)]
+    return value in [2 ** exponent for exponent in range(12 + 1)]
 
 
 def smallest_multiple(step, least):
@@ -176,7 +175,9 @@ USER_VOLUMES = 128
 LAYOUT_VOLUME = 0x7FFFEFFF
 LAST_INTERNAL_VOLUME = 0x7FFFFFFF
 
-DELETE, READ_ONLY, PRESERVE, REJECT = INTERNAL_COMPATIBILITIES = 1, 2, 4, 5
+# 01, opening: the source document's constants, not its comment, decide.
+DELETE, READ_ONLY, PRESERVE, REJECT = 1, 2, 4, 5
+INTERNAL_COMPATIBILITIES = (DELETE, READ_ONLY, PRESERVE, REJECT)
 
 
 def header_bytes(magic, table, fields):
@@ -430,6 +431,9 @@ def read_table(copy, leb_size, unit, peb_count):
     A copy is None if its LEB is not mapped.
     """
     if copy is None:
+        return None
+    # Decided: a LEB that holds no record has no good table.
+    if record_count(leb_size) == 0:
         return None
     part = records_part(copy, leb_size)
     if len(part) < record_count(leb_size) * RECORD_SIZE:

@@ -1,0 +1,143 @@
+"""Writes the stored inputs and expected outputs of the test programs.
+
+    python3 oracle/generate.py           write them
+    python3 oracle/generate.py --check   compare them, and write nothing
+"""
+
+import os
+import sys
+
+# The modules beside this one are read only: leave no cache among them.
+sys.dont_write_bytecode = True
+HERE = os.path.dirname(os.path.abspath(__file__))
+sys.path.insert(0, HERE)
+
+import ubi  # noqa: E402
+from cases_crc import crc_cases  # noqa: E402
+from cases_header import header_cases  # noqa: E402
+from cases_slip import slip_cases  # noqa: E402
+from cases_table import table_cases  # noqa: E402
+
+ROOT = os.path.dirname(HERE)
+
+# For each test program: its cases, the bytes its input stays below, and how
+# many cases there are of each kind of answer. The numbers stand here so that
+# a generator that loses a case does not go unseen; who adds cases counts
+# them again.
+PROGRAMS = (
+    ("test_crc", crc_cases, 500000, {
+        "bytes": 814,
+        "empty": 38,
+    }),
+    ("test_slip", slip_cases, 500000, {
+        "good": 564,
+        "refused 1": 595,
+        "refused 2": 945,
+    }),
+    ("test_header", header_cases, 1000000, {
+        "op 1 good": 151,
+        "op 1 lost": 436,
+        "op 1 newer": 77,
+        "op 1 refused 4": 67,
+        "op 2 bad": 1438,
+        "op 2 good": 394,
+        "op 2 newer": 117,
+        "op 2 refused 4": 71,
+        "op 3 refused 19": 148,
+        "op 3 refused 4": 50,
+        "op 3 written": 97,
+        "op 4 refused 19": 1195,
+        "op 4 refused 4": 44,
+        "op 4 written": 366,
+    }),
+    ("test_table", table_cases, 1500000, {
+        "op 1 bad": 818,
+        "op 1 empty": 9,
+        "op 1 good": 298,
+        "op 1 refused 4": 35,
+        "op 2 taken 0 mark 0": 137,
+        "op 2 taken 0 mark 1": 228,
+        "op 2 taken 0 mark 2": 183,
+        "op 2 taken 1 mark 1": 197,
+        "op 2 taken 2 mark 1": 353,
+    }),
+)
+
+
+def self_check(name, cases, limit, expected):
+    """Nothing lost: sizes, one line a case, and every kind of answer."""
+    stdin, stdout = cases.stdin(), cases.stdout()
+    assert len(stdin) < limit, "%s: %d bytes" % (name, len(stdin))
+    assert stdout.count(b"\n") == len(cases.payloads) == len(unframe(stdin))
+    assert b" \n" not in stdout and b"  " not in stdout
+    kinds = cases.kinds()
+    for kind in sorted(set(kinds) | set(expected)):
+        found, wanted = kinds.get(kind, 0), expected.get(kind, 0)
+        assert found == wanted and found > 0, (
+            "%s: %d cases of kind '%s', not %d" % (name, found, kind, wanted))
+
+
+def unframe(stdin):
+    """The payloads again, read as a test program would."""
+    payloads = []
+    at = 0
+    while at < len(stdin):
+        length = ubi.number_at(stdin, at, 2)
+        payloads.append(stdin[at + 2:at + 2 + length])
+        at += 2 + length
+    assert at == len(stdin)
+    return payloads
+
+
+def generate():
+    """Path and content of each file, checked."""
+    ubi.self_test()
+    files = []
+    for name, make_cases, limit, expected in PROGRAMS:
+        cases = make_cases()
+        self_check(name, cases, limit, expected)
+        directory = os.path.join("crates", name)
+        files.append((os.path.join(directory, "stdin"), cases.stdin()))
+        files.append((os.path.join(directory, "stdout"), cases.stdout()))
+    return files
+
+
+def write(files):
+    for path, content in files:
+        full = os.path.join(ROOT, path)
+        os.makedirs(os.path.dirname(full), exist_ok=True)
+        with open(full, "wb") as out:
+            out.write(content)
+    print("oracle: %d files written" % len(files))
+
+
+def check(files):
+    """The number of stored files that differ from what would be written."""
+    differing = 0
+    for path, content in files:
+        try:
+            with open(os.path.join(ROOT, path), "rb") as stored_file:
+                stored = stored_file.read()
+        except FileNotFoundError:
+            stored = None
+        if stored != content:
+            differing += 1
+            print("oracle: %s %s" % (
+                path, "is missing" if stored is None else "differs"))
+    if differing == 0:
+        print("oracle: %d files as generated" % len(files))
+    return differing
+
+
+def main(arguments):
+    if arguments == ["--check"]:
+        return 1 if check(generate()) else 0
+    if arguments:
+        print(__doc__.strip(), file=sys.stderr)
+        return 2
+    write(generate())
+    return 0
+
+
+if __name__ == "__main__":
+    sys.exit(main(sys.argv[1:]))
