@@ -1,0 +1,14 @@
+-- What the contracts of the private functions cite: the look-up table and words of bytes. No public promise names them. Assumes nothing.
+use Prim.Native.Nat.{ℕ, _+_, _*_}
+use mathlib.Core.List.{List, [], _∷_}
+use Rattle.base.specs.Lists.{table, rows}
+use Rattle.crc32.specs.Crc.{crcBits}
+
+-- the number of a list of bytes, the lowest first
+unfoldable pub leOf : List ℕ → ℕ
+leOf [] = 0
+leOf (b ∷ bs) = leOf bs * 256 + b
+
+-- eight rows of 256 entries: entry k of row j is k after 8 (j + 1) shifts
+unfoldable pub crcTable : List ℕ
+crcTable = rows (crcBits 8) 8 (table (crcBits 8) 0 256)
