@@ -1,0 +1,62 @@
+// Frames from standard input, and words to standard output: what the test programs share.
+ghost use mathlib.Core.Path.{_≡_};
+ghost use Prim.Native.Nat.{_<_};
+ghost use Rattle.frames.specs.Frame.{within};
+
+pub enum Frame {
+    // A payload of so many bytes, at the start of the buffer.
+    Payload(usize),
+    // No further whole frame that fits the buffer.
+    End,
+}
+
+// Reads a length of two bytes, the highest first, and as many bytes of payload.
+pub fn next(buf: &mut [u8]) -> Frame
+    ensures { λ r. ⌜ within r (now (buf .exit)) ⌝ }
+{
+    let mut head = [0u8; 2];
+    if io::read_full(0, &mut head) < 2 {
+        return Frame::End;
+    }
+    let n = wide(head[0]) * 256 + wide(head[1]);
+    if buf.len() < n {
+        return Frame::End;
+    }
+    if io::read_full(0, &mut buf[0..n]) < n {
+        return Frame::End;
+    }
+    Frame::Payload(n)
+}
+
+// A byte as a number.
+pub fn wide(b: u8) -> usize
+    ensures { λ r. ⌜ (r ≡ b) × (r < 256) ⌝ }
+{
+    b as usize
+}
+
+// A number in decimal.
+pub fn number(n: u64) {
+    io::print_decimal(1, n);
+}
+
+pub fn word(text: &[u8]) {
+    io::write_all(1, text);
+}
+
+pub fn blank() {
+    io::write_all(1, b" ");
+}
+
+pub fn line_end() {
+    io::write_all(1, b"\n");
+}
+
+// Two digits for each byte.
+pub fn hex(bytes: &[u8]) {
+    let mut i: usize = 0;
+    while i < bytes.len() {
+        io::print_hex(1, wide(bytes[i]) as u64, 2);
+        i += 1;
+    }
+}
