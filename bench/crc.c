@@ -1,0 +1,83 @@
+/* Throughput of the proved CRC-32 and of zlib's, over the same 128 MiB. */
+#include <stdint.h>
+#include <stdio.h>
+#include <stdlib.h>
+#include <time.h>
+#include <zlib.h>
+
+/* crates/bench_crc: a slice is a pointer and a length */
+uint32_t bench_crc_update(uint32_t state, const uint8_t *bytes, size_t len);
+
+enum { SIZE = 128 << 20, ROUNDS = 15, STARTS = 16, LENGTHS = 300 };
+
+static uint32_t proved(const uint8_t *bytes, size_t len)
+{
+    return bench_crc_update(0xFFFFFFFF, bytes, len);
+}
+
+/* zlib complements the result: undone, so that both answers are the same number */
+static uint32_t zlib(const uint8_t *bytes, size_t len)
+{
+    return ~(uint32_t)crc32_z(0, bytes, len);
+}
+
+static double seconds(void)
+{
+    struct timespec t;
+    clock_gettime(CLOCK_MONOTONIC, &t);
+    return t.tv_sec + t.tv_nsec * 1e-9;
+}
+
+/* the least time so far: the runs that were disturbed do not count */
+static void timed(uint32_t (*crc)(const uint8_t *, size_t), const uint8_t *bytes, double *least, uint32_t *answer)
+{
+    double start = seconds();
+    *answer = crc(bytes, SIZE);
+    double took = seconds() - start;
+    if (took < *least)
+        *least = took;
+}
+
+static void fill(uint8_t *bytes)
+{
+    uint64_t x = 88172645463325252u;
+    for (size_t i = 0; i < SIZE; i++) {
+        x ^= x << 13;
+        x ^= x >> 7;
+        x ^= x << 17;
+        bytes[i] = (uint8_t)x;
+    }
+}
+
+/* every short length from every start */
+static int agree(const uint8_t *bytes)
+{
+    for (size_t at = 0; at < STARTS; at++)
+        for (size_t len = 0; len < LENGTHS; len++)
+            if (proved(bytes + at, len) != zlib(bytes + at, len)) {
+                printf("differ: start %zu, length %zu\n", at, len);
+                return 0;
+            }
+    return 1;
+}
+
+int main(void)
+{
+    double ours = 1e9, theirs = 1e9;
+    uint32_t a, b;
+    uint8_t *bytes = malloc(SIZE);
+    if (!bytes)
+        return 1;
+    fill(bytes);
+    if (!agree(bytes))
+        return 1;
+    for (int i = 0; i < ROUNDS; i++) {
+        timed(proved, bytes, &ours, &a);
+        timed(zlib, bytes, &theirs, &b);
+    }
+    printf("proved       %5.2f GB/s  %08x\n", SIZE / ours / 1e9, a);
+    printf("zlib %-7s %5.2f GB/s  %08x\n", zlibVersion(), SIZE / theirs / 1e9, b);
+    printf("ratio        %5.2f\n", theirs / ours);
+    free(bytes);
+    return a != b;
+}
