@@ -146,14 +146,14 @@ row-at f (suc n) l (suc j) k h g =
     let g′ : k < length (map f l) = rw length-map g in
     rw (e, getD-append-add l (rows f n (map f l)), row-at f n (map f l) j k (le-of-suc-le-suc h) g′, map-at f l k)
 
--- ---- a fact of every entry of a list
+-- ---- a rule of a table: one test that computes over all entries holds at each
 
 module _ {A : Type 0} where
-  abbrev pub All : (A → Type 0) → List A → Type 0
-  All P [] = Unit {0}
-  All P (x ∷ xs) = P x × All P xs
+  abbrev pub every : (A → Bool) → List A → Bool
+  every p [] = true
+  every p (x ∷ xs) = p x && every p xs
 
-  pub all-entries : (P : A → Type 0) (d : A) → P d → (xs : List A) → All P xs → (k : ℕ) → P (getD xs k d)
-  all-entries P d z [] t k = z
-  all-entries P d z (x ∷ xs) t zero = t .0
-  all-entries P d z (x ∷ xs) t (suc k) = all-entries P d z xs (t .1) k
+  pub every-entry : (p : A → Bool) (d : A) → p d ≡ true → (xs : List A) → every p xs ≡ true → (k : ℕ) → p (getD xs k d) ≡ true
+  every-entry p d z [] t k = z
+  every-entry p d z (x ∷ xs) t zero = and-left (p x) (every p xs) t
+  every-entry p d z (x ∷ xs) t (suc k) = every-entry p d z xs (and-right (p x) (every p xs) t) k

@@ -1,0 +1,64 @@
+-- Laws of the field table and of judging a header. Assumes nothing.
+use mathlib.Core.Path.{_≡_, refl, sym, ap, _∙_}
+use mathlib.Core.Bool.{Bool, true, false, _&&_, cond}
+use mathlib.Core.List.{List, [], _∷_, _++_}
+use Prim.Native.Nat.{ℕ, zero, suc, _+_, _≤_, _<_}
+use native.Mathlib.Omega.{arith}
+use lib.Dec.{eqb, ltb, leb}
+use lib.ListN.{length, take, drop, getD}
+use borrow.Author.Tests.{eq-eqb, ne-eqb, lt-ltb, le-ltb, le-leb, lt-leb, leb-true}
+use Rattle.base.specs.Answers.{Answer, given, refused}
+use Rattle.base.proofs.Answers.{and-left, and-right}
+use Rattle.base.proofs.Lists.{every-entry}
+use Rattle.header.specs.declared.Field.{Field}
+use Rattle.header.specs.Fields.{fields, fieldOf, Verdict, good, bad, newer, byVersion, isGood}
+
+-- ---- the table
+
+fit : Field → Bool
+fit f = leb (f .at + f .width) 64 && leb (f .width) 8
+
+-- each field lies within the 64 bytes, and is 8 bytes wide at most
+pub fits : (i : ℕ) → (fieldOf i .at + fieldOf i .width ≤ 64) × (fieldOf i .width ≤ 8)
+unfolding fieldOf fit
+fits i =
+    let f = fieldOf i in
+    let t : fit f ≡ true = every-entry fit (record { at = 0; width = 0 }) refl fields refl i in
+    (leb-true _ _ (and-left (leb (f .at + f .width) 64) (leb (f .width) 8) t), leb-true _ _ (and-right (leb (f .at + f .width) 64) (leb (f .width) 8) t))
+
+-- each field starts where the one before it has ended, and the last ends within the 64 bytes
+abbrev apart : ℕ → List Field → Bool
+apart end [] = leb end 64
+apart end (f ∷ fs) = leb end (f .at) && apart (f .at + f .width) fs
+
+-- no field of a header overlaps another or the magic
+pub ec-apart : apart 4 (take 5 fields ++ drop 16 fields) ≡ true
+ec-apart = refl
+
+pub vid-apart : apart 4 (drop 5 fields) ≡ true
+vid-apart = refl
+
+-- ---- versions
+
+module _ {A : Type 0} (rest : Verdict A) where
+  pub version-zero : (v : ℕ) → v ≡ 0 → byVersion v rest ≡ bad
+  version-zero v e = rw e
+
+  pub version-newer : (v : ℕ) → (v ≡ 0 → ⊥) → (v ≡ 1 → ⊥) → byVersion v rest ≡ newer
+  version-newer v n m = rw (ne-eqb _ _ m, ne-eqb _ _ n)
+
+  pub version-one : (v : ℕ) → v ≡ 1 → byVersion v rest ≡ rest
+  version-one v e = rw e
+
+  pub not-version-one : (v : ℕ) → (v ≡ 1 → ⊥) → isGood (byVersion v rest) ≡ false
+  not-version-one v n = go (eqb v 0)
+    where
+      go : (b : Bool) → isGood (cond (eqb v 1) rest (cond b bad newer)) ≡ false
+      go true = rw (ne-eqb _ _ n)
+      go false = rw (ne-eqb _ _ n)
+
+module _ {A : Type 0} (h : A) where
+  -- good exactly if the test holds
+  pub good-if : (b : Bool) → isGood (cond b (good h) bad) ≡ b
+  good-if true = refl
+  good-if false = refl

@@ -1,0 +1,46 @@
+-- What the stores of a header come to: its bytes as the definitions lay them out, by computation. Assumes nothing.
+use mathlib.Core.Path.{_≡_, refl, sym, ap, _∙_}
+use mathlib.Core.Bool.{Bool, true, false}
+use mathlib.Core.List.{List, _++_}
+use Prim.Native.Nat.{ℕ, _≤_}
+use lib.ListN.{length, take, drop, replicate}
+use borrow.Author.Tests.{le-ltb}
+use Rattle.base.specs.Lists.{put}
+use Rattle.field.specs.Be.{toBeOn, toBe}
+use Rattle.crc32.specs.Crc.{crcOf}
+use Rattle.header.specs.Fields.{fieldOf, isGood}
+use Rattle.header.specs.Stores.{stored, blankHeader, withSum, ecStored, kindStored, placeStored, dataStored}
+use Rattle.header.specs.Ec.{ecMagic, ecHead, ecBytes, judgeEc, ecOut}
+use Rattle.header.specs.Vid.{vidMagic, vidHead, vidBytes, judgeVid, vidOut}
+use Rattle.header.specs.declared.EcHeader.{EcHeader}
+use Rattle.header.specs.declared.VidHeader.{VidHeader}
+
+module _ (t : List ℕ) where
+  ec-head : (h : EcHeader) → ecStored h (put 0 ecMagic (replicate 64 0 ++ t)) ≡ ecHead h ++ (replicate 4 0 ++ t)
+  unfolding ecStored stored fieldOf ecHead toBeOn
+  ec-head h = refl
+
+  ec-sum : (h : EcHeader) → withSum (ecHead h ++ (replicate 4 0 ++ t)) ≡ ecBytes h ++ t
+  unfolding withSum stored fieldOf ecHead ecBytes toBeOn
+  ec-sum h = refl
+
+  vid-head : (h : VidHeader) → dataStored h (placeStored h (kindStored h (put 0 vidMagic (replicate 64 0 ++ t)))) ≡ vidHead h ++ (replicate 4 0 ++ t)
+  unfolding dataStored placeStored kindStored stored fieldOf vidHead toBeOn
+  vid-head h = refl
+
+  vid-sum : (h : VidHeader) → withSum (vidHead h ++ (replicate 4 0 ++ t)) ≡ vidBytes h ++ t
+  unfolding withSum stored fieldOf vidHead vidBytes toBeOn
+  vid-sum h = refl
+
+-- the steps of a write, one after the other
+module _ (out : List ℕ) {a b d : List ℕ} (long : 64 ≤ length out) where
+  pub ec-wrote : (h : EcHeader) → isGood (judgeEc h) ≡ true → a ≡ blankHeader ecMagic out → b ≡ ecStored h a → d ≡ withSum b → d ≡ ecOut h out
+  unfolding ecOut blankHeader
+  ec-wrote h g p q r = rw (le-ltb _ _ long, g) (r ∙ ap withSum (q ∙ ap (ecStored h) p ∙ ec-head (drop 64 out) h) ∙ ec-sum (drop 64 out) h)
+
+  pub vid-wrote : {e f : List ℕ} (size : ℕ) (h : VidHeader) → isGood (judgeVid size h) ≡ true → a ≡ blankHeader vidMagic out → b ≡ kindStored h a → d ≡ placeStored h b
+      → e ≡ dataStored h d → f ≡ withSum e → f ≡ vidOut size h out
+  unfolding vidOut blankHeader
+  vid-wrote size h g p q r s u =
+      rw (le-ltb _ _ long, g)
+      (u ∙ ap withSum (s ∙ ap (dataStored h) (r ∙ ap (placeStored h) (q ∙ ap (kindStored h) p)) ∙ vid-head (drop 64 out) h) ∙ vid-sum (drop 64 out) h)

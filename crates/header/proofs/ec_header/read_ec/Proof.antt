@@ -1,0 +1,51 @@
+-- `header::ec_header::read_ec` meets its contract. Assumes nothing.
+use mathlib.Core.Path.{_≡_, refl, sym, ap, _∙_}
+use Prim.Native.Nat.{_≤_, _<_, _-_, _+_}
+use native.Mathlib.Omega.{arith}
+use borrow.Author.Needs.{needs}
+use borrow.Author.Tests.{lt-ltb, le-ltb, not-true, not-false}
+use Rattle.header.specs.Ec.{readEc, ecRead}
+use borrow.Author.Needs.{needs}
+use Rattle.header.proofs.ec_header.read_ec.Statement.{statement}
+use Rattle.header.proofs.ec_header.read_ec.Tie as tie
+use Rattle.header.proofs.ec_header.read_ec.Reads as reads
+use Rattle.header.proofs.ec_header.read_ec.Lts as lts
+use Rattle.header.proofs.ec_header.ec_fields.Reads as ec-fields-reads
+use Rattle.header.proofs.ec_header.judge_ec.Reads as judge-ec-reads
+use Rattle.header.proofs.fields.is_header.Reads as is-header-reads
+
+returns : tie.Need-returns
+unfolding ecRead
+returns c = rw (lt-ltb _ _ (c .if1 .taken))
+
+slice-aggregate-is-header : tie.Need-slice-aggregate-is-header
+slice-aggregate-is-header c = search needs
+
+is-header-requires : tie.Need-is-header-requires
+is-header-requires c κs = search needs
+
+returns-2 : tie.Need-returns-2
+unfolding ecRead readEc
+returns-2 c = rw (le-ltb _ _ (c .before .before .before .if1 .left), ← (c .before .is-header .ensures), not-true (c .before .is-header .result) (c .if2 .taken))
+
+ec-fields-requires : tie.Need-ec-fields-requires
+ec-fields-requires c κs = search needs
+
+judge-ec-requires : tie.Need-judge-ec-requires
+judge-ec-requires c κs = search needs
+
+returns-3 : tie.Need-returns-3
+unfolding ecRead readEc
+returns-3 c = c .judge-ec .ensures ∙ rw (le-ltb _ _ (c .before .before .before .before .before .if1 .left), ← (c .before .before .before .is-header .ensures), not-false (c .before .before .before .is-header .result) (c .before .before .if2 .left), c .before .ec-fields .ensures)
+
+pub read-ec-spec : {M : Type 1} → statement M
+read-ec-spec =
+    tie.close
+    (tie.spec
+    returns
+    slice-aggregate-is-header
+    is-header-requires
+    returns-2
+    ec-fields-requires
+    judge-ec-requires
+    returns-3)

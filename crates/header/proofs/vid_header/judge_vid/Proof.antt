@@ -1,0 +1,37 @@
+-- `header::vid_header::judge_vid` meets its contract. Assumes nothing.
+use mathlib.Core.Path.{_≡_, refl, sym, ap, _∙_}
+use Prim.Native.Nat.{_≤_, _<_, _-_, _+_}
+use native.Mathlib.Omega.{arith}
+use borrow.Author.Needs.{needs}
+use borrow.Author.Tests.{lt-ltb, le-ltb, le-leb, lt-leb, eq-eqb, ne-eqb, not-true, not-false}
+use Rattle.base.specs.Answers.{given}
+use Rattle.header.specs.Vid.{judgeVid}
+use Rattle.header.proofs.Laws.{version-zero, version-newer, version-one}
+use borrow.Author.Needs.{needs}
+use Rattle.header.proofs.vid_header.judge_vid.Statement.{statement}
+use Rattle.header.proofs.vid_header.judge_vid.Tie as tie
+use Rattle.header.proofs.vid_header.judge_vid.Reads as reads
+use Rattle.header.proofs.vid_header.judge_vid.Lts as lts
+use Rattle.header.proofs.vid_rules.rules_hold.Reads as rules-hold-reads
+
+returns : tie.Need-returns
+unfolding judgeVid
+returns c = rw (version-zero _ (c .before .before .args .h .version) (c .if1 .taken))
+
+returns-2 : tie.Need-returns-2
+unfolding judgeVid
+returns-2 c = rw (version-newer _ (c .before .before .before .before .args .h .version) (c .before .before .if1 .left) (c .if2 .taken))
+
+rules-hold-requires : tie.Need-rules-hold-requires
+rules-hold-requires c κs = search needs
+
+returns-3 : tie.Need-returns-3
+unfolding judgeVid
+returns-3 c = rw (version-one _ (c .before .before .before .before .before .before .args .h .version) (c .before .before .if2 .left), ← (c .before .rules-hold .ensures), not-true (c .before .rules-hold .result) (c .if3 .taken))
+
+returns-4 : tie.Need-returns-4
+unfolding judgeVid
+returns-4 c = rw (version-one _ (c .before .before .before .before .before .before .args .h .version) (c .before .before .if2 .left), ← (c .before .rules-hold .ensures), not-false (c .before .rules-hold .result) (c .if3 .left))
+
+pub judge-vid-spec : {M : Type 1} → statement M
+judge-vid-spec = tie.close (tie.spec returns returns-2 rules-hold-requires returns-3 returns-4)

@@ -1,0 +1,39 @@
+-- `header::vid_rules::dynamic_rule` meets its contract. Assumes nothing.
+use mathlib.Core.Path.{_≡_, refl, sym, ap, _∙_}
+use Prim.Native.Nat.{_≤_, _<_, _-_, _+_}
+use native.Mathlib.Omega.{arith}
+use borrow.Author.Needs.{needs}
+use borrow.Author.Tests.{lt-ltb, le-ltb, le-leb, lt-leb, eq-eqb, ne-eqb, not-true, not-false}
+use mathlib.Core.Bool.{and-true}
+use Rattle.header.specs.Vid.{dynamicRule}
+use Rattle.header.proofs.vid_rules.dynamic_rule.Statement.{statement}
+use Rattle.header.proofs.vid_rules.dynamic_rule.Tie as tie
+use Rattle.header.proofs.vid_rules.dynamic_rule.Reads as reads
+use Rattle.header.proofs.vid_rules.dynamic_rule.Lts as lts
+
+returns : tie.Need-returns
+unfolding dynamicRule
+returns c = rw (ne-eqb _ _ (c .if1 .taken))
+
+returns-2 : tie.Need-returns-2
+unfolding dynamicRule
+returns-2 c = rw (eq-eqb _ _ (c .before .before .if1 .left), ne-eqb _ _ (c .if2 .taken))
+
+returns-3 : tie.Need-returns-3
+unfolding dynamicRule
+returns-3 c = rw (eq-eqb _ _ (c .before .before .before .before .before .before .if1 .left), eq-eqb _ _ (c .before .before .before .before .if2 .left), c .before .before .if3 .taken, ne-eqb _ _ (c .if4 .taken))
+
+returns-4 : tie.Need-returns-4
+unfolding dynamicRule
+returns-4 c = rw (eq-eqb _ _ (c .before .before .before .before .before .before .before .if1 .left), eq-eqb _ _ (c .before .before .before .before .before .if2 .left), c .before .before .before .if3 .taken, eq-eqb _ _ (c .before .if4 .left)) (sym (and-true _))
+
+returns-5 : tie.Need-returns-5
+unfolding dynamicRule
+returns-5 c = rw (eq-eqb _ _ (c .before .before .before .before .before .before .before .if1 .left), eq-eqb _ _ (c .before .before .before .before .before .if2 .left), c .before .if5 .taken)
+
+returns-6 : tie.Need-returns-6
+unfolding dynamicRule
+returns-6 c = rw (eq-eqb _ _ (c .before .before .before .before .before .before .if1 .left), eq-eqb _ _ (c .before .before .before .before .if2 .left), ne-eqb _ _ (c .before .before .if3 .left), ne-eqb _ _ (c .if5 .left))
+
+pub dynamic-rule-spec : {M : Type 1} → statement M
+dynamic-rule-spec = tie.close (tie.spec returns returns-2 returns-3 returns-4 returns-5 returns-6)

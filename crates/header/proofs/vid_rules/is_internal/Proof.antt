@@ -1,0 +1,25 @@
+-- `header::vid_rules::is_internal` meets its contract. Assumes nothing.
+use mathlib.Core.Path.{_≡_, refl, sym, ap, _∙_}
+use Prim.Native.Nat.{_≤_, _<_, _-_, _+_}
+use native.Mathlib.Omega.{arith}
+use borrow.Author.Needs.{needs}
+use borrow.Author.Tests.{eq-eqb, ne-eqb}
+use Rattle.header.proofs.vid_rules.is_internal.Statement.{statement}
+use Rattle.header.proofs.vid_rules.is_internal.Tie as tie
+use Rattle.header.proofs.vid_rules.is_internal.Reads as reads
+use Rattle.header.proofs.vid_rules.is_internal.Lts as lts
+
+returns : tie.Need-returns
+returns c = rw (c .if1 .taken)
+
+returns-2 : tie.Need-returns-2
+returns-2 c = rw (c .if2 .taken)
+
+returns-3 : tie.Need-returns-3
+returns-3 c = rw (c .if3 .taken)
+
+returns-4 : tie.Need-returns-4
+returns-4 c = rw (ne-eqb _ _ (c .before .before .if1 .left), ne-eqb _ _ (c .before .if2 .left), ne-eqb _ _ (c .if3 .left))
+
+pub is-internal-spec : {M : Type 1} → statement M
+is-internal-spec = tie.close (tie.spec returns returns-2 returns-3 returns-4)

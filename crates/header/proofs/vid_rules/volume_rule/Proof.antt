@@ -1,0 +1,40 @@
+-- `header::vid_rules::volume_rule` meets its contract. Assumes nothing.
+use mathlib.Core.Path.{_≡_, refl, sym, ap, _∙_}
+use Prim.Native.Nat.{_≤_, _<_, _-_, _+_}
+use native.Mathlib.Omega.{arith}
+use borrow.Author.Needs.{needs}
+use borrow.Author.Tests.{lt-ltb, le-ltb, le-leb, lt-leb, eq-eqb, ne-eqb, not-true, not-false}
+use mathlib.Core.Bool.{or-false}
+use lib.Dec.{eqb}
+use Rattle.header.specs.Vid.{volumeRule}
+use borrow.Author.Needs.{needs}
+use Rattle.header.proofs.vid_rules.volume_rule.Statement.{statement}
+use Rattle.header.proofs.vid_rules.volume_rule.Tie as tie
+use Rattle.header.proofs.vid_rules.volume_rule.Reads as reads
+use Rattle.header.proofs.vid_rules.volume_rule.Lts as lts
+use Rattle.header.proofs.vid_rules.is_internal.Reads as is-internal-reads
+
+returns : tie.Need-returns
+unfolding volumeRule
+returns c =
+    let h = c .before .before .before .args .h in
+    let l : h .volume < 0x7FFFEFFF = omega arith in
+    rw (lt-ltb _ _ (c .before .if1 .taken), lt-leb _ _ l) (sym (or-false (eqb (h .compat) 0)))
+
+returns-2 : tie.Need-returns-2
+unfolding volumeRule
+returns-2 c = rw (le-ltb _ _ (c .before .before .if1 .left), lt-leb _ _ (c .if2 .taken))
+
+returns-3 : tie.Need-returns-3
+unfolding volumeRule
+returns-3 c = rw (le-ltb _ _ (c .before .before .before .before .if1 .left), le-leb _ _ (c .before .before .if2 .left), lt-leb _ _ (c .if3 .taken))
+
+is-internal-requires : tie.Need-is-internal-requires
+is-internal-requires c κs = search needs
+
+returns-4 : tie.Need-returns-4
+unfolding volumeRule
+returns-4 c = c .is-internal .ensures ∙ rw (le-ltb _ _ (c .before .before .before .before .before .if1 .left), le-leb _ _ (c .before .before .before .if2 .left), le-leb _ _ (c .before .if3 .left))
+
+pub volume-rule-spec : {M : Type 1} → statement M
+volume-rule-spec = tie.close (tie.spec returns returns-2 returns-3 is-internal-requires returns-4)

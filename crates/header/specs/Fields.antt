@@ -1,0 +1,62 @@
+-- 01 'Header bytes': where the fields of both headers stand, and what judging a header can say. Assumes nothing.
+use Prim.Native.Nat.{ℕ, _+_}
+use mathlib.Core.Bool.{Bool, true, false, cond}
+use mathlib.Core.List.{List, [], _∷_}
+use lib.Dec.{eqb}
+use lib.ListN.{take, getD}
+use Rattle.base.specs.Answers.{Answer, given, refused}
+use Rattle.base.specs.Lists.{part}
+use Rattle.field.specs.Be.{beOf}
+use Rattle.crc32.specs.Crc.{crcOf}
+use Rattle.header.specs.declared.Field.{Field}
+use Rattle.header.specs.declared.Written.{Written}
+use Rattle.header.specs.declared.Written.the-variants.{Done, Short, Unreadable}
+
+-- "One constant table of field offsets and widths serves reader and writer."
+abbrev pub fields : List Field
+fields =
+    -- EC header: "version 4, .. counter 8-15, VID start 16-19, data start 20-23, image sequence 24-27"
+    record { at = 4; width = 1 } ∷ record { at = 8; width = 8 } ∷ record { at = 16; width = 4 } ∷ record { at = 20; width = 4 }
+    ∷ record { at = 24; width = 4 }
+    -- VID header: "version 4, type 5, copy flag 6, compatibility 7, volume 8-11, LEB 12-15, .. data size 20-23,
+    -- used LEBs 24-27, data pad 28-31, data CRC 32-35, .. sequence 40-47"
+    ∷ record { at = 4; width = 1 } ∷ record { at = 5; width = 1 } ∷ record { at = 6; width = 1 } ∷ record { at = 7; width = 1 }
+    ∷ record { at = 8; width = 4 } ∷ record { at = 12; width = 4 } ∷ record { at = 20; width = 4 } ∷ record { at = 24; width = 4 }
+    ∷ record { at = 28; width = 4 } ∷ record { at = 32; width = 4 } ∷ record { at = 40; width = 8 }
+    -- both: "CRC of bytes 0-59 at 60-63"
+    ∷ record { at = 60; width = 4 } ∷ []
+
+-- field i of the table
+unfoldable pub fieldOf : ℕ → Field
+fieldOf i = getD fields i (record { at = 0; width = 0 })
+
+-- the number in field i of a header
+unfoldable pub fieldAt : ℕ → List ℕ → ℕ
+fieldAt i s = beOf (part (fieldOf i .at) (fieldOf i .width) s)
+
+-- "CRC of bytes 0-59 at 60-63": does it match?
+unfoldable pub summed : List ℕ → Bool
+summed s = eqb (crcOf (take 60 s)) (fieldAt 16 s)
+
+-- what the fields of a header with magic and CRC right make it: bad is 01's "lost" of an EC header and "bad" of a VID header;
+-- newer has "a version above 1"
+pub data Verdict (A : Type 0) : Type 0 where
+  good : A → Verdict A
+  bad : Verdict A
+  newer : Verdict A
+
+module _ {A : Type 0} where
+  -- "With magic and CRC right, a version above 1 refuses the image before any other field is judged"; version 0 is bad
+  abbrev pub byVersion : ℕ → Verdict A → Verdict A
+  byVersion version rest = cond (eqb version 1) rest (cond (eqb version 0) bad newer)
+
+  abbrev pub isGood : Verdict A → Bool
+  isGood (good h) = true
+  isGood bad = false
+  isGood newer = false
+
+-- what each case of a writer's answer is in 01: written, refusal 4 or refusal 19
+abbrev pub written : Written → Answer (Unit {0})
+written Done = given tt
+written Short = refused 4 0
+written Unreadable = refused 19 0

@@ -1,0 +1,4 @@
+pub mod Fields
+pub mod Ec
+pub mod Vid
+pub mod Stores

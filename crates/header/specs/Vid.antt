@@ -1,0 +1,120 @@
+-- 01 'Header bytes': the volume identifier (VID) header. Assumes nothing.
+use Prim.Native.Nat.{ℕ, _+_, _-_, _*_}
+use mathlib.Core.Bool.{Bool, not, _&&_, _||_, cond}
+use mathlib.Core.List.{List, [], _∷_, _++_}
+use lib.Dec.{eqb, ltb, leb}
+use lib.ListN.{length, drop, replicate}
+use Rattle.base.specs.Answers.{Answer, given, refused, allOf}
+use Rattle.base.specs.Lists.{part, eqs}
+use Rattle.field.specs.Be.{toBe}
+use Rattle.crc32.specs.Crc.{crcOf}
+use Rattle.header.specs.Fields.{fieldAt, summed, Verdict, good, bad, newer, byVersion, isGood}
+use Rattle.header.specs.declared.VidHeader.{VidHeader}
+use Rattle.header.specs.declared.VidRead.{VidRead}
+use Rattle.header.specs.declared.VidRead.the-variants.{Good, Bad, Newer, Short}
+
+-- "magic `UBI!` 0-3"
+abbrev pub vidMagic : List ℕ
+vidMagic = 0x55 ∷ 0x42 ∷ 0x49 ∷ 0x21 ∷ []
+
+-- "version 4, type 5, copy flag 6, compatibility 7, volume 8-11, LEB 12-15, .. data size 20-23, used LEBs 24-27, data pad 28-31,
+-- data CRC 32-35, .. sequence 40-47"
+unfoldable pub vidFields : List ℕ → VidHeader
+vidFields s = record {
+  version = fieldAt 5 s;
+  «vol_type» = fieldAt 6 s;
+  «copy_flag» = fieldAt 7 s;
+  compat = fieldAt 8 s;
+  volume = fieldAt 9 s;
+  leb = fieldAt 10 s;
+  «data_size» = fieldAt 11 s;
+  «used_lebs» = fieldAt 12 s;
+  «data_pad» = fieldAt 13 s;
+  «data_crc» = fieldAt 14 s;
+  sequence = fieldAt 15 s;
+}
+
+-- if the first, then the second
+abbrev pub implies : Bool → Bool → Bool
+implies a b = not a || b
+
+-- "volume 0x7FFFEFFF (layout)"
+abbrev pub layoutVolume : ℕ
+layoutVolume = 0x7FFFEFFF
+
+-- "volume below 128 with compatibility 0, or 0x7FFFEFFF to 0x7FFFFFFF with 1, 2, 4 or 5"
+unfoldable pub volumeRule : VidHeader → Bool
+volumeRule h =
+    (ltb (h .volume) 128 && eqb (h .compat) 0)
+    || (leb layoutVolume (h .volume)
+    && (leb (h .volume) 0x7FFFFFFF && (eqb (h .compat) 1 || (eqb (h .compat) 2 || (eqb (h .compat) 4 || eqb (h .compat) 5)))))
+
+-- "static: LEB below used LEBs, data size above 0, and equal to LEB size less pad unless LEB is the last used"
+unfoldable pub staticRule : ℕ → VidHeader → Bool
+staticRule size h =
+    implies (eqb (h .«vol_type») 2)
+    (ltb (h .leb) (h .«used_lebs»)
+    && (ltb 0 (h .«data_size») && (eqb (h .leb + 1) (h .«used_lebs») || eqb (h .«data_size») (size - h .«data_pad»))))
+
+-- "dynamic: used LEBs 0; with copy flag 0, data size and CRC 0; with copy flag 1, data size above 0"
+unfoldable pub dynamicRule : VidHeader → Bool
+dynamicRule h =
+    implies (eqb (h .«vol_type») 1)
+    (eqb (h .«used_lebs») 0
+    && (implies (eqb (h .«copy_flag») 0) (eqb (h .«data_size») 0 && eqb (h .«data_crc») 0)
+    && implies (eqb (h .«copy_flag») 1) (ltb 0 (h .«data_size»))))
+
+-- "volume 0x7FFFEFFF (layout): type 1, compatibility 5, pad 0, LEB 0 or 1"
+unfoldable pub layoutRule : VidHeader → Bool
+layoutRule h =
+    implies (eqb (h .volume) layoutVolume)
+    (eqb (h .«vol_type») 1 && (eqb (h .compat) 5 && (eqb (h .«data_pad») 0 && leb (h .leb) 1)))
+
+-- "A VID header is also bad unless all hold", in 01's order; `size` is the LEB size
+unfoldable pub vidRules : ℕ → VidHeader → List Bool
+vidRules size h =
+    -- "copy flag 0 or 1; type 1 (dynamic) or 2 (static)"
+    leb (h .«copy_flag») 1 ∷ (eqb (h .«vol_type») 1 || eqb (h .«vol_type») 2)
+    -- volume with compatibility; "LEB and used LEBs at most 0x7FFFFFFF"
+    ∷ volumeRule h ∷ leb (h .leb) 0x7FFFFFFF ∷ leb (h .«used_lebs») 0x7FFFFFFF
+    -- "twice data pad below LEB size; data size at most LEB size less pad"
+    ∷ ltb (2 * h .«data_pad») size ∷ leb (h .«data_size») (size - h .«data_pad»)
+    ∷ staticRule size h ∷ dynamicRule h ∷ layoutRule h ∷ []
+
+unfoldable pub judgeVid : ℕ → VidHeader → Verdict VidHeader
+judgeVid size h = byVersion (h .version) (cond (allOf (vidRules size h)) (good h) bad)
+
+-- the first 64 bytes as a VID header: "bad if magic or CRC is wrong", else by its fields
+unfoldable pub readVid : ℕ → List ℕ → Verdict VidHeader
+readVid size s = cond (eqs (part 0 4 s) vidMagic && summed s) (judgeVid size (vidFields s)) bad
+
+-- refusal 4 where fewer than 64 bytes are lent
+unfoldable pub vidRead : ℕ → List ℕ → Answer (Verdict VidHeader)
+vidRead size s = cond (ltb (length s) 64) (refused 4 0) (given (readVid size s))
+
+-- what each case of the answer is in 01
+abbrev pub vidAnswer : VidRead → Answer (Verdict VidHeader)
+vidAnswer (Good h) = given (good h)
+vidAnswer Bad = given bad
+vidAnswer Newer = given newer
+vidAnswer Short = refused 4 0
+
+-- bytes 0-59 as they are written: "magic 0-3, version 4, type 5, copy flag 6, compatibility 7, volume 8-11, LEB 12-15, zero 16-19,
+-- data size 20-23, used LEBs 24-27, data pad 28-31, data CRC 32-35, zero 36-39, sequence 40-47, zero 48-59"
+unfoldable pub vidHead : VidHeader → List ℕ
+vidHead h =
+    vidMagic ++ toBe 1 (h .version) ++ toBe 1 (h .«vol_type») ++ toBe 1 (h .«copy_flag») ++ toBe 1 (h .compat) ++ toBe 4 (h .volume)
+    ++ toBe 4 (h .leb) ++ replicate 4 0 ++ toBe 4 (h .«data_size») ++ toBe 4 (h .«used_lebs») ++ toBe 4 (h .«data_pad»)
+    ++ toBe 4 (h .«data_crc») ++ replicate 4 0 ++ toBe 8 (h .sequence) ++ replicate 12 0
+
+-- "CRC of 0-59 at 60-63"
+unfoldable pub vidBytes : VidHeader → List ℕ
+vidBytes h = vidHead h ++ toBe 4 (crcOf (vidHead h))
+
+-- refusal 4, then 19: "reader would call the header lost, bad or newer"
+unfoldable pub vidWritten : ℕ → VidHeader → List ℕ → Answer (Unit {0})
+vidWritten size h out = cond (ltb (length out) 64) (refused 4 0) (cond (isGood (judgeVid size h)) (given tt) (refused 19 0))
+
+-- the lent bytes afterwards: a refusal changes nothing, and bytes beyond 64 never change
+unfoldable pub vidOut : ℕ → VidHeader → List ℕ → List ℕ
+vidOut size h out = cond (ltb (length out) 64) out (cond (isGood (judgeVid size h)) (vidBytes h ++ drop 64 out) out)

@@ -1,0 +1,61 @@
+// The erase counter (EC) header and the volume identifier (VID) header of a physical block: 64 bytes each, read and written.
+mod ec_header;
+mod fields;
+mod vid_header;
+mod vid_rules;
+
+pub use ec_header::read_ec;
+pub use ec_header::write_ec;
+pub use vid_header::read_vid;
+pub use vid_header::write_vid;
+
+// Where a field stands in a header, and how many bytes it has.
+struct Field {
+    at: usize,
+    width: usize,
+}
+
+pub struct EcHeader {
+    pub version: u8,
+    pub counter: u64,
+    pub vid_start: u32,
+    pub data_start: u32,
+    pub image_seq: u32,
+}
+
+// What a block's EC header is; Newer has a version above 1, Short is refusal 4.
+pub enum EcRead {
+    Good(EcHeader),
+    Lost,
+    Newer,
+    Short,
+}
+
+pub struct VidHeader {
+    pub version: u8,
+    pub vol_type: u8,
+    pub copy_flag: u8,
+    pub compat: u8,
+    pub volume: u32,
+    pub leb: u32,
+    pub data_size: u32,
+    pub used_lebs: u32,
+    pub data_pad: u32,
+    pub data_crc: u32,
+    pub sequence: u64,
+}
+
+// What a block's VID header is; Newer has a version above 1, Short is refusal 4.
+pub enum VidRead {
+    Good(VidHeader),
+    Bad,
+    Newer,
+    Short,
+}
+
+// Whether a header was written; Short is refusal 4, Unreadable is refusal 19.
+pub enum Written {
+    Done,
+    Short,
+    Unreadable,
+}

@@ -1,0 +1,137 @@
+// The volume identifier header.
+ghost use mathlib.Core.Path.{_≡_};
+ghost use Prim.Native.Nat.{_≤_};
+ghost use lib.ListN.{length};
+ghost use Rattle.base.specs.Answers.{given};
+ghost use Rattle.header.specs.Fields.{isGood, written};
+ghost use Rattle.header.specs.Vid.{vidFields, judgeVid, vidRead, vidAnswer, vidWritten, vidOut};
+ghost use Rattle.header.specs.Stores.{kindStored, placeStored, dataStored};
+use crate::VidHeader;
+use crate::VidRead;
+use crate::Written;
+use crate::fields::VID_COMPAT;
+use crate::fields::VID_COPY_FLAG;
+use crate::fields::VID_DATA_CRC;
+use crate::fields::VID_DATA_PAD;
+use crate::fields::VID_DATA_SIZE;
+use crate::fields::VID_LEB;
+use crate::fields::VID_SEQUENCE;
+use crate::fields::VID_TYPE;
+use crate::fields::VID_USED_LEBS;
+use crate::fields::VID_VERSION;
+use crate::fields::VID_VOLUME;
+use crate::fields::begin;
+use crate::fields::finish;
+use crate::fields::get;
+use crate::fields::is_header;
+use crate::fields::set;
+use crate::vid_rules::rules_hold;
+
+// The fields in a header's bytes.
+fn vid_fields(s: &[u8]) -> VidHeader
+    requires { ⌜ 64 ≤ length (now s) ⌝ }
+    ensures { λ h. ⌜ h ≡ vidFields (now (s .entry)) ⌝ }
+{
+    VidHeader {
+        version: get(s, VID_VERSION) as u8,
+        vol_type: get(s, VID_TYPE) as u8,
+        copy_flag: get(s, VID_COPY_FLAG) as u8,
+        compat: get(s, VID_COMPAT) as u8,
+        volume: get(s, VID_VOLUME) as u32,
+        leb: get(s, VID_LEB) as u32,
+        data_size: get(s, VID_DATA_SIZE) as u32,
+        used_lebs: get(s, VID_USED_LEBS) as u32,
+        data_pad: get(s, VID_DATA_PAD) as u32,
+        data_crc: get(s, VID_DATA_CRC) as u32,
+        sequence: get(s, VID_SEQUENCE),
+    }
+}
+
+// What the fields of a header with magic and CRC right make it.
+fn judge_vid(h: VidHeader, leb_size: u32) -> VidRead
+    ensures { λ r. ⌜ vidAnswer r ≡ given (judgeVid «leb_size» h) ⌝ }
+{
+    if h.version == 0 {
+        return VidRead::Bad;
+    }
+    if h.version != 1 {
+        return VidRead::Newer;
+    }
+    if !rules_hold(h, leb_size) {
+        return VidRead::Bad;
+    }
+    VidRead::Good(h)
+}
+
+// The VID header at the start of a slice, judged by the LEB size.
+pub fn read_vid(header: &[u8], leb_size: u32) -> VidRead
+    ensures { λ r. ⌜ vidAnswer r ≡ vidRead «leb_size» (now (header .entry)) ⌝ }
+{
+    if header.len() < 64 {
+        return VidRead::Short;
+    }
+    if !is_header(header, b"UBI!") {
+        return VidRead::Bad;
+    }
+    judge_vid(vid_fields(header), leb_size)
+}
+
+// Would the reader call the header good?
+fn vid_readable(h: VidHeader, leb_size: u32) -> bool
+    ensures { λ r. ⌜ r ≡ isGood (judgeVid «leb_size» h) ⌝ }
+{
+    if h.version != 1 {
+        return false;
+    }
+    rules_hold(h, leb_size)
+}
+
+// Version, type, copy flag and compatibility are stored.
+fn set_kind(h: VidHeader, out: &mut [u8])
+    requires { ⌜ 64 ≤ length (now out) ⌝ }
+    ensures { λ _. ⌜ now (out .exit) ≡ kindStored h (now (out .entry)) ⌝ }
+{
+    set(out, VID_VERSION, h.version as u64);
+    set(out, VID_TYPE, h.vol_type as u64);
+    set(out, VID_COPY_FLAG, h.copy_flag as u64);
+    set(out, VID_COMPAT, h.compat as u64);
+}
+
+// Volume, LEB and sequence are stored.
+fn set_place(h: VidHeader, out: &mut [u8])
+    requires { ⌜ 64 ≤ length (now out) ⌝ }
+    ensures { λ _. ⌜ now (out .exit) ≡ placeStored h (now (out .entry)) ⌝ }
+{
+    set(out, VID_VOLUME, h.volume as u64);
+    set(out, VID_LEB, h.leb as u64);
+    set(out, VID_SEQUENCE, h.sequence);
+}
+
+// Data size, used LEBs, data pad and data CRC are stored.
+fn set_data(h: VidHeader, out: &mut [u8])
+    requires { ⌜ 64 ≤ length (now out) ⌝ }
+    ensures { λ _. ⌜ now (out .exit) ≡ dataStored h (now (out .entry)) ⌝ }
+{
+    set(out, VID_DATA_SIZE, h.data_size as u64);
+    set(out, VID_USED_LEBS, h.used_lebs as u64);
+    set(out, VID_DATA_PAD, h.data_pad as u64);
+    set(out, VID_DATA_CRC, h.data_crc as u64);
+}
+
+// The header is written to the first 64 bytes, with its CRC and zero padding.
+pub fn write_vid(h: VidHeader, leb_size: u32, out: &mut [u8]) -> Written
+    ensures { λ r. ⌜ (written r ≡ vidWritten «leb_size» h (now (out .entry))) × (now (out .exit) ≡ vidOut «leb_size» h (now (out .entry))) ⌝ }
+{
+    if out.len() < 64 {
+        return Written::Short;
+    }
+    if !vid_readable(h, leb_size) {
+        return Written::Unreadable;
+    }
+    begin(out, b"UBI!");
+    set_kind(h, out);
+    set_place(h, out);
+    set_data(h, out);
+    finish(out);
+    Written::Done
+}
