@@ -55,6 +55,24 @@ bytes-take (suc n) (x ∷ l) b (suc k) = bytes-take n l (λ j. b (suc j)) k
 pub bytes-part : (at n : ℕ) (l : List ℕ) → Bytes l → Bytes (part at n l)
 bytes-part at n l b = bytes-take n (drop at l) (bytes-drop at l b)
 
+-- the same as a product, which is easier to show of a list that is put together
+abbrev pub EachByte : List ℕ → Type 0
+EachByte [] = Unit {0}
+EachByte (x ∷ xs) = (x < 256) × EachByte xs
+
+pub each-append : (a b : List ℕ) → EachByte a → EachByte b → EachByte (a ++ b)
+each-append [] b p q = q
+each-append (x ∷ a) b p q = (p .0, each-append a b (p .1) q)
+
+pub each-zero : (n : ℕ) → EachByte (replicate n 0)
+each-zero zero = tt
+each-zero (suc n) = (lit< tt, each-zero n)
+
+pub bytes-each : (l : List ℕ) → EachByte l → Bytes l
+bytes-each [] e k = lit< tt
+bytes-each (x ∷ l) e zero = e .0
+bytes-each (x ∷ l) e (suc k) = bytes-each l (e .1) k
+
 -- ---- comparison
 
 pub eqs-refl : (a : List ℕ) → eqs a a ≡ true

@@ -2,7 +2,7 @@
 use mathlib.Core.Path.{_≡_, refl, sym, ap, _∙_, subst}
 use Prim.Native.Nat.{ℕ, zero, suc, _+_, _*_, _/_, _%_, _^_, _-_, _≤_, _<_}
 use mathlib.Core.List.{List, [], _∷_, _++_, append-assoc, append-nil}
-use native.Mathlib.Nat.{pow-suc, pow-le-pow-right, one-le-pow, mod-one, mod-eq-of-lt, suc-add, not-suc-le-zero, add-suc, zero-add, add-zero}
+use native.Mathlib.Nat.{pow-suc, pow-le-pow-right, one-le-pow, mod-one, mod-eq-of-lt, suc-add, not-suc-le-zero, add-suc, zero-add, add-zero, mul-comm, mul-assoc, one-mul}
 use native.Mathlib.Numerals.{add-one, sub-one}
 use native.Mathlib.Omega.{arith}
 use lib.Dec.{lit<}
@@ -10,7 +10,7 @@ use lib.Arith.{mod-mul, digits-div, digits-mod}
 use lib.ListN.{length, take, drop, getD, set, length-take, length-drop, length-set, take-append-drop}
 use lib.Seq.{take-suc, getD-drop, drop-at, take-append-seam, drop-drop, drop-cons, take-set-le, getD-set-same, drop-set-lt}
 use Rattle.base.specs.Lists.{part, put, Bytes}
-use Rattle.base.proofs.Lists.{part-put, bytes-part, length-part}
+use Rattle.base.proofs.Lists.{part-put, bytes-part, length-part, EachByte}
 use Rattle.field.specs.Be.{beFrom, beOf, toBeOn, toBe}
 
 pub beFrom-snoc : (acc : ℕ) (l : List ℕ) (b : ℕ) → beFrom acc (l ++ (b ∷ [])) ≡ beFrom acc l * 256 + b
@@ -107,3 +107,23 @@ read-written at n v s h k =
 -- "writing gives back what was read", at any place and width
 pub written-read : (at n : ℕ) (s : List ℕ) → at + n ≤ length s → Bytes s → toBe n (beOf (part at n s)) ≡ part at n s
 written-read at n s h b = rw (length-part at n s h) at (store-back (part at n s) (bytes-part at n s b))
+
+each-toBeOn : (n v : ℕ) (a : List ℕ) → EachByte a → EachByte (toBeOn n v a)
+unfolding toBeOn
+each-toBeOn zero v a p = p
+each-toBeOn (suc n) v a p = each-toBeOn n (v / 256) (v % 256 ∷ a) (omega arith, p)
+
+pub each-toBe : (n v : ℕ) → EachByte (toBe n v)
+each-toBe n v = each-toBeOn n v [] tt
+
+beFrom-lt : (l : List ℕ) → Bytes l → (acc most : ℕ) → acc < most → beFrom acc l < most * 256 ^ length l
+unfolding beFrom
+beFrom-lt [] b acc most h = omega arith
+beFrom-lt (x ∷ l) b acc most h =
+    let bx : x < 256 = b 0 in
+    let i : beFrom (acc * 256 + x) l < most * 256 * 256 ^ length l = beFrom-lt l (λ k. b (suc k)) (acc * 256 + x) (most * 256) (omega arith) in
+    rw (pow-suc, mul-comm (256 ^ length l) 256, ← mul-assoc) i
+
+-- a field of bytes is as large as its width allows
+pub field-lt : (at n : ℕ) (s : List ℕ) → at + n ≤ length s → Bytes s → beOf (part at n s) < 256 ^ n
+field-lt at n s h b = rw (length-part at n s h, one-mul) at (beFrom-lt (part at n s) (bytes-part at n s b) 0 1 (lit< tt))

@@ -1,5 +1,6 @@
 -- 01 'Header bytes': the erase counter (EC) header. Assumes nothing.
-use Prim.Native.Nat.{ℕ}
+use Prim.Native.Nat.{ℕ, _<_, _^_}
+use mathlib.Core.Path.{_≡_}
 use mathlib.Core.Bool.{Bool, _&&_, cond}
 use mathlib.Core.List.{List, [], _∷_, _++_}
 use lib.Dec.{ltb, leb}
@@ -8,7 +9,7 @@ use Rattle.base.specs.Answers.{Answer, given, refused}
 use Rattle.base.specs.Lists.{part, eqs}
 use Rattle.field.specs.Be.{toBe}
 use Rattle.crc32.specs.Crc.{crcOf}
-use Rattle.header.specs.Fields.{fieldAt, summed, Verdict, good, bad, newer, byVersion, isGood}
+use Rattle.header.specs.Fields.{fieldAt, Verdict, good, bad, newer, byVersion, readHeader, lentHeader, headerBytes, headerWritten, headerOut}
 use Rattle.header.specs.declared.EcHeader.{EcHeader}
 use Rattle.header.specs.declared.EcRead.{EcRead}
 use Rattle.header.specs.declared.EcRead.the-variants.{Good, Lost, Newer, Short}
@@ -31,13 +32,12 @@ ecFields s = record {
 unfoldable pub judgeEc : EcHeader → Verdict EcHeader
 judgeEc h = byVersion (h .version) (cond (leb (h .counter) 0x7FFFFFFF) (good h) bad)
 
--- the first 64 bytes as an EC header: "lost if magic or CRC is wrong", else by its fields
+-- the header in the first 64 bytes
 unfoldable pub readEc : List ℕ → Verdict EcHeader
-readEc s = cond (eqs (part 0 4 s) ecMagic && summed s) (judgeEc (ecFields s)) bad
+readEc s = readHeader ecMagic (λ (l : List ℕ). judgeEc (ecFields l)) s
 
--- refusal 4 where fewer than 64 bytes are lent
 unfoldable pub ecRead : List ℕ → Answer (Verdict EcHeader)
-ecRead s = cond (ltb (length s) 64) (refused 4 0) (given (readEc s))
+ecRead s = lentHeader (readEc s) s
 
 -- what each case of the answer is in 01
 abbrev pub ecAnswer : EcRead → Answer (Verdict EcHeader)
@@ -53,14 +53,25 @@ ecHead h =
     ecMagic ++ toBe 1 (h .version) ++ replicate 3 0 ++ toBe 8 (h .counter) ++ toBe 4 (h .«vid_start») ++ toBe 4 (h .«data_start»)
     ++ toBe 4 (h .«image_seq») ++ replicate 32 0
 
--- "CRC of bytes 0-59 at 60-63"
 unfoldable pub ecBytes : EcHeader → List ℕ
-ecBytes h = ecHead h ++ toBe 4 (crcOf (ecHead h))
+ecBytes h = headerBytes (ecHead h)
 
--- refusal 4, then 19: "reader would call the header lost, bad or newer"
+-- the writer's answer, and the lent bytes afterwards
 unfoldable pub ecWritten : EcHeader → List ℕ → Answer (Unit {0})
-ecWritten h out = cond (ltb (length out) 64) (refused 4 0) (cond (isGood (judgeEc h)) (given tt) (refused 19 0))
+ecWritten h out = headerWritten (judgeEc h) out
 
--- the lent bytes afterwards: a refusal changes nothing, and bytes beyond 64 never change
 unfoldable pub ecOut : EcHeader → List ℕ → List ℕ
-ecOut h out = cond (ltb (length out) 64) out (cond (isGood (judgeEc h)) (ecBytes h ++ drop 64 out) out)
+ecOut h out = headerOut (judgeEc h) (ecBytes h) out
+
+-- the fields are as large as their bytes allow (they are so by their types)
+pub record EcFits (h : EcHeader) : Type 0 where
+  pub version : h .version < 256 ^ 1
+  pub counter : h .counter < 256 ^ 8
+  pub vid-start : h .«vid_start» < 256 ^ 4
+  pub data-start : h .«data_start» < 256 ^ 4
+  pub image-seq : h .«image_seq» < 256 ^ 4
+
+-- "zero 5-7, .. zero 28-59"
+pub record EcPadded (s : List ℕ) : Type 0 where
+  pub zero-5 : part 5 3 s ≡ replicate 3 0
+  pub zero-28 : part 28 32 s ≡ replicate 32 0

@@ -1,12 +1,12 @@
 -- 01 'Header bytes': where the fields of both headers stand, and what judging a header can say. Assumes nothing.
 use Prim.Native.Nat.{ℕ, _+_}
-use mathlib.Core.Bool.{Bool, true, false, cond}
-use mathlib.Core.List.{List, [], _∷_}
-use lib.Dec.{eqb}
-use lib.ListN.{take, getD}
+use mathlib.Core.Bool.{Bool, true, false, _&&_, cond}
+use mathlib.Core.List.{List, [], _∷_, _++_}
+use lib.Dec.{eqb, ltb}
+use lib.ListN.{length, take, drop, getD}
 use Rattle.base.specs.Answers.{Answer, given, refused}
-use Rattle.base.specs.Lists.{part}
-use Rattle.field.specs.Be.{beOf}
+use Rattle.base.specs.Lists.{part, eqs}
+use Rattle.field.specs.Be.{beOf, toBe}
 use Rattle.crc32.specs.Crc.{crcOf}
 use Rattle.header.specs.declared.Field.{Field}
 use Rattle.header.specs.declared.Written.{Written}
@@ -54,6 +54,26 @@ module _ {A : Type 0} where
   isGood (good h) = true
   isGood bad = false
   isGood newer = false
+
+  -- the first 64 bytes as a header: lost or bad "if magic or CRC is wrong", else by its fields
+  abbrev pub readHeader : List ℕ → (List ℕ → Verdict A) → List ℕ → Verdict A
+  readHeader magic judge s = cond (eqs (part 0 4 s) magic && summed s) (judge s) bad
+
+  -- refusal 4 where fewer than 64 bytes are lent
+  abbrev pub lentHeader : Verdict A → List ℕ → Answer (Verdict A)
+  lentHeader v s = cond (ltb (length s) 64) (refused 4 0) (given v)
+
+  -- refusal 4, then 19: "reader would call the header lost, bad or newer"
+  abbrev pub headerWritten : Verdict A → List ℕ → Answer (Unit {0})
+  headerWritten v out = cond (ltb (length out) 64) (refused 4 0) (cond (isGood v) (given tt) (refused 19 0))
+
+  -- the lent bytes afterwards: a refusal changes nothing, and bytes beyond 64 never change
+  abbrev pub headerOut : Verdict A → List ℕ → List ℕ → List ℕ
+  headerOut v bytes out = cond (ltb (length out) 64) out (cond (isGood v) (bytes ++ drop 64 out) out)
+
+-- bytes 0-59 and "CRC of bytes 0-59 at 60-63"
+abbrev pub headerBytes : List ℕ → List ℕ
+headerBytes head = head ++ toBe 4 (crcOf head)
 
 -- what each case of a writer's answer is in 01: written, refusal 4 or refusal 19
 abbrev pub written : Written → Answer (Unit {0})

@@ -1,5 +1,6 @@
 -- 01 'Header bytes': the volume identifier (VID) header. Assumes nothing.
-use Prim.Native.Nat.{ℕ, _+_, _-_, _*_}
+use Prim.Native.Nat.{ℕ, _+_, _-_, _*_, _<_, _^_}
+use mathlib.Core.Path.{_≡_}
 use mathlib.Core.Bool.{Bool, not, _&&_, _||_, cond}
 use mathlib.Core.List.{List, [], _∷_, _++_}
 use lib.Dec.{eqb, ltb, leb}
@@ -8,7 +9,7 @@ use Rattle.base.specs.Answers.{Answer, given, refused, allOf}
 use Rattle.base.specs.Lists.{part, eqs}
 use Rattle.field.specs.Be.{toBe}
 use Rattle.crc32.specs.Crc.{crcOf}
-use Rattle.header.specs.Fields.{fieldAt, summed, Verdict, good, bad, newer, byVersion, isGood}
+use Rattle.header.specs.Fields.{fieldAt, Verdict, good, bad, newer, byVersion, readHeader, lentHeader, headerBytes, headerWritten, headerOut}
 use Rattle.header.specs.declared.VidHeader.{VidHeader}
 use Rattle.header.specs.declared.VidRead.{VidRead}
 use Rattle.header.specs.declared.VidRead.the-variants.{Good, Bad, Newer, Short}
@@ -84,13 +85,12 @@ vidRules size h =
 unfoldable pub judgeVid : ℕ → VidHeader → Verdict VidHeader
 judgeVid size h = byVersion (h .version) (cond (allOf (vidRules size h)) (good h) bad)
 
--- the first 64 bytes as a VID header: "bad if magic or CRC is wrong", else by its fields
+-- the header in the first 64 bytes
 unfoldable pub readVid : ℕ → List ℕ → Verdict VidHeader
-readVid size s = cond (eqs (part 0 4 s) vidMagic && summed s) (judgeVid size (vidFields s)) bad
+readVid size s = readHeader vidMagic (λ (l : List ℕ). judgeVid size (vidFields l)) s
 
--- refusal 4 where fewer than 64 bytes are lent
 unfoldable pub vidRead : ℕ → List ℕ → Answer (Verdict VidHeader)
-vidRead size s = cond (ltb (length s) 64) (refused 4 0) (given (readVid size s))
+vidRead size s = lentHeader (readVid size s) s
 
 -- what each case of the answer is in 01
 abbrev pub vidAnswer : VidRead → Answer (Verdict VidHeader)
@@ -107,14 +107,32 @@ vidHead h =
     ++ toBe 4 (h .leb) ++ replicate 4 0 ++ toBe 4 (h .«data_size») ++ toBe 4 (h .«used_lebs») ++ toBe 4 (h .«data_pad»)
     ++ toBe 4 (h .«data_crc») ++ replicate 4 0 ++ toBe 8 (h .sequence) ++ replicate 12 0
 
--- "CRC of 0-59 at 60-63"
 unfoldable pub vidBytes : VidHeader → List ℕ
-vidBytes h = vidHead h ++ toBe 4 (crcOf (vidHead h))
+vidBytes h = headerBytes (vidHead h)
 
--- refusal 4, then 19: "reader would call the header lost, bad or newer"
+-- the writer's answer, and the lent bytes afterwards
 unfoldable pub vidWritten : ℕ → VidHeader → List ℕ → Answer (Unit {0})
-vidWritten size h out = cond (ltb (length out) 64) (refused 4 0) (cond (isGood (judgeVid size h)) (given tt) (refused 19 0))
+vidWritten size h out = headerWritten (judgeVid size h) out
 
--- the lent bytes afterwards: a refusal changes nothing, and bytes beyond 64 never change
 unfoldable pub vidOut : ℕ → VidHeader → List ℕ → List ℕ
-vidOut size h out = cond (ltb (length out) 64) out (cond (isGood (judgeVid size h)) (vidBytes h ++ drop 64 out) out)
+vidOut size h out = headerOut (judgeVid size h) (vidBytes h) out
+
+-- the fields are as large as their bytes allow (they are so by their types)
+pub record VidFits (h : VidHeader) : Type 0 where
+  pub version : h .version < 256 ^ 1
+  pub vol-type : h .«vol_type» < 256 ^ 1
+  pub copy-flag : h .«copy_flag» < 256 ^ 1
+  pub compat : h .compat < 256 ^ 1
+  pub volume : h .volume < 256 ^ 4
+  pub leb : h .leb < 256 ^ 4
+  pub data-size : h .«data_size» < 256 ^ 4
+  pub used-lebs : h .«used_lebs» < 256 ^ 4
+  pub data-pad : h .«data_pad» < 256 ^ 4
+  pub data-crc : h .«data_crc» < 256 ^ 4
+  pub sequence : h .sequence < 256 ^ 8
+
+-- "zero 16-19, .. zero 36-39, .. zero 48-59"
+pub record VidPadded (s : List ℕ) : Type 0 where
+  pub zero-16 : part 16 4 s ≡ replicate 4 0
+  pub zero-36 : part 36 4 s ≡ replicate 4 0
+  pub zero-48 : part 48 12 s ≡ replicate 12 0
