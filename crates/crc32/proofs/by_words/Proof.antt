@@ -52,7 +52,8 @@ loop-again : tie.Need-loop-again Inv-loop μ-loop
 loop-again c =
     let l = c .before .before .before .before .before .loop in
     let s = c .before .before .before .before .before .before in
-    (omega arith, cc (turn (l .c) (l .i) (s .before .args .bytes .now) (λ k. s .shared-slice-known .given k .fits) (omega arith)))
+    let e = turn (l .c) (l .i) (s .before .args .bytes .now) (λ k. s .shared-slice-known .given k .fits) (omega arith) in
+    (omega arith, rw (c .word2 .ensures, c .before .before .word .ensures, c .before .read-le2 .ensures, c .before .before .before .read-le .ensures) (e ∙ l .inv .1))
 
 sub-by-bytes : tie.Need-sub-by-bytes Inv-loop μ-loop
 sub-by-bytes c = search needs
