@@ -33,6 +33,13 @@ class Chance:
     def pick(self, choices):
         return choices[self.below(len(choices))]
 
+    def shuffled(self, things):
+        things = list(things)
+        for at in range(len(things) - 1, 0, -1):
+            other = self.below(at + 1)
+            things[at], things[other] = things[other], things[at]
+        return things
+
     def bytes(self, length):
         words = [self.next().to_bytes(8, "big")
                  for _ in range((length + 7) // 8)]
@@ -45,9 +52,9 @@ class Chance:
 class Cases:
     """The cases of one test program, in the order they were added."""
 
-    def __init__(self, answer, kind):
+    def __init__(self, answer, kinds_of):
         self.answer = answer
-        self.kind = kind
+        self.kinds_of = kinds_of
         self.payloads = []
         self.answers = []
         self.seen = set()
@@ -57,6 +64,7 @@ class Cases:
 
         `want` is what whoever wrote the case expects the answer to begin
         with: it says by hand what the oracle must find out by the rules.
+        Gives the answer, for who wants to look closer.
         """
         payload = bytes(payload)
         assert len(payload) <= 0xFFFF
@@ -65,11 +73,11 @@ class Cases:
             words = answer.split(" ")
             wanted = want.split(" ")
             assert words[:len(wanted)] == wanted, (want, answer[:80])
-        if payload in self.seen:
-            return
-        self.seen.add(payload)
-        self.payloads.append(payload)
-        self.answers.append(answer)
+        if payload not in self.seen:
+            self.seen.add(payload)
+            self.payloads.append(payload)
+            self.answers.append(answer)
+        return answer
 
     def stdin(self):
         return b"".join(frames.frame(payload) for payload in self.payloads)
@@ -81,8 +89,8 @@ class Cases:
         """How many cases there are of each kind of answer."""
         counts = {}
         for payload, answer in zip(self.payloads, self.answers):
-            kind = self.kind(payload, answer)
-            counts[kind] = counts.get(kind, 0) + 1
+            for kind in self.kinds_of(payload, answer):
+                counts[kind] = counts.get(kind, 0) + 1
         return counts
 
 

@@ -8,7 +8,7 @@ CHECK_STRING = b"123456789"
 
 
 def crc_cases():
-    cases = Cases(frames.crc_answer, frames.crc_kind)
+    cases = Cases(frames.crc_answer, frames.crc_kinds)
     chance = Chance(101)
 
     def add(data, offset, want=None):

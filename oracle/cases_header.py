@@ -45,7 +45,7 @@ def u32(value):
 
 class Probes:
     def __init__(self):
-        self.cases = Cases(frames.header_answer, frames.header_kind)
+        self.cases = Cases(frames.header_answer, frames.header_kinds)
         self.chance = Chance(303)
         # Slices and buffers are mostly a header long, at times longer.
         self.tails = cycle([0, 0, 1, 0, 16, 0, 0, 7])

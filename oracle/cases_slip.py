@@ -28,7 +28,7 @@ def slip(peb_size, unit, sub_unit):
 
 
 def slip_cases():
-    cases = Cases(frames.slip_answer, frames.slip_kind)
+    cases = Cases(frames.slip_answer, frames.slip_kinds)
     add_bench(cases)
     add_good_geometries(cases)
     add_geometry_boundaries(cases)

@@ -9,7 +9,7 @@ RECORD_SIZE = ubi.RECORD_SIZE
 
 
 def table_cases():
-    cases = Cases(frames.table_answer, frames.table_kind)
+    cases = Cases(frames.table_answer, frames.table_kinds)
     records = RecordProbes(cases)
     add_good_records(records)
     add_record_boundaries(records)

@@ -1,10 +1,14 @@
 """Cases as the test programs read them, and the lines they must print.
 
 The frames are described in README.md. A program's `answer` takes one
-payload and gives one line; `kind` names the sort of answer a case has, so
-that the generator can count them.
+payload and gives its lines, without the last line feed; `kinds` names what
+sort of answer it is, one way or several, so that the generator can count
+them.
 """
 
+import re
+
+import attach
 import ubi
 
 
@@ -37,8 +41,16 @@ class Fields:
         """One number for each field of a header's table."""
         return [self.number(width) for _, _, width in table]
 
+    def bytes(self, length):
+        assert self.at + length <= len(self.payload), "payload cut short"
+        self.at += length
+        return self.payload[self.at - length:self.at]
+
     def rest(self):
         return self.payload[self.at:]
+
+    def at_end(self):
+        return self.at == len(self.payload)
 
 
 # ------------------------------------------------------------------- crc
@@ -142,6 +154,117 @@ def table_answer(payload):
     raise AssertionError("no such operation")
 
 
+# ---------------------------------------------------------------- attach
+
+LENT_BEFORE = 0xDEADBEEF
+MAX_IMAGE = 262144
+MAX_LENT_WORDS = 16384
+
+NOT_ERASED = re.compile(b"[^\xff]+(?:\xff{1,6}[^\xff]+)*")
+
+
+def attach_payload(slip, lent_lengths, image):
+    """The image as patches: its runs of other bytes than 0xFF.
+
+    A few bytes of 0xFF within a run are fewer than a patch's own numbers.
+    """
+    parts = [len(slip).to_bytes(2, "big"), slip]
+    parts += [length.to_bytes(2, "big") for length in lent_lengths]
+    parts.append(len(image).to_bytes(4, "big"))
+    for run in NOT_ERASED.finditer(image):
+        parts.append(patch(run.start(), run.group()))
+    return b"".join(parts)
+
+
+def patch(offset, data):
+    return offset.to_bytes(4, "big") + len(data).to_bytes(2, "big") + data
+
+
+def attach_parts(payload):
+    """Slip, lent tables before the call, and image of a payload."""
+    fields = Fields(payload)
+    slip = fields.bytes(fields.number(2))
+    lengths = [fields.number(2) for _ in attach.Lent._fields]
+    assert max(lengths) <= MAX_LENT_WORDS
+    size = fields.number(4)
+    assert size <= MAX_IMAGE
+    image = bytearray(b"\xff" * size)
+    while not fields.at_end():
+        offset, length = fields.number(4), fields.number(2)
+        assert offset + length <= size, "patch beyond the image"
+        image[offset:offset + length] = fields.bytes(length)
+    lent = attach.Lent(*([LENT_BEFORE] * length for length in lengths))
+    return slip, lent, bytes(image)
+
+
+def words_in_runs(words):
+    """A word, or word*count for more than one equal in a row."""
+    runs = []
+    for word in words:
+        if runs and runs[-1][0] == word:
+            runs[-1][1] += 1
+        else:
+            runs.append([word, 1])
+    return ["%d*%d" % (word, count) if count > 1 else str(word)
+            for word, count in runs]
+
+
+def attach_answer(payload):
+    slip, lent, image = attach_parts(payload)
+    try:
+        first = attach.first_line(attach.attach(slip, image, lent))
+    except ubi.Refused as refused:
+        first = attach.refusal_line(refused)
+    lines = [first]
+    for name, words in zip(attach.Lent._fields, lent):
+        lines.append(line(name, *words_in_runs(words)))
+    return "\n".join(lines)
+
+
+class AttachAnswer:
+    """The four lines read back, for those who judge or count answers."""
+
+    def __init__(self, answer):
+        lines = [text.split(" ") for text in answer.split("\n")]
+        first, tables = lines[0], lines[1:]
+        numbers = {first[at]: int(first[at + 1])
+                   for at in range(0, len(first), 2)}
+        # Of an image that attaches: entries, mean and so on by name.
+        self.numbers = numbers if first[0] == "attached" else {}
+        self.refused = None
+        if first[0] == "refused":
+            self.refused = numbers["refused"], numbers["at"]
+        assert [table[0] for table in tables] == ["pebs", "map", "states"]
+        self.lent = attach.Lent(*(self.words(table[1:]) for table in tables))
+
+    @staticmethod
+    def words(runs):
+        words = []
+        for run in runs:
+            word, _, count = run.partition("*")
+            words += [int(word)] * int(count or 1)
+        return words
+
+    @property
+    def classes(self):
+        return self.lent.pebs[:2 * self.numbers["attached"]:2]
+
+    @property
+    def counters(self):
+        return self.lent.pebs[1:2 * self.numbers["attached"]:2]
+
+    @property
+    def mapped(self):
+        words = self.lent.map[:3 * self.numbers["entries"]]
+        return [tuple(words[at:at + 3]) for at in range(0, len(words), 3)]
+
+    @property
+    def states(self):
+        """State by volume, for the volumes that have one."""
+        states = enumerate(self.lent.states[:ubi.USER_VOLUMES])
+        return {volume: state for volume, state in states if state != 0}
+
+
 # ----------------------------------------------------------------- kinds
 
 def first_words(answer):
@@ -149,19 +272,36 @@ def first_words(answer):
     return " ".join(words[:2] if words[0] == "refused" else words[:1])
 
 
-def crc_kind(payload, answer):
-    return "empty" if len(payload) <= 1 + payload[0] else "bytes"
+def crc_kinds(payload, answer):
+    return ["empty" if len(payload) <= 1 + payload[0] else "bytes"]
 
 
-def slip_kind(payload, answer):
-    return first_words(answer)
+def slip_kinds(payload, answer):
+    return [first_words(answer)]
 
 
-def header_kind(payload, answer):
-    return "op %d %s" % (payload[0], first_words(answer))
+def header_kinds(payload, answer):
+    return ["op %d %s" % (payload[0], first_words(answer))]
 
 
-def table_kind(payload, answer):
+def table_kinds(payload, answer):
     if payload[0] == TABLES:
-        return "op 2 " + " ".join(answer.split(" ")[:4])
-    return "op %d %s" % (payload[0], first_words(answer))
+        return ["op 2 " + " ".join(answer.split(" ")[:4])]
+    return ["op %d %s" % (payload[0], first_words(answer))]
+
+
+def attach_kinds(payload, answer):
+    """The refusal, or all that a report shows at least once."""
+    answer = AttachAnswer(answer)
+    if answer.refused:
+        number, place = answer.refused
+        # The places of PEBs 0 and others; refusals without a place have 0.
+        return ["refused %d" % number] + (
+            ["refused %d above 0" % number] if place else [])
+    kinds = ["attached"]
+    for name in ("readonly", "table", "copies", "grade"):
+        kinds.append("%s %d" % (name, answer.numbers[name]))
+    kinds += ["class %d" % klass for klass in set(answer.classes)]
+    states = set(answer.lent.states[:ubi.USER_VOLUMES])
+    kinds += ["state %d" % state for state in states]
+    return kinds

@@ -12,7 +12,9 @@ sys.dont_write_bytecode = True
 HERE = os.path.dirname(os.path.abspath(__file__))
 sys.path.insert(0, HERE)
 
+import attach  # noqa: E402
 import ubi  # noqa: E402
+from cases_attach import attach_cases  # noqa: E402
 from cases_crc import crc_cases  # noqa: E402
 from cases_header import header_cases  # noqa: E402
 from cases_slip import slip_cases  # noqa: E402
@@ -21,9 +23,9 @@ from cases_table import table_cases  # noqa: E402
 ROOT = os.path.dirname(HERE)
 
 # For each test program: its cases, the bytes its input stays below, and how
-# many cases there are of each kind of answer. The numbers stand here so that
-# a generator that loses a case does not go unseen; who adds cases counts
-# them again.
+# many cases there are of each kind of answer; an answer of test_attach is of
+# several kinds. The numbers stand here so that a generator that loses a case
+# does not go unseen; who adds cases counts them again.
 PROGRAMS = (
     ("test_crc", crc_cases, 500000, {
         "bytes": 814,
@@ -61,14 +63,63 @@ PROGRAMS = (
         "op 2 taken 1 mark 1": 197,
         "op 2 taken 2 mark 1": 353,
     }),
+    ("test_attach", attach_cases, 3000000, {
+        "attached": 1426,
+        "class 0": 299,
+        "class 1": 1426,
+        "class 2": 434,
+        "class 3": 756,
+        "class 4": 334,
+        "class 5": 243,
+        "class 6": 88,
+        "copies 0": 490,
+        "copies 1": 875,
+        "copies 2": 61,
+        "grade 0": 278,
+        "grade 1": 1148,
+        "readonly 0": 1385,
+        "readonly 1": 41,
+        "state 0": 1426,
+        "state 1": 941,
+        "state 2": 108,
+        "state 3": 137,
+        "table 0": 1381,
+        "table 1": 45,
+        "refused 1": 54,
+        "refused 2": 40,
+        "refused 3": 66,
+        "refused 4": 84,
+        "refused 5": 173,
+        "refused 5 above 0": 149,
+        "refused 6": 125,
+        "refused 6 above 0": 91,
+        "refused 7": 91,
+        "refused 7 above 0": 91,
+        "refused 8": 50,
+        "refused 8 above 0": 41,
+        "refused 9": 120,
+        "refused 9 above 0": 120,
+        "refused 10": 36,
+        "refused 11": 122,
+        "refused 12": 123,
+        "refused 12 above 0": 101,
+    }),
 )
 
 
+# Lines of an answer, and the bytes all of them stay below.
+LINES_OF_ANSWER = {"test_attach": 4}
+STDOUT_LIMIT = 2000000
+
+
 def self_check(name, cases, limit, expected):
-    """Nothing lost: sizes, one line a case, and every kind of answer."""
+    """Nothing lost: sizes, the lines of a case, and every kind of answer."""
     stdin, stdout = cases.stdin(), cases.stdout()
     assert len(stdin) < limit, "%s: %d bytes" % (name, len(stdin))
-    assert stdout.count(b"\n") == len(cases.payloads) == len(unframe(stdin))
+    assert len(stdout) < STDOUT_LIMIT, "%s: %d bytes" % (name, len(stdout))
+    assert len(cases.payloads) == len(unframe(stdin))
+    lines = LINES_OF_ANSWER.get(name, 1)
+    assert stdout.count(b"\n") == lines * len(cases.payloads)
     assert b" \n" not in stdout and b"  " not in stdout
     kinds = cases.kinds()
     for kind in sorted(set(kinds) | set(expected)):
@@ -92,6 +143,7 @@ def unframe(stdin):
 def generate():
     """Path and content of each file, checked."""
     ubi.self_test()
+    attach.self_test()
     files = []
     for name, make_cases, limit, expected in PROGRAMS:
         cases = make_cases()
