@@ -1,6 +1,6 @@
 -- Answers and refusals, and rules judged in order. Assumes nothing.
-use Prim.Native.Nat.{ℕ, zero, suc, _+_}
-use mathlib.Core.Bool.{Bool, true, false, _&&_}
+use Prim.Native.Nat.{ℕ}
+use mathlib.Core.Bool.{Bool, true, _&&_}
 use mathlib.Core.Option.{Option, none, some}
 use mathlib.Core.List.{List, [], _∷_}
 
@@ -10,7 +10,7 @@ pub data Answer (A : Type 0) : Type 0 where
   refused : ℕ → ℕ → Answer A
 
 module _ {A : Type 0} where
-  -- `a` if it is an answer, else `b`
+  -- the first if it is an answer, else the second
   abbrev pub orElse : Option A → Option A → Option A
   orElse (some x) b = some x
   orElse none b = b

@@ -1,4 +1,4 @@
--- Tests, sums and first hits over the numbers below n. Each peels the last number, as an ascending loop grows. Assumes nothing.
+-- Tests, sums and first hits over the numbers below n. Each peels the last number. Assumes nothing.
 use Prim.Native.Nat.{ℕ, zero, suc, _+_, max}
 use mathlib.Core.Bool.{Bool, true, false, _&&_, _||_, cond}
 use mathlib.Core.Option.{Option, none, some}

@@ -9,7 +9,7 @@ use lib.ListN.{length, take, drop, getD}
 abbrev pub part : ℕ → ℕ → List ℕ → List ℕ
 part at n s = take n (drop at s)
 
--- s with bs stored from `at` on
+-- s with bs stored from `at` on, where they fit
 abbrev pub put : ℕ → List ℕ → List ℕ → List ℕ
 put at bs s = take at s ++ (bs ++ drop (at + length bs) s)
 

@@ -1,5 +1,4 @@
 -- 01: "CRC means CRC-32 of IEEE 802.3, reflected, started at 0xFFFFFFFF, without the final complement (CRC-32/JAMCRC)". Assumes nothing.
-use mathlib.Core.Path.{_≡_, refl}
 use Prim.Native.Nat.{ℕ, zero, suc, _/_, _%_}
 use mathlib.Core.List.{List, [], _∷_}
 use lib.Bits.{bitXor}
@@ -30,8 +29,3 @@ crcFrom c (b ∷ bs) = crcFrom (crcByte c b) bs
 -- "started at 0xFFFFFFFF, without the final complement"
 abbrev pub crcOf : List ℕ → ℕ
 crcOf bs = crcFrom 0xFFFFFFFF bs
-
--- the published check value: the CRC of the bytes "123456789"
-check : crcOf (0x31 ∷ 0x32 ∷ 0x33 ∷ 0x34 ∷ 0x35 ∷ 0x36 ∷ 0x37 ∷ 0x38 ∷ 0x39 ∷ []) ≡ 0x340BC6D9
-unfolding tap crcBit crcBits crcByte crcFrom
-check = refl

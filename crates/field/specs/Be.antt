@@ -16,6 +16,6 @@ unfoldable pub toBeOn : ℕ → ℕ → List ℕ → List ℕ
 toBeOn zero v acc = acc
 toBeOn (suc n) v acc = toBeOn n (v / 256) (v % 256 ∷ acc)
 
--- the n bytes of v, the highest first
+-- the lowest n bytes of v, the highest first
 abbrev pub toBe : ℕ → ℕ → List ℕ
 toBe n v = toBeOn n v []

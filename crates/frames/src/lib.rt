@@ -44,12 +44,36 @@ pub fn word(text: &[u8]) {
     io::write_all(1, text);
 }
 
-pub fn blank() {
+// A blank and a number in decimal.
+pub fn next_number(n: u64) {
     io::write_all(1, b" ");
+    number(n);
 }
 
 pub fn line_end() {
     io::write_all(1, b"\n");
+}
+
+// The number in `width` bytes from `at` on; 0 where the payload has not so many.
+pub fn number_at(payload: &[u8], at: usize, width: usize) -> u64 {
+    if 8 < width {
+        return 0;
+    }
+    if payload.len() < width {
+        return 0;
+    }
+    if payload.len() - width < at {
+        return 0;
+    }
+    field::read(payload, at, width)
+}
+
+// What the payload has from `at` on.
+pub fn rest<'a>(payload: &'a [u8], at: usize) -> &'a [u8] {
+    if payload.len() < at {
+        return payload;
+    }
+    &payload[at..]
 }
 
 // Two digits for each byte.

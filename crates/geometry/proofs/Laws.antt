@@ -15,7 +15,7 @@ use Rattle.base.specs.Answers.{Answer, given, refused}
 use Rattle.base.proofs.Answers.{or-true-cases, one-broken, each-holds}
 use Rattle.base.proofs.Below.{any-intro}
 use Rattle.geometry.specs.declared.Geometry.{Geometry}
-use Rattle.geometry.specs.Slip.{opens, slipRules, wellFormed}
+use Rattle.geometry.specs.Slip.{hasField, slipRules, wellFormed}
 use Rattle.geometry.specs.Geometry.{goodUnit, roundUp, geometryRules, geometryOf, makeGeometry, vidStart, dataStart, lebSize}
 
 -- ---- units
@@ -90,9 +90,9 @@ unfolding wellFormed
 malformed s k e = sym (one-broken (slipRules s) k e)
 
 -- with the other tests passed, the last field decides
-pub last-field : (s : List ℕ) {r : Bool} → length s ≡ 20 → opens 0 1 4 s ≡ true → opens 7 2 2 s ≡ true → opens 12 3 2 s ≡ true → r ≡ opens 17 0 0 s → r ≡ wellFormed s
+pub last-field : (s : List ℕ) {r : Bool} → length s ≡ 20 → hasField 0 1 4 s ≡ true → hasField 7 2 2 s ≡ true → hasField 12 3 2 s ≡ true → r ≡ hasField 17 0 0 s → r ≡ wellFormed s
 unfolding wellFormed slipRules
-last-field s l a b c e = e ∙ rw (a, b, c, eq-eqb _ _ l) (sym (and-true (opens 17 0 0 s)))
+last-field s l a b c e = e ∙ rw (a, b, c, eq-eqb _ _ l) (sym (and-true (hasField 17 0 0 s)))
 
 pub slip-length : (s : List ℕ) → wellFormed s ≡ true → length s ≡ 20
 unfolding wellFormed slipRules

@@ -10,9 +10,9 @@ use Rattle.field.specs.Be.{beOf, toBe}
 use Rattle.geometry.specs.Geometry.{geometryOf}
 use Rattle.geometry.specs.declared.Geometry.{Geometry}
 
--- "fields of one-byte tag, two-byte length, value": does the field at `at` have this tag and length?
-unfoldable pub opens : ℕ → ℕ → ℕ → List ℕ → Bool
-opens at tag len s = eqs (part at 3 s) (tag ∷ toBe 2 len)
+-- "fields of one-byte tag, two-byte length, value": does the field at `at` have them?
+unfoldable pub hasField : ℕ → ℕ → ℕ → List ℕ → Bool
+hasField at tag len s = eqs (part at 3 s) (tag ∷ toBe 2 len)
 
 -- the value of the field at `at`
 unfoldable pub valueAt : ℕ → ℕ → List ℕ → ℕ
@@ -20,7 +20,7 @@ valueAt at len s = beOf (part (at + 3) len s)
 
 -- "In this order, each once: tag 1, length 4, PEB size; tag 2, length 2, unit; tag 3, length 2, sub-unit; tag 0, length 0."
 unfoldable pub slipRules : List ℕ → List Bool
-slipRules s = opens 0 1 4 s ∷ opens 7 2 2 s ∷ opens 12 3 2 s ∷ opens 17 0 0 s ∷ eqb (length s) 20 ∷ []
+slipRules s = hasField 0 1 4 s ∷ hasField 7 2 2 s ∷ hasField 12 3 2 s ∷ hasField 17 0 0 s ∷ eqb (length s) 20 ∷ []
 
 unfoldable pub wellFormed : List ℕ → Bool
 wellFormed s = allOf (slipRules s)

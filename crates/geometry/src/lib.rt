@@ -2,7 +2,7 @@
 mod rules;
 mod slip;
 
-pub use rules::measure;
+pub use rules::check_geometry;
 pub use slip::read_slip;
 
 // Where headers and data stand in a physical block (PEB), and how long a logical one (LEB) is.

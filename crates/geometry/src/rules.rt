@@ -30,7 +30,7 @@ fn round_up(x: u32, m: u32) -> u32
 }
 
 // The geometry of three numbers, where they are within the rules.
-pub fn measure(peb_size: u32, unit: u32, sub_unit: u32) -> GeometryRead
+pub fn check_geometry(peb_size: u32, unit: u32, sub_unit: u32) -> GeometryRead
     ensures { λ r. ⌜ geometryRead r ≡ geometryOf «peb_size» unit «sub_unit» ⌝ }
 {
     if !is_unit(unit) {

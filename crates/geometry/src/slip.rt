@@ -3,7 +3,7 @@ ghost use mathlib.Core.Path.{_≡_};
 ghost use Rattle.geometry.specs.Geometry.{geometryRead};
 ghost use Rattle.geometry.specs.Slip.{wellFormed, slipGeometry};
 use crate::GeometryRead;
-use crate::rules::measure;
+use crate::rules::check_geometry;
 
 // Are the fields those of a slip, in their order and each once?
 fn well_formed(slip: &[u8]) -> bool
@@ -34,5 +34,5 @@ pub fn read_slip(slip: &[u8]) -> GeometryRead
     let peb_size = field::read(slip, 3, 4) as u32;
     let unit = field::read(slip, 10, 2) as u32;
     let sub_unit = field::read(slip, 15, 2) as u32;
-    measure(peb_size, unit, sub_unit)
+    check_geometry(peb_size, unit, sub_unit)
 }

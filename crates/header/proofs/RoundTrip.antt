@@ -18,8 +18,8 @@ use Rattle.crc32.specs.Crc.{crcOf}
 use Rattle.crc32.proofs.Laws.{crcOf-lt}
 use Rattle.header.specs.declared.EcHeader.{EcHeader}
 use Rattle.header.specs.declared.VidHeader.{VidHeader}
-use Rattle.header.specs.Fields.{fieldOf, fieldAt, summed, Verdict, good, bad, newer, byVersion, isGood, headerBytes, headerWritten}
-use Rattle.header.specs.Ec.{ecMagic, ecFields, judgeEc, readEc, ecRead, ecHead, ecBytes, ecWritten, ecOut, EcFits, EcPadded}
+use Rattle.header.specs.Fields.{fieldOf, fieldAt, crcMatches, Verdict, good, bad, newer, byVersion, isGood, headerBytes, headerWritten}
+use Rattle.header.specs.Ec.{ecMagic, ecFields, ecRules, judgeEc, readEc, ecRead, ecHead, ecBytes, ecWritten, ecOut, EcFits, EcPadded}
 use Rattle.header.specs.Vid.{vidMagic, vidFields, vidRules, judgeVid, readVid, vidRead, vidHead, vidBytes, vidWritten, vidOut, VidFits, VidPadded}
 
 -- ---- what both headers share
@@ -66,15 +66,15 @@ module _ (l : List ℕ) (b : Bytes l) (long : 64 ≤ length l) where
   piece : (at w v : ℕ) → at + w ≤ 64 → beOf (part at w l) ≡ v → part at w l ≡ toBe w v
   piece at w v k e = sym (written-read at w l (omega arith) b) ∙ ap (toBe w) e
 
-  module _ (magic : List ℕ) (t : eqs (part 0 4 l) magic && summed l ≡ true) where
+  module _ (magic : List ℕ) (t : eqs (part 0 4 l) magic && crcMatches l ≡ true) where
     magic-is : take 4 l ≡ magic
-    magic-is = eqs-true (part 0 4 l) magic (and-left (eqs (part 0 4 l) magic) (summed l) t)
+    magic-is = eqs-true (part 0 4 l) magic (and-left (eqs (part 0 4 l) magic) (crcMatches l) t)
 
     -- the 64 bytes, once the first 60 are known
     whole : (head : List ℕ) → take 60 l ≡ head → headerBytes head ≡ take 64 l
-    unfolding summed fieldAt fieldOf
+    unfolding crcMatches fieldAt fieldOf
     whole head e =
-        let s = eqb-true (crcOf (take 60 l)) (beOf (part 60 4 l)) (and-right (eqs (part 0 4 l) magic) (summed l) t) in
+        let s = eqb-true (crcOf (take 60 l)) (beOf (part 60 4 l)) (and-right (eqs (part 0 4 l) magic) (crcMatches l) t) in
         sym (join 60 4 l e (piece 60 4 (crcOf head) (omega arith) (sym s ∙ ap crcOf e)))
 
 -- ---- the EC header
@@ -87,9 +87,9 @@ module _ (h : EcHeader) (t : List ℕ) where
   unfolding ecHead
   ec-head-bytes = bytes-each (ecHead h) (search (each-append, each-toBe, each-zero, each-ec-magic) depth 12)
 
-  ec-summed : summed (ecBytes h ++ t) ≡ true
-  unfolding summed fieldAt fieldOf ecBytes ecHead toBeOn
-  ec-summed = eq-eqb (crcOf (ecHead h)) _ (sym (read-back-fits 4 (crcOf (ecHead h)) (crcOf-lt (ecHead h) ec-head-bytes)))
+  ec-crcMatches : crcMatches (ecBytes h ++ t) ≡ true
+  unfolding crcMatches fieldAt fieldOf ecBytes ecHead toBeOn
+  ec-crcMatches = eq-eqb (crcOf (ecHead h)) _ (sym (read-back-fits 4 (crcOf (ecHead h)) (crcOf-lt (ecHead h) ec-head-bytes)))
 
   ec-magic : eqs (part 0 4 (ecBytes h ++ t)) ecMagic ≡ true
   unfolding eqs ecBytes ecHead toBeOn
@@ -112,11 +112,11 @@ module _ (h : EcHeader) (t : List ℕ) where
   -- the reader calls a written header what its fields make it: this is what refusal 19 speaks of
   pub ec-judged : EcFits h → readEc (ecBytes h ++ t) ≡ judgeEc h
   unfolding readEc
-  ec-judged f = rw (ec-magic, ec-summed, ec-fields-back f)
+  ec-judged f = rw (ec-magic, ec-crcMatches, ec-fields-back f)
 
 ec-good-is : (h : EcHeader) → isGood (judgeEc h) ≡ true → judgeEc h ≡ good h
 unfolding judgeEc
-ec-good-is h e = good-is (eqb (h .version) 1) (eqb (h .version) 0) (leb (h .counter) 0x7FFFFFFF) e
+ec-good-is h e = good-is (eqb (h .version) 1) (eqb (h .version) 0) (allOf (ecRules h)) e
 
 -- a header that was written is read as given
 pub ec-written-read : (h : EcHeader) (out : List ℕ) → EcFits h → ecWritten h out ≡ given tt → ecRead (ecOut h out) ≡ given (good h)
@@ -126,13 +126,13 @@ ec-written-read h out f e =
     rw (p .0, p .1, ec-long h (drop 64 out), ec-judged h (drop 64 out) f) (ap given (ec-good-is h (p .1)))
 
 module _ (h : EcHeader) (l : List ℕ) (b : Bytes l) (long : 64 ≤ length l) (r : readEc l ≡ good h) where
-  ec-tests : (eqs (part 0 4 l) ecMagic && summed l ≡ true) × (judgeEc (ecFields l) ≡ good h)
+  ec-tests : (eqs (part 0 4 l) ecMagic && crcMatches l ≡ true) × (judgeEc (ecFields l) ≡ good h)
   unfolding readEc
-  ec-tests = cond-yes (eqs (part 0 4 l) ecMagic && summed l) bad-not r
+  ec-tests = cond-yes (eqs (part 0 4 l) ecMagic && crcMatches l) bad-not r
 
   pub ec-fields-are : ecFields l ≡ h
   unfolding judgeEc
-  ec-fields-are = same-fields (ecFields l .version) (leb (ecFields l .counter) 0x7FFFFFFF) (ec-tests .1)
+  ec-fields-are = same-fields (ecFields l .version) (allOf (ecRules (ecFields l))) (ec-tests .1)
 
   ec-head-is : EcPadded l → take 60 l ≡ ecHead h
   unfolding ecHead ecFields fieldAt fieldOf
@@ -180,9 +180,9 @@ module _ (h : VidHeader) (t : List ℕ) where
   unfolding vidHead
   vid-head-bytes = bytes-each (vidHead h) (search (each-append, each-toBe, each-zero, each-vid-magic) depth 24)
 
-  vid-summed : summed (vidBytes h ++ t) ≡ true
-  unfolding summed fieldAt fieldOf vidBytes vidHead toBeOn
-  vid-summed = eq-eqb (crcOf (vidHead h)) _ (sym (read-back-fits 4 (crcOf (vidHead h)) (crcOf-lt (vidHead h) vid-head-bytes)))
+  vid-crcMatches : crcMatches (vidBytes h ++ t) ≡ true
+  unfolding crcMatches fieldAt fieldOf vidBytes vidHead toBeOn
+  vid-crcMatches = eq-eqb (crcOf (vidHead h)) _ (sym (read-back-fits 4 (crcOf (vidHead h)) (crcOf-lt (vidHead h) vid-head-bytes)))
 
   vid-magic : eqs (part 0 4 (vidBytes h ++ t)) vidMagic ≡ true
   unfolding eqs vidBytes vidHead toBeOn
@@ -200,7 +200,7 @@ module _ (h : VidHeader) (t : List ℕ) where
     «copy_flag» = read-back-fits 1 (h .«copy_flag») (f .copy-flag) i;
     compat = read-back-fits 1 (h .compat) (f .compat) i;
     volume = read-back-fits 4 (h .volume) (f .volume) i;
-    leb = read-back-fits 4 (h .leb) (f .leb) i;
+    lnum = read-back-fits 4 (h .lnum) (f .lnum) i;
     «data_size» = read-back-fits 4 (h .«data_size») (f .data-size) i;
     «used_lebs» = read-back-fits 4 (h .«used_lebs») (f .used-lebs) i;
     «data_pad» = read-back-fits 4 (h .«data_pad») (f .data-pad) i;
@@ -211,7 +211,7 @@ module _ (h : VidHeader) (t : List ℕ) where
   -- the reader calls a written header what its fields make it: this is what refusal 19 speaks of
   pub vid-judged : (size : ℕ) → VidFits h → readVid size (vidBytes h ++ t) ≡ judgeVid size h
   unfolding readVid
-  vid-judged size f = rw (vid-magic, vid-summed, vid-fields-back f)
+  vid-judged size f = rw (vid-magic, vid-crcMatches, vid-fields-back f)
 
 vid-good-is : (size : ℕ) → (h : VidHeader) → isGood (judgeVid size h) ≡ true → judgeVid size h ≡ good h
 unfolding judgeVid
@@ -225,9 +225,9 @@ vid-written-read size h out f e =
     rw (p .0, p .1, vid-long h (drop 64 out), vid-judged h (drop 64 out) size f) (ap given (vid-good-is size h (p .1)))
 
 module _ (size : ℕ) (h : VidHeader) (l : List ℕ) (b : Bytes l) (long : 64 ≤ length l) (r : readVid size l ≡ good h) where
-  vid-tests : (eqs (part 0 4 l) vidMagic && summed l ≡ true) × (judgeVid size (vidFields l) ≡ good h)
+  vid-tests : (eqs (part 0 4 l) vidMagic && crcMatches l ≡ true) × (judgeVid size (vidFields l) ≡ good h)
   unfolding readVid
-  vid-tests = cond-yes (eqs (part 0 4 l) vidMagic && summed l) bad-not r
+  vid-tests = cond-yes (eqs (part 0 4 l) vidMagic && crcMatches l) bad-not r
 
   pub vid-fields-are : vidFields l ≡ h
   unfolding judgeVid
@@ -257,7 +257,7 @@ module _ (size : ℕ) (h : VidHeader) (l : List ℕ) (b : Bytes l) (long : 64 �
       (piece l b long 6 1 (h .«copy_flag») (omega arith) (ap (λ (x : VidHeader). x .«copy_flag») e)))
       (piece l b long 7 1 (h .compat) (omega arith) (ap (λ (x : VidHeader). x .compat) e)))
       (piece l b long 8 4 (h .volume) (omega arith) (ap (λ (x : VidHeader). x .volume) e)))
-      (piece l b long 12 4 (h .leb) (omega arith) (ap (λ (x : VidHeader). x .leb) e)))
+      (piece l b long 12 4 (h .lnum) (omega arith) (ap (λ (x : VidHeader). x .lnum) e)))
       (z .zero-16))
       (piece l b long 20 4 (h .«data_size») (omega arith) (ap (λ (x : VidHeader). x .«data_size») e)))
       (piece l b long 24 4 (h .«used_lebs») (omega arith) (ap (λ (x : VidHeader). x .«used_lebs») e)))
@@ -281,7 +281,7 @@ vid-read-fits l b long = record {
   copy-flag = field-lt 6 1 l (omega arith) b;
   compat = field-lt 7 1 l (omega arith) b;
   volume = field-lt 8 4 l (omega arith) b;
-  leb = field-lt 12 4 l (omega arith) b;
+  lnum = field-lt 12 4 l (omega arith) b;
   data-size = field-lt 20 4 l (omega arith) b;
   used-lebs = field-lt 24 4 l (omega arith) b;
   data-pad = field-lt 28 4 l (omega arith) b;

@@ -1,15 +1,14 @@
 -- 01 'Header bytes': the erase counter (EC) header. Assumes nothing.
 use Prim.Native.Nat.{ℕ, _<_, _^_}
 use mathlib.Core.Path.{_≡_}
-use mathlib.Core.Bool.{Bool, _&&_, cond}
+use mathlib.Core.Bool.{Bool}
 use mathlib.Core.List.{List, [], _∷_, _++_}
-use lib.Dec.{ltb, leb}
-use lib.ListN.{length, take, drop, replicate}
+use lib.Dec.{leb}
+use lib.ListN.{replicate}
 use Rattle.base.specs.Answers.{Answer, given, refused}
-use Rattle.base.specs.Lists.{part, eqs}
+use Rattle.base.specs.Lists.{part}
 use Rattle.field.specs.Be.{toBe}
-use Rattle.crc32.specs.Crc.{crcOf}
-use Rattle.header.specs.Fields.{fieldAt, Verdict, good, bad, newer, byVersion, readHeader, lentHeader, headerBytes, headerWritten, headerOut}
+use Rattle.header.specs.Fields.{ecVersion, ecCounter, ecVidStart, ecDataStart, ecImageSeq, fieldAt, Verdict, good, bad, newer, judged, readHeader, lentHeader, headerBytes, headerWritten, headerOut}
 use Rattle.header.specs.declared.EcHeader.{EcHeader}
 use Rattle.header.specs.declared.EcRead.{EcRead}
 use Rattle.header.specs.declared.EcRead.the-variants.{Good, Lost, Newer, Short}
@@ -21,16 +20,19 @@ ecMagic = 0x55 ∷ 0x42 ∷ 0x49 ∷ 0x23 ∷ []
 -- "version 4, .. counter 8-15, VID start 16-19, data start 20-23, image sequence 24-27"
 unfoldable pub ecFields : List ℕ → EcHeader
 ecFields s = record {
-  version = fieldAt 0 s;
-  counter = fieldAt 1 s;
-  «vid_start» = fieldAt 2 s;
-  «data_start» = fieldAt 3 s;
-  «image_seq» = fieldAt 4 s;
+  version = fieldAt ecVersion s;
+  counter = fieldAt ecCounter s;
+  «vid_start» = fieldAt ecVidStart s;
+  «data_start» = fieldAt ecDataStart s;
+  «image_seq» = fieldAt ecImageSeq s;
 }
 
--- "lost if .. version is 0, or the counter exceeds 0x7FFFFFFF"
+-- "lost if .. the counter exceeds 0x7FFFFFFF"
+unfoldable pub ecRules : EcHeader → List Bool
+ecRules h = leb (h .counter) 0x7FFFFFFF ∷ []
+
 unfoldable pub judgeEc : EcHeader → Verdict EcHeader
-judgeEc h = byVersion (h .version) (cond (leb (h .counter) 0x7FFFFFFF) (good h) bad)
+judgeEc h = judged (h .version) (ecRules h) h
 
 -- the header in the first 64 bytes
 unfoldable pub readEc : List ℕ → Verdict EcHeader
@@ -46,8 +48,8 @@ ecAnswer Lost = given bad
 ecAnswer Newer = given newer
 ecAnswer Short = refused 4 0
 
--- bytes 0-59 as they are written: "magic 0-3, version 4, zero 5-7, counter 8-15, VID start 16-19, data start 20-23, image sequence
--- 24-27, zero 28-59"
+-- bytes 0-59 as they are written: "magic `UBI#` 0-3, version 4, zero 5-7, counter 8-15, VID start 16-19, data start 20-23, image sequence
+-- 24-27, zero 28-59"; "Padding is written as zero and read only through the CRC."
 unfoldable pub ecHead : EcHeader → List ℕ
 ecHead h =
     ecMagic ++ toBe 1 (h .version) ++ replicate 3 0 ++ toBe 8 (h .counter) ++ toBe 4 (h .«vid_start») ++ toBe 4 (h .«data_start»)

@@ -1,16 +1,16 @@
 -- 01 'Header bytes': where the fields of both headers stand, and what judging a header can say. Assumes nothing.
-use Prim.Native.Nat.{ℕ, _+_}
+use Prim.Native.Nat.{ℕ}
 use mathlib.Core.Bool.{Bool, true, false, _&&_, cond}
 use mathlib.Core.List.{List, [], _∷_, _++_}
 use lib.Dec.{eqb, ltb}
 use lib.ListN.{length, take, drop, getD}
-use Rattle.base.specs.Answers.{Answer, given, refused}
+use Rattle.base.specs.Answers.{Answer, given, refused, allOf}
 use Rattle.base.specs.Lists.{part, eqs}
 use Rattle.field.specs.Be.{beOf, toBe}
 use Rattle.crc32.specs.Crc.{crcOf}
 use Rattle.header.specs.declared.Field.{Field}
 use Rattle.header.specs.declared.Written.{Written}
-use Rattle.header.specs.declared.Written.the-variants.{Done, Short, Unreadable}
+use Rattle.header.specs.declared.Written.the-variants.{Done, Short, NotGood}
 
 -- "One constant table of field offsets and widths serves reader and writer."
 abbrev pub fields : List Field
@@ -23,8 +23,60 @@ fields =
     ∷ record { at = 4; width = 1 } ∷ record { at = 5; width = 1 } ∷ record { at = 6; width = 1 } ∷ record { at = 7; width = 1 }
     ∷ record { at = 8; width = 4 } ∷ record { at = 12; width = 4 } ∷ record { at = 20; width = 4 } ∷ record { at = 24; width = 4 }
     ∷ record { at = 28; width = 4 } ∷ record { at = 32; width = 4 } ∷ record { at = 40; width = 8 }
-    -- both: "CRC of bytes 0-59 at 60-63"
+    -- both: "CRC of .. 0-59 at 60-63"
     ∷ record { at = 60; width = 4 } ∷ []
+
+-- the fields' numbers in the table
+abbrev pub ecVersion : ℕ
+ecVersion = 0
+
+abbrev pub ecCounter : ℕ
+ecCounter = 1
+
+abbrev pub ecVidStart : ℕ
+ecVidStart = 2
+
+abbrev pub ecDataStart : ℕ
+ecDataStart = 3
+
+abbrev pub ecImageSeq : ℕ
+ecImageSeq = 4
+
+abbrev pub vidVersion : ℕ
+vidVersion = 5
+
+abbrev pub vidType : ℕ
+vidType = 6
+
+abbrev pub vidCopyFlag : ℕ
+vidCopyFlag = 7
+
+abbrev pub vidCompat : ℕ
+vidCompat = 8
+
+abbrev pub vidVolume : ℕ
+vidVolume = 9
+
+abbrev pub vidLnum : ℕ
+vidLnum = 10
+
+abbrev pub vidDataSize : ℕ
+vidDataSize = 11
+
+abbrev pub vidUsedLebs : ℕ
+vidUsedLebs = 12
+
+abbrev pub vidDataPad : ℕ
+vidDataPad = 13
+
+abbrev pub vidDataCrc : ℕ
+vidDataCrc = 14
+
+abbrev pub vidSequence : ℕ
+vidSequence = 15
+
+abbrev pub headerCrc : ℕ
+headerCrc = 16
 
 -- field i of the table
 unfoldable pub fieldOf : ℕ → Field
@@ -35,11 +87,11 @@ unfoldable pub fieldAt : ℕ → List ℕ → ℕ
 fieldAt i s = beOf (part (fieldOf i .at) (fieldOf i .width) s)
 
 -- "CRC of bytes 0-59 at 60-63": does it match?
-unfoldable pub summed : List ℕ → Bool
-summed s = eqb (crcOf (take 60 s)) (fieldAt 16 s)
+unfoldable pub crcMatches : List ℕ → Bool
+crcMatches s = eqb (crcOf (take 60 s)) (fieldAt headerCrc s)
 
--- what the fields of a header with magic and CRC right make it: bad is 01's "lost" of an EC header and "bad" of a VID header;
--- newer has "a version above 1"
+-- what a header is: good with its fields; bad, which is 01's "lost" of an EC header and "bad" of a VID header; newer, with magic and
+-- CRC right and "a version above 1"
 pub data Verdict (A : Type 0) : Type 0 where
   good : A → Verdict A
   bad : Verdict A
@@ -50,6 +102,10 @@ module _ {A : Type 0} where
   abbrev pub byVersion : ℕ → Verdict A → Verdict A
   byVersion version rest = cond (eqb version 1) rest (cond (eqb version 0) bad newer)
 
+  -- a header with magic and CRC right, by its version and then by the rules of its other fields
+  abbrev pub judged : ℕ → List Bool → A → Verdict A
+  judged version rules h = byVersion version (cond (allOf rules) (good h) bad)
+
   abbrev pub isGood : Verdict A → Bool
   isGood (good h) = true
   isGood bad = false
@@ -57,13 +113,14 @@ module _ {A : Type 0} where
 
   -- the first 64 bytes as a header: lost or bad "if magic or CRC is wrong", else by its fields
   abbrev pub readHeader : List ℕ → (List ℕ → Verdict A) → List ℕ → Verdict A
-  readHeader magic judge s = cond (eqs (part 0 4 s) magic && summed s) (judge s) bad
+  readHeader magic judge s = cond (eqs (part 0 4 s) magic && crcMatches s) (judge s) bad
 
   -- refusal 4 where fewer than 64 bytes are lent
   abbrev pub lentHeader : Verdict A → List ℕ → Answer (Verdict A)
   lentHeader v s = cond (ltb (length s) 64) (refused 4 0) (given v)
 
-  -- refusal 4, then 19: "reader would call the header lost, bad or newer"
+  -- refusal 4, then 19: "reader would call the header lost, bad or newer"; that the reader calls a written header what its fields
+  -- make it, good or not, is `ec-judged` and `vid-judged` of proofs/RoundTrip.antt
   abbrev pub headerWritten : Verdict A → List ℕ → Answer (Unit {0})
   headerWritten v out = cond (ltb (length out) 64) (refused 4 0) (cond (isGood v) (given tt) (refused 19 0))
 
@@ -79,4 +136,4 @@ headerBytes head = head ++ toBe 4 (crcOf head)
 abbrev pub written : Written → Answer (Unit {0})
 written Done = given tt
 written Short = refused 4 0
-written Unreadable = refused 19 0
+written NotGood = refused 19 0

@@ -6,7 +6,7 @@ use lib.ListN.{take, drop, replicate}
 use Rattle.base.specs.Lists.{put}
 use Rattle.field.specs.Be.{toBe}
 use Rattle.crc32.specs.Crc.{crcOf}
-use Rattle.header.specs.Fields.{fieldOf}
+use Rattle.header.specs.Fields.{fieldOf, headerCrc, ecVersion, ecCounter, ecVidStart, ecDataStart, ecImageSeq, vidVersion, vidType, vidCopyFlag, vidCompat, vidVolume, vidLnum, vidDataSize, vidUsedLebs, vidDataPad, vidDataCrc, vidSequence}
 use Rattle.header.specs.declared.EcHeader.{EcHeader}
 use Rattle.header.specs.declared.VidHeader.{VidHeader}
 
@@ -20,18 +20,18 @@ blankHeader magic s = put 0 magic (replicate 64 0 ++ drop 64 s)
 
 -- the bytes s with their CRC stored
 unfoldable pub withSum : List ℕ → List ℕ
-withSum s = stored 16 (crcOf (take 60 s)) s
+withSum s = stored headerCrc (crcOf (take 60 s)) s
 
 -- the bytes s with the fields of an EC header stored
 unfoldable pub ecStored : EcHeader → List ℕ → List ℕ
-ecStored h s = stored 4 (h .«image_seq») (stored 3 (h .«data_start») (stored 2 (h .«vid_start») (stored 1 (h .counter) (stored 0 (h .version) s))))
+ecStored h s = stored ecImageSeq (h .«image_seq») (stored ecDataStart (h .«data_start») (stored ecVidStart (h .«vid_start») (stored ecCounter (h .counter) (stored ecVersion (h .version) s))))
 
 -- the bytes s with the fields of a VID header stored, in three runs
 unfoldable pub kindStored : VidHeader → List ℕ → List ℕ
-kindStored h s = stored 8 (h .compat) (stored 7 (h .«copy_flag») (stored 6 (h .«vol_type») (stored 5 (h .version) s)))
+kindStored h s = stored vidCompat (h .compat) (stored vidCopyFlag (h .«copy_flag») (stored vidType (h .«vol_type») (stored vidVersion (h .version) s)))
 
 unfoldable pub placeStored : VidHeader → List ℕ → List ℕ
-placeStored h s = stored 15 (h .sequence) (stored 10 (h .leb) (stored 9 (h .volume) s))
+placeStored h s = stored vidSequence (h .sequence) (stored vidLnum (h .lnum) (stored vidVolume (h .volume) s))
 
 unfoldable pub dataStored : VidHeader → List ℕ → List ℕ
-dataStored h s = stored 14 (h .«data_crc») (stored 13 (h .«data_pad») (stored 12 (h .«used_lebs») (stored 11 (h .«data_size») s)))
+dataStored h s = stored vidDataCrc (h .«data_crc») (stored vidDataPad (h .«data_pad») (stored vidUsedLebs (h .«used_lebs») (stored vidDataSize (h .«data_size») s)))

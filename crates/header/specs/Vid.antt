@@ -1,15 +1,37 @@
 -- 01 'Header bytes': the volume identifier (VID) header. Assumes nothing.
 use Prim.Native.Nat.{ℕ, _+_, _-_, _*_, _<_, _^_}
 use mathlib.Core.Path.{_≡_}
-use mathlib.Core.Bool.{Bool, not, _&&_, _||_, cond}
+use mathlib.Core.Bool.{Bool, not, _&&_, _||_}
 use mathlib.Core.List.{List, [], _∷_, _++_}
 use lib.Dec.{eqb, ltb, leb}
-use lib.ListN.{length, drop, replicate}
-use Rattle.base.specs.Answers.{Answer, given, refused, allOf}
-use Rattle.base.specs.Lists.{part, eqs}
+use lib.ListN.{replicate}
+use Rattle.base.specs.Answers.{Answer, given, refused}
+use Rattle.base.specs.Lists.{part}
 use Rattle.field.specs.Be.{toBe}
-use Rattle.crc32.specs.Crc.{crcOf}
-use Rattle.header.specs.Fields.{fieldAt, Verdict, good, bad, newer, byVersion, readHeader, lentHeader, headerBytes, headerWritten, headerOut}
+use Rattle.header.specs.Fields.{
+  vidVersion,
+  vidType,
+  vidCopyFlag,
+  vidCompat,
+  vidVolume,
+  vidLnum,
+  vidDataSize,
+  vidUsedLebs,
+  vidDataPad,
+  vidDataCrc,
+  vidSequence,
+  fieldAt,
+  Verdict,
+  good,
+  bad,
+  newer,
+  judged,
+  readHeader,
+  lentHeader,
+  headerBytes,
+  headerWritten,
+  headerOut,
+}
 use Rattle.header.specs.declared.VidHeader.{VidHeader}
 use Rattle.header.specs.declared.VidRead.{VidRead}
 use Rattle.header.specs.declared.VidRead.the-variants.{Good, Bad, Newer, Short}
@@ -22,17 +44,17 @@ vidMagic = 0x55 ∷ 0x42 ∷ 0x49 ∷ 0x21 ∷ []
 -- data CRC 32-35, .. sequence 40-47"
 unfoldable pub vidFields : List ℕ → VidHeader
 vidFields s = record {
-  version = fieldAt 5 s;
-  «vol_type» = fieldAt 6 s;
-  «copy_flag» = fieldAt 7 s;
-  compat = fieldAt 8 s;
-  volume = fieldAt 9 s;
-  leb = fieldAt 10 s;
-  «data_size» = fieldAt 11 s;
-  «used_lebs» = fieldAt 12 s;
-  «data_pad» = fieldAt 13 s;
-  «data_crc» = fieldAt 14 s;
-  sequence = fieldAt 15 s;
+  version = fieldAt vidVersion s;
+  «vol_type» = fieldAt vidType s;
+  «copy_flag» = fieldAt vidCopyFlag s;
+  compat = fieldAt vidCompat s;
+  volume = fieldAt vidVolume s;
+  lnum = fieldAt vidLnum s;
+  «data_size» = fieldAt vidDataSize s;
+  «used_lebs» = fieldAt vidUsedLebs s;
+  «data_pad» = fieldAt vidDataPad s;
+  «data_crc» = fieldAt vidDataCrc s;
+  sequence = fieldAt vidSequence s;
 }
 
 -- if the first, then the second
@@ -50,12 +72,12 @@ volumeRule h =
     || (leb layoutVolume (h .volume)
     && (leb (h .volume) 0x7FFFFFFF && (eqb (h .compat) 1 || (eqb (h .compat) 2 || (eqb (h .compat) 4 || eqb (h .compat) 5)))))
 
--- "static: LEB below used LEBs, data size above 0, and equal to LEB size less pad unless LEB is the last used"
+-- `size` is the LEB size: "static: LEB below used LEBs, data size above 0, and equal to LEB size less pad unless LEB is the last used"
 unfoldable pub staticRule : ℕ → VidHeader → Bool
 staticRule size h =
     implies (eqb (h .«vol_type») 2)
-    (ltb (h .leb) (h .«used_lebs»)
-    && (ltb 0 (h .«data_size») && (eqb (h .leb + 1) (h .«used_lebs») || eqb (h .«data_size») (size - h .«data_pad»))))
+    (ltb (h .lnum) (h .«used_lebs»)
+    && (ltb 0 (h .«data_size») && (eqb (h .lnum + 1) (h .«used_lebs») || eqb (h .«data_size») (size - h .«data_pad»))))
 
 -- "dynamic: used LEBs 0; with copy flag 0, data size and CRC 0; with copy flag 1, data size above 0"
 unfoldable pub dynamicRule : VidHeader → Bool
@@ -69,7 +91,7 @@ dynamicRule h =
 unfoldable pub layoutRule : VidHeader → Bool
 layoutRule h =
     implies (eqb (h .volume) layoutVolume)
-    (eqb (h .«vol_type») 1 && (eqb (h .compat) 5 && (eqb (h .«data_pad») 0 && leb (h .leb) 1)))
+    (eqb (h .«vol_type») 1 && (eqb (h .compat) 5 && (eqb (h .«data_pad») 0 && leb (h .lnum) 1)))
 
 -- "A VID header is also bad unless all hold", in 01's order; `size` is the LEB size
 unfoldable pub vidRules : ℕ → VidHeader → List Bool
@@ -77,13 +99,13 @@ vidRules size h =
     -- "copy flag 0 or 1; type 1 (dynamic) or 2 (static)"
     leb (h .«copy_flag») 1 ∷ (eqb (h .«vol_type») 1 || eqb (h .«vol_type») 2)
     -- volume with compatibility; "LEB and used LEBs at most 0x7FFFFFFF"
-    ∷ volumeRule h ∷ leb (h .leb) 0x7FFFFFFF ∷ leb (h .«used_lebs») 0x7FFFFFFF
+    ∷ volumeRule h ∷ leb (h .lnum) 0x7FFFFFFF ∷ leb (h .«used_lebs») 0x7FFFFFFF
     -- "twice data pad below LEB size; data size at most LEB size less pad"
     ∷ ltb (2 * h .«data_pad») size ∷ leb (h .«data_size») (size - h .«data_pad»)
     ∷ staticRule size h ∷ dynamicRule h ∷ layoutRule h ∷ []
 
 unfoldable pub judgeVid : ℕ → VidHeader → Verdict VidHeader
-judgeVid size h = byVersion (h .version) (cond (allOf (vidRules size h)) (good h) bad)
+judgeVid size h = judged (h .version) (vidRules size h) h
 
 -- the header in the first 64 bytes
 unfoldable pub readVid : ℕ → List ℕ → Verdict VidHeader
@@ -99,12 +121,12 @@ vidAnswer Bad = given bad
 vidAnswer Newer = given newer
 vidAnswer Short = refused 4 0
 
--- bytes 0-59 as they are written: "magic 0-3, version 4, type 5, copy flag 6, compatibility 7, volume 8-11, LEB 12-15, zero 16-19,
--- data size 20-23, used LEBs 24-27, data pad 28-31, data CRC 32-35, zero 36-39, sequence 40-47, zero 48-59"
+-- bytes 0-59 as they are written: "magic `UBI!` 0-3, version 4, type 5, copy flag 6, compatibility 7, volume 8-11, LEB 12-15, zero 16-19,
+-- data size 20-23, used LEBs 24-27, data pad 28-31, data CRC 32-35, zero 36-39, sequence 40-47, zero 48-59"; "Padding is written as zero and read only through the CRC."
 unfoldable pub vidHead : VidHeader → List ℕ
 vidHead h =
     vidMagic ++ toBe 1 (h .version) ++ toBe 1 (h .«vol_type») ++ toBe 1 (h .«copy_flag») ++ toBe 1 (h .compat) ++ toBe 4 (h .volume)
-    ++ toBe 4 (h .leb) ++ replicate 4 0 ++ toBe 4 (h .«data_size») ++ toBe 4 (h .«used_lebs») ++ toBe 4 (h .«data_pad»)
+    ++ toBe 4 (h .lnum) ++ replicate 4 0 ++ toBe 4 (h .«data_size») ++ toBe 4 (h .«used_lebs») ++ toBe 4 (h .«data_pad»)
     ++ toBe 4 (h .«data_crc») ++ replicate 4 0 ++ toBe 8 (h .sequence) ++ replicate 12 0
 
 unfoldable pub vidBytes : VidHeader → List ℕ
@@ -124,7 +146,7 @@ pub record VidFits (h : VidHeader) : Type 0 where
   pub copy-flag : h .«copy_flag» < 256 ^ 1
   pub compat : h .compat < 256 ^ 1
   pub volume : h .volume < 256 ^ 4
-  pub leb : h .leb < 256 ^ 4
+  pub lnum : h .lnum < 256 ^ 4
   pub data-size : h .«data_size» < 256 ^ 4
   pub used-lebs : h .«used_lebs» < 256 ^ 4
   pub data-pad : h .«data_pad» < 256 ^ 4

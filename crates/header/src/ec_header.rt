@@ -93,7 +93,7 @@ pub fn write_ec(h: EcHeader, out: &mut [u8]) -> Written
         return Written::Short;
     }
     if !ec_readable(h) {
-        return Written::Unreadable;
+        return Written::NotGood;
     }
     begin(out, b"UBI#");
     set_ec_fields(h, out);

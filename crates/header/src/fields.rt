@@ -4,7 +4,7 @@ ghost use mathlib.Core.Bool.{_&&_};
 ghost use Prim.Native.Nat.{_+_, _^_, _≤_, _<_};
 ghost use lib.ListN.{length};
 ghost use Rattle.base.specs.Lists.{part, eqs};
-ghost use Rattle.header.specs.Fields.{fieldOf, fieldAt, summed};
+ghost use Rattle.header.specs.Fields.{fieldOf, fieldAt, crcMatches};
 ghost use Rattle.header.specs.Stores.{stored, blankHeader, withSum};
 use crate::Field;
 
@@ -28,7 +28,7 @@ pub const VID_COMPAT: usize = 8;
 
 pub const VID_VOLUME: usize = 9;
 
-pub const VID_LEB: usize = 10;
+pub const VID_LNUM: usize = 10;
 
 pub const VID_DATA_SIZE: usize = 11;
 
@@ -91,7 +91,7 @@ pub fn set(s: &mut [u8], i: usize, v: u64)
 // Are magic and CRC right?
 pub fn is_header(s: &[u8], magic: &[u8]) -> bool
     requires { ⌜ 64 ≤ length (now s) ⌝ }
-    ensures { λ r. ⌜ r ≡ (eqs (part 0 4 (now (s .entry))) (now (magic .entry)) && summed (now (s .entry))) ⌝ }
+    ensures { λ r. ⌜ r ≡ (eqs (part 0 4 (now (s .entry))) (now (magic .entry)) && crcMatches (now (s .entry))) ⌝ }
 {
     if !base::same(&s[0..4], magic) {
         return false;

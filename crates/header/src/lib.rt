@@ -37,7 +37,7 @@ pub struct VidHeader {
     pub copy_flag: u8,
     pub compat: u8,
     pub volume: u32,
-    pub leb: u32,
+    pub lnum: u32,
     pub data_size: u32,
     pub used_lebs: u32,
     pub data_pad: u32,
@@ -53,9 +53,9 @@ pub enum VidRead {
     Short,
 }
 
-// Whether a header was written; Short is refusal 4, Unreadable is refusal 19.
+// Whether a header was written; Short is refusal 4, NotGood is refusal 19.
 pub enum Written {
     Done,
     Short,
-    Unreadable,
+    NotGood,
 }

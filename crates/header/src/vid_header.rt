@@ -14,7 +14,7 @@ use crate::fields::VID_COPY_FLAG;
 use crate::fields::VID_DATA_CRC;
 use crate::fields::VID_DATA_PAD;
 use crate::fields::VID_DATA_SIZE;
-use crate::fields::VID_LEB;
+use crate::fields::VID_LNUM;
 use crate::fields::VID_SEQUENCE;
 use crate::fields::VID_TYPE;
 use crate::fields::VID_USED_LEBS;
@@ -38,7 +38,7 @@ fn vid_fields(s: &[u8]) -> VidHeader
         copy_flag: get(s, VID_COPY_FLAG) as u8,
         compat: get(s, VID_COMPAT) as u8,
         volume: get(s, VID_VOLUME) as u32,
-        leb: get(s, VID_LEB) as u32,
+        lnum: get(s, VID_LNUM) as u32,
         data_size: get(s, VID_DATA_SIZE) as u32,
         used_lebs: get(s, VID_USED_LEBS) as u32,
         data_pad: get(s, VID_DATA_PAD) as u32,
@@ -103,7 +103,7 @@ fn set_place(h: VidHeader, out: &mut [u8])
     ensures { λ _. ⌜ now (out .exit) ≡ placeStored h (now (out .entry)) ⌝ }
 {
     set(out, VID_VOLUME, h.volume as u64);
-    set(out, VID_LEB, h.leb as u64);
+    set(out, VID_LNUM, h.lnum as u64);
     set(out, VID_SEQUENCE, h.sequence);
 }
 
@@ -126,7 +126,7 @@ pub fn write_vid(h: VidHeader, leb_size: u32, out: &mut [u8]) -> Written
         return Written::Short;
     }
     if !vid_readable(h, leb_size) {
-        return Written::Unreadable;
+        return Written::NotGood;
     }
     begin(out, b"UBI!");
     set_kind(h, out);

@@ -53,13 +53,13 @@ fn static_rule(h: VidHeader, leb_size: u32) -> bool
     if h.vol_type != 2 {
         return true;
     }
-    if h.used_lebs <= h.leb {
+    if h.used_lebs <= h.lnum {
         return false;
     }
     if h.data_size == 0 {
         return false;
     }
-    if h.leb + 1 == h.used_lebs {
+    if h.lnum + 1 == h.used_lebs {
         return true;
     }
     h.data_size == leb_size - h.data_pad
@@ -103,7 +103,7 @@ fn layout_rule(h: VidHeader) -> bool
     if h.data_pad != 0 {
         return false;
     }
-    h.leb <= 1
+    h.lnum <= 1
 }
 
 // Do all rules hold?
@@ -119,7 +119,7 @@ pub fn rules_hold(h: VidHeader, leb_size: u32) -> bool
     if !volume_rule(h) {
         return false;
     }
-    if 0x7FFFFFFF < h.leb {
+    if 0x7FFFFFFF < h.lnum {
         return false;
     }
     if 0x7FFFFFFF < h.used_lebs {

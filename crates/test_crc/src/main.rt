@@ -7,17 +7,25 @@ fn main() {
     let mut buf = [0u8; 65536];
     // A proved loop ends: no input has so many frames.
     for _ in 0u32..1000000 {
-        let Frame::Payload(n) = frames::next(&mut buf) else {
+        if !turn(&mut buf) {
             break;
-        };
-        answer(&buf[0..n]);
+        }
     }
+}
+
+// The answer to the next frame, if there is one.
+fn turn(buf: &mut [u8]) -> bool {
+    let Frame::Payload(n) = frames::next(buf) else {
+        return false;
+    };
+    answer(&buf[0..n]);
+    frames::line_end();
+    true
 }
 
 fn answer(payload: &[u8]) {
     let from = start(payload);
     frames::number(crc32::crc32(&payload[from..]) as u64);
-    frames::line_end();
 }
 
 // Where the bytes begin: at the end, if the first byte says more.

@@ -7,8 +7,7 @@ use Rattle.test_crc.proofs.main.Statement.{statement}
 use Rattle.test_crc.proofs.main.Tie as tie
 use Rattle.test_crc.proofs.main.Reads as reads
 use Rattle.test_crc.proofs.main.Lts as lts
-use Rattle.frames.proofs.next.Reads as next-reads
-use Rattle.test_crc.proofs.answer.Reads as answer-reads
+use Rattle.test_crc.proofs.turn.Reads as turn-reads
 
 abbrev Inv-loop : tie.InvT-loop
 Inv-loop buf₀ counter₀ buf counter = length buf ≡ 65536
@@ -19,29 +18,11 @@ abbrev μ-loop : tie.MeasureT-loop
 loop-holds : tie.Need-loop-holds Inv-loop μ-loop
 loop-holds c = search needs
 
-slice-aggregate-next : tie.Need-slice-aggregate-next Inv-loop μ-loop
-slice-aggregate-next c = search needs
+slice-aggregate-turn : tie.Need-slice-aggregate-turn Inv-loop μ-loop
+slice-aggregate-turn c = search needs
 
-next-requires : tie.Need-next-requires Inv-loop μ-loop
-next-requires c κs = search needs
-
-enum-known-n : tie.Need-enum-known-n Inv-loop μ-loop
-enum-known-n c = search needs
-
-enum-told : tie.Need-enum-told Inv-loop μ-loop
-enum-told c = search needs
-
-sub-answer : tie.Need-sub-answer Inv-loop μ-loop
-sub-answer c = search needs
-
-part-answer-start : tie.Need-part-answer-start Inv-loop μ-loop
-part-answer-start c = search needs
-
-part-answer-end : tie.Need-part-answer-end Inv-loop μ-loop
-part-answer-end c = rw (c .before .before .n .given .1) at (c .before .before .before .before .before .next .ensures)
-
-answer-requires : tie.Need-answer-requires Inv-loop μ-loop
-answer-requires c κs = search needs
+turn-requires : tie.Need-turn-requires Inv-loop μ-loop
+turn-requires c κs = search needs
 
 add-counter : tie.Need-add-counter Inv-loop μ-loop
 add-counter c = search needs
@@ -65,14 +46,8 @@ main-spec =
     Inv-loop
     μ-loop
     loop-holds
-    slice-aggregate-next
-    next-requires
-    enum-known-n
-    enum-told
-    sub-answer
-    part-answer-start
-    part-answer-end
-    answer-requires
+    slice-aggregate-turn
+    turn-requires
     add-counter
     loop-less
     loop-again

@@ -14,7 +14,7 @@ use Rattle.geometry.proofs.slip.read_slip.Tie as tie
 use Rattle.geometry.proofs.slip.read_slip.Reads as reads
 use Rattle.geometry.proofs.slip.read_slip.Lts as lts
 use Rattle.field.proofs.read.Reads as read-reads
-use Rattle.geometry.proofs.rules.measure.Reads as measure-reads
+use Rattle.geometry.proofs.rules.check_geometry.Reads as check-geometry-reads
 use Rattle.geometry.proofs.slip.well_formed.Reads as well-formed-reads
 
 well-formed-requires : tie.Need-well-formed-requires
@@ -49,12 +49,12 @@ read-requires-3 c κs = omega (arith, twenty (c .before .before))
 cast-sub-unit : tie.Need-cast-sub-unit
 cast-sub-unit c = search needs
 
-measure-requires : tie.Need-measure-requires
-measure-requires c κs = search needs
+check-geometry-requires : tie.Need-check-geometry-requires
+check-geometry-requires c κs = search needs
 
 returns-2 : tie.Need-returns-2
 unfolding slipGeometry valueAt
-returns-2 c = c .measure .ensures ∙ rw (formed (c .before .before .before .before), c .before .before .before .read .ensures .0, c .before .before .read2 .ensures .0, c .before .read3 .ensures .0)
+returns-2 c = c .check-geometry .ensures ∙ rw (formed (c .before .before .before .before), c .before .before .before .read .ensures .0, c .before .before .read2 .ensures .0, c .before .read3 .ensures .0)
 
 pub read-slip-spec : {M : Type 1} → statement M
 read-slip-spec =
@@ -68,5 +68,5 @@ read-slip-spec =
     cast-unit
     read-requires-3
     cast-sub-unit
-    measure-requires
+    check-geometry-requires
     returns-2)

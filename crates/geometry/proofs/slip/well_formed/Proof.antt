@@ -6,7 +6,7 @@ use borrow.Author.Needs.{needs}
 use mathlib.Core.Bool.{true}
 use borrow.Author.Tests.{not-true, not-false, eq-eqb, ne-eqb}
 use Rattle.field.specs.Be.{toBeOn}
-use Rattle.geometry.specs.Slip.{opens, slipRules}
+use Rattle.geometry.specs.Slip.{hasField, slipRules}
 use Rattle.geometry.proofs.Laws.{malformed, last-field}
 use borrow.Author.Needs.{needs}
 use Rattle.geometry.proofs.slip.well_formed.Statement.{statement}
@@ -35,7 +35,7 @@ same-requires : tie.Need-same-requires
 same-requires c κs = search needs
 
 returns-2 : tie.Need-returns-2
-unfolding slipRules opens toBeOn
+unfolding slipRules hasField toBeOn
 returns-2 c = malformed (c .before .before .before .before .before .before .args .slip .now) 0 (sym (c .before .same .ensures) ∙ not-true (c .before .same .result) (c .if2 .taken))
 
 sub-same-2 : tie.Need-sub-same-2
@@ -54,7 +54,7 @@ same-requires-2 : tie.Need-same-requires-2
 same-requires-2 c κs = search needs
 
 returns-3 : tie.Need-returns-3
-unfolding slipRules opens toBeOn
+unfolding slipRules hasField toBeOn
 returns-3 c = malformed (c .before .before .before .before .before .before .before .before .before .before .args .slip .now) 1 (sym (c .before .same2 .ensures) ∙ not-true (c .before .same2 .result) (c .if3 .taken))
 
 sub-same-3 : tie.Need-sub-same-3
@@ -73,7 +73,7 @@ same-requires-3 : tie.Need-same-requires-3
 same-requires-3 c κs = search needs
 
 returns-4 : tie.Need-returns-4
-unfolding slipRules opens toBeOn
+unfolding slipRules hasField toBeOn
 returns-4 c = malformed (c .before .before .before .before .before .before .before .before .before .before .before .before .before .before .args .slip .now) 2 (sym (c .before .same3 .ensures) ∙ not-true (c .before .same3 .result) (c .if4 .taken))
 
 sub-same-4 : tie.Need-sub-same-4
@@ -92,7 +92,7 @@ same-requires-4 : tie.Need-same-requires-4
 same-requires-4 c κs = search needs
 
 returns-5 : tie.Need-returns-5
-unfolding opens toBeOn
+unfolding hasField toBeOn
 returns-5 c =
     last-field (c .before .before .before .before .before .before .before .before .before .before .before .before .before .before .before .before .before .args .slip .now) (c .before .before .before .before .before .before .before .before .before .before .before .before .before .before .before .if1 .left)
     (sym (c .before .before .before .before .before .before .before .before .before .before .before .before .same .ensures) ∙ not-false (c .before .before .before .before .before .before .before .before .before .before .before .before .same .result) (c .before .before .before .before .before .before .before .before .before .before .before .if2 .left))

@@ -3,7 +3,8 @@ use mathlib.Core.Path.{_≡_, refl, sym, ap, _∙_}
 use Prim.Native.Nat.{_≤_, _<_, _-_, _+_}
 use native.Mathlib.Omega.{arith}
 use borrow.Author.Needs.{needs}
-use Rattle.header.specs.Ec.{judgeEc}
+use mathlib.Core.Bool.{and-true}
+use Rattle.header.specs.Ec.{ecRules, judgeEc}
 use Rattle.header.proofs.Laws.{not-version-one, version-one, good-if}
 use Rattle.header.proofs.ec_header.ec_readable.Statement.{statement}
 use Rattle.header.proofs.ec_header.ec_readable.Tie as tie
@@ -11,12 +12,12 @@ use Rattle.header.proofs.ec_header.ec_readable.Reads as reads
 use Rattle.header.proofs.ec_header.ec_readable.Lts as lts
 
 returns : tie.Need-returns
-unfolding judgeEc
+unfolding judgeEc ecRules
 returns c = sym (not-version-one _ (c .before .before .args .h .version) (c .if1 .taken))
 
 returns-2 : tie.Need-returns-2
-unfolding judgeEc
-returns-2 c = rw (version-one _ (c .before .before .before .args .h .version) (c .before .if1 .left)) (sym (good-if _ _))
+unfolding judgeEc ecRules
+returns-2 c = rw (version-one _ (c .before .before .before .args .h .version) (c .before .if1 .left)) (sym (good-if _ _ ∙ and-true _))
 
 pub ec-readable-spec : {M : Type 1} → statement M
 ec-readable-spec = tie.close (tie.spec returns returns-2)

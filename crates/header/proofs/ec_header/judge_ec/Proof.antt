@@ -5,7 +5,7 @@ use native.Mathlib.Omega.{arith}
 use borrow.Author.Needs.{needs}
 use borrow.Author.Tests.{le-leb, lt-leb}
 use Rattle.base.specs.Answers.{given}
-use Rattle.header.specs.Ec.{judgeEc}
+use Rattle.header.specs.Ec.{ecRules, judgeEc}
 use Rattle.header.proofs.Laws.{version-zero, version-newer, version-one}
 use Rattle.header.proofs.ec_header.judge_ec.Statement.{statement}
 use Rattle.header.proofs.ec_header.judge_ec.Tie as tie
@@ -13,19 +13,19 @@ use Rattle.header.proofs.ec_header.judge_ec.Reads as reads
 use Rattle.header.proofs.ec_header.judge_ec.Lts as lts
 
 returns : tie.Need-returns
-unfolding judgeEc
+unfolding judgeEc ecRules
 returns c = rw (version-zero _ (c .before .before .args .h .version) (c .if1 .taken))
 
 returns-2 : tie.Need-returns-2
-unfolding judgeEc
+unfolding judgeEc ecRules
 returns-2 c = rw (version-newer _ (c .before .before .before .before .args .h .version) (c .before .before .if1 .left) (c .if2 .taken))
 
 returns-3 : tie.Need-returns-3
-unfolding judgeEc
+unfolding judgeEc ecRules
 returns-3 c = rw (version-one _ (c .before .before .before .before .before .before .args .h .version) (c .before .before .if2 .left), lt-leb _ _ (c .if3 .taken))
 
 returns-4 : tie.Need-returns-4
-unfolding judgeEc
+unfolding judgeEc ecRules
 returns-4 c = rw (version-one _ (c .before .before .before .before .before .before .args .h .version) (c .before .before .if2 .left), le-leb _ _ (c .if3 .left))
 
 pub judge-ec-spec : {M : Type 1} → statement M

@@ -4,7 +4,7 @@ use Prim.Native.Nat.{_≤_, _<_, _-_, _+_}
 use native.Mathlib.Omega.{arith}
 use borrow.Author.Needs.{needs}
 use borrow.Author.Tests.{not-true, not-false}
-use Rattle.header.specs.Fields.{summed}
+use Rattle.header.specs.Fields.{crcMatches}
 use borrow.Author.Needs.{needs}
 use Rattle.header.proofs.fields.is_header.Statement.{statement}
 use Rattle.header.proofs.fields.is_header.Tie as tie
@@ -48,7 +48,7 @@ get-requires : tie.Need-get-requires
 get-requires c κs = search needs
 
 returns-2 : tie.Need-returns-2
-unfolding summed
+unfolding crcMatches
 returns-2 c = rw (← (c .before .before .before .before .same .ensures), not-false (c .before .before .before .before .same .result) (c .before .before .before .if1 .left), c .before .crc32 .ensures, c .get .ensures .0)
 
 pub is-header-spec : {M : Type 1} → statement M

@@ -1,4 +1,4 @@
--- `geometry::rules::measure` meets its contract: one broken rule refuses, else the geometry is the one of the rules. Assumes nothing.
+-- `geometry::rules::check_geometry` meets its contract: one broken rule refuses, else the geometry is the one of the rules. Assumes nothing.
 use mathlib.Core.Path.{_≡_, refl, sym, ap, _∙_}
 use Prim.Native.Nat.{_≤_, _<_, _-_, _+_}
 use native.Mathlib.Omega.{arith}
@@ -8,10 +8,10 @@ use borrow.Author.Tests.{not-true, not-false, lt-leb, ne-eqb}
 use Rattle.geometry.specs.Geometry.{goodUnit, geometryRules}
 use Rattle.geometry.proofs.Laws.{unit-range, outside, inside, too-short}
 use borrow.Author.Needs.{needs}
-use Rattle.geometry.proofs.rules.measure.Statement.{statement}
-use Rattle.geometry.proofs.rules.measure.Tie as tie
-use Rattle.geometry.proofs.rules.measure.Reads as reads
-use Rattle.geometry.proofs.rules.measure.Lts as lts
+use Rattle.geometry.proofs.rules.check_geometry.Statement.{statement}
+use Rattle.geometry.proofs.rules.check_geometry.Tie as tie
+use Rattle.geometry.proofs.rules.check_geometry.Reads as reads
+use Rattle.geometry.proofs.rules.check_geometry.Lts as lts
 use Rattle.geometry.proofs.rules.is_unit.Reads as is-unit-reads
 use Rattle.geometry.proofs.rules.round_up.Reads as round-up-reads
 
@@ -84,8 +84,8 @@ returns-8 c =
     let a = c .before .before .before .before .before .before .before .before .before .before .before .args in
     inside (a .peb-size) (a .unit) (a .sub-unit) (c .before .before .round-up .result) (c .before .round-up2 .result) (unit-good (c .before .before .before .before .before .before .before)) (sub-unit-good (c .before .before .before .before .before .before .before)) (c .before .before .before .before .before .before .if3 .left) (c .before .before .before .before .before .if4 .left) (c .before .before .before .before .if5 .left) (c .before .before .before .if6 .left) (c .before .before .round-up .ensures .0) (c .before .round-up2 .ensures .0) (c .if7 .left)
 
-pub measure-spec : {M : Type 1} → statement M
-measure-spec =
+pub check-geometry-spec : {M : Type 1} → statement M
+check-geometry-spec =
     tie.close
     (tie.spec
     is-unit-requires
