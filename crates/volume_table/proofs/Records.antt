@@ -1,0 +1,141 @@
+-- Laws of volume records. Assumes nothing.
+use mathlib.Core.Path.{_≡_, refl, sym, _∙_}
+use mathlib.Core.Bool.{Bool, true, false, not, _||_, and-true}
+use mathlib.Core.List.{List, _++_}
+use Prim.Native.Nat.{ℕ, _+_, _%_, _≤_, _<_}
+use native.Mathlib.Nat.{mod-zero}
+use native.Mathlib.Omega.{arith}
+use borrow.Author.Tests.{eq-eqb, ne-eqb, lt-ltb, le-ltb, le-leb}
+use lib.Bits.{bitAnd}
+use lib.Dec.{eqb, lit≤}
+use lib.ListN.{length, take, getD, replicate}
+use Rattle.base.specs.Answers.{given, refused, allOf}
+use Rattle.base.specs.Below.{allBelow}
+use Rattle.base.specs.Lists.{part, eqs, put}
+use Rattle.base.proofs.Answers.{one-broken}
+use Rattle.field.specs.Be.{beOf, toBeOn, toBe}
+use Rattle.crc32.specs.Crc.{crcOf}
+use Rattle.volume_table.specs.Record.{nameEnds, recordRules, recordOf, recordSummed, recordGood, emptyRecord, isEmpty, empty, good, bad, judgeRecord, shownRecord}
+use Rattle.volume_table.specs.Sums.{tallied}
+use Rattle.volume_table.specs.Table.{recordFine}
+use Rattle.volume_table.specs.declared.Tally.{Tally}
+use Rattle.volume_table.specs.declared.VolumeRecord.{VolumeRecord}
+use Rattle.volume_table.proofs.Laws.{part-take, all-broken, all-more, above-zero}
+
+-- ---- the empty record
+
+pub zeroes-stored : (k : ℕ) → put 168 (toBe 4 k) (replicate 172 0) ≡ replicate 168 0 ++ toBe 4 k
+unfolding toBeOn
+zeroes-stored k = refl
+
+-- ---- the name
+
+-- the test of a byte of a name
+abbrev pub named : List ℕ → ℕ → Bool
+named name i = not (eqb (getD name i 0) 0)
+
+pub name-more : (name : List ℕ) (i : ℕ) → allBelow i (named name) ≡ true → (getD name i 0 ≡ 0 → ⊥) → allBelow (i + 1) (named name) ≡ true
+name-more name i e h = all-more (named name) i e (rw (ne-eqb _ _ h))
+
+pub name-cut : (name : List ℕ) (n i : ℕ) → i < n → getD name i 0 ≡ 0 → false ≡ nameEnds name n
+unfolding nameEnds
+name-cut name n i h e = rw (all-broken n (named name) i h (rw (eq-eqb _ _ e)))
+
+pub name-whole : (name : List ℕ) (n : ℕ) → allBelow n (named name) ≡ true → eqb (getD name n 0) 0 ≡ nameEnds name n
+unfolding nameEnds
+name-whole name n e = rw e
+
+-- ---- the alignment
+
+-- nothing above 0 is a multiple of 0
+pub not-aligned : (a : ℕ) → 0 < a → (a ≡ 1 → ⊥) → false ≡ eqb a 1 || eqb (a % 0) 0
+not-aligned a h n = let z : a ≡ 0 → ⊥ = λ e. omega arith in rw (ne-eqb _ _ n, mod-zero a, ne-eqb _ _ z)
+
+-- ---- the rules
+
+module _ (size unit : ℕ) (v : VolumeRecord) where
+  -- one rule broken is enough
+  pub broken : (k : ℕ) → getD (recordRules size unit v) k true ≡ false → false ≡ allOf (recordRules size unit v)
+  broken k e = sym (one-broken (recordRules size unit v) k e)
+
+  -- with the other rules kept, the flags decide
+  pub flags-decide : (v .reserved ≡ 0 → ⊥) → (v .alignment ≡ 0 → ⊥) → v .alignment ≤ size → eqb (v .alignment) 1 || eqb (v .alignment % unit) 0 ≡ true
+      → v .«data_pad» ≡ size % v .alignment → eqb (v .«vol_type») 1 || eqb (v .«vol_type») 2 ≡ true → v .«update_marker» ≤ 1
+      → (v .«name_length» ≡ 0 → ⊥) → v .«name_length» ≤ 127 → nameEnds (v .name) (v .«name_length») ≡ true
+      → eqb (bitAnd (v .flags) 0xFC) 0 ≡ allOf (recordRules size unit v)
+  unfolding recordRules
+  flags-decide r a z m p t u n l e =
+      rw (above-zero _ r, above-zero _ a, le-leb _ _ z, m, eq-eqb _ _ p, t, le-leb _ _ u, above-zero _ n, le-leb _ _ l, e)
+      (sym (and-true (eqb (bitAnd (v .flags) 0xFC) 0)))
+
+-- ---- what a record is
+
+module _ (size unit : ℕ) (r : List ℕ) where
+  pub not-summed : {s k : ℕ} → s ≡ crcOf (take 168 r) → k ≡ beOf (part 168 4 r) → (s ≡ k → ⊥) → false ≡ recordGood size unit r
+  unfolding recordGood recordSummed
+  not-summed p q n = rw (← p, ← q, ne-eqb _ _ n)
+
+  pub rules-decide : {s k : ℕ} {v : VolumeRecord} {g : Bool} → s ≡ crcOf (take 168 r) → k ≡ beOf (part 168 4 r) → s ≡ k
+      → v ≡ recordOf r → g ≡ allOf (recordRules size unit v) → g ≡ recordGood size unit r
+  unfolding recordGood recordSummed
+  rules-decide p q e v g = g ∙ rw (← p, ← q, eq-eqb _ _ e, v)
+
+-- the comparison with the empty record
+pub empty-test : (r : List ℕ) {e : List ℕ} {b : Bool} → e ≡ emptyRecord → b ≡ eqs r e → b ≡ isEmpty r
+unfolding isEmpty
+empty-test r p q = rw p at q
+
+-- the record at the start of a longer slice
+pub record-start : (s : List ℕ) → recordOf (take 172 s) ≡ recordOf s
+unfolding recordOf
+record-start s =
+    rw (
+      part-take 0 4 172 s (lit≤ tt),
+      part-take 4 4 172 s (lit≤ tt),
+      part-take 8 4 172 s (lit≤ tt),
+      part-take 12 1 172 s (lit≤ tt),
+      part-take 13 1 172 s (lit≤ tt),
+      part-take 14 2 172 s (lit≤ tt),
+      part-take 16 128 172 s (lit≤ tt),
+      part-take 144 1 172 s (lit≤ tt),
+    )
+
+pub read-short : (size unit : ℕ) (s : List ℕ) {v : VolumeRecord} → length s < 172 → v ≡ recordOf (replicate 172 0)
+    → (refused 4 0 ≡ judgeRecord size unit s) × (v ≡ shownRecord s)
+unfolding judgeRecord shownRecord
+read-short size unit s h p = (rw (lt-ltb _ _ h), p ∙ rw (lt-ltb _ _ h))
+
+-- `b` is the comparison with the empty record, `g` whether the record is good
+module _ (size unit : ℕ) (s : List ℕ) {v : VolumeRecord} {e : List ℕ} {b : Bool}
+    (h : 172 ≤ length s) (p : v ≡ recordOf (take 172 s)) (q : e ≡ emptyRecord) (c : b ≡ eqs (take 172 s) e) where
+  shown : v ≡ shownRecord s
+  unfolding shownRecord
+  shown = p ∙ rw (le-ltb _ _ h) (record-start s)
+
+  pub read-empty : b ≡ true → (given empty ≡ judgeRecord size unit s) × (v ≡ shownRecord s)
+  unfolding judgeRecord
+  read-empty t = (rw (le-ltb _ _ h, ← (empty-test (take 172 s) q c), t), shown)
+
+  module _ {g : Bool} (f : b ≡ false) (k : g ≡ recordGood size unit (take 172 s)) where
+    pub read-good : g ≡ true → (given good ≡ judgeRecord size unit s) × (v ≡ shownRecord s)
+    unfolding judgeRecord
+    read-good t = (rw (le-ltb _ _ h, ← (empty-test (take 172 s) q c), f, ← k, t), shown)
+
+    pub read-bad : g ≡ false → (given bad ≡ judgeRecord size unit s) × (v ≡ shownRecord s)
+    unfolding judgeRecord
+    read-bad t = (rw (le-ltb _ _ h, ← (empty-test (take 172 s) q c), f, ← k, t), shown)
+
+-- ---- the sums with one record more
+
+pub fine-empty : (size unit : ℕ) (r : List ℕ) {e : List ℕ} {b : Bool} → e ≡ emptyRecord → b ≡ eqs r e → b ≡ true → true ≡ recordFine size unit r
+unfolding recordFine
+fine-empty size unit r p q t = rw (← (empty-test r p q), t)
+
+pub fine-other : (size unit : ℕ) (r : List ℕ) {e : List ℕ} {b g : Bool} → e ≡ emptyRecord → b ≡ eqs r e → b ≡ false → g ≡ recordGood size unit r → g ≡ recordFine size unit r
+unfolding recordFine
+fine-other size unit r p q t g = g ∙ rw (← (empty-test r p q), t)
+
+pub tallied-as : (size unit : ℕ) (s : Tally) (r : List ℕ) {v : VolumeRecord} {f : Bool} → v ≡ recordOf r → f ≡ recordFine size unit r
+    → record { fine = f; reserved = s .reserved + v .reserved; autoresize = s .autoresize + bitAnd (v .flags) 1 } ≡ tallied size unit s r
+unfolding tallied
+tallied-as size unit s r p q = rw (p, q)

@@ -1,0 +1,219 @@
+-- Laws of the volume table. Assumes nothing.
+use mathlib.Core.Path.{_≡_, refl, sym, ap, _∙_, ap₂}
+use mathlib.Core.Bool.{Bool, true, false, not, _&&_, and-true, and-false, and-self, cond}
+use mathlib.Core.Option.{Option, some, none}
+use mathlib.Core.List.{List, []}
+use Prim.Native.Nat.{ℕ, zero, suc, _+_, _-_, _*_, _≤_, _<_, min}
+use native.Mathlib.Nat.{add-sub-cancel-left, min-le-left, sub-zero}
+use native.Mathlib.Numerals.{add-one}
+use native.Mathlib.Omega.{arith}
+use borrow.Author.Tests.{le-leb, lt-leb}
+use lib.Bits.{bitAnd, and-le-r}
+use lib.Dec.{eqb, lit≤}
+use lib.ListN.{length, take, drop, getD, length-take}
+use lib.Seq.{take-all}
+use Rattle.base.specs.Below.{anyBelow}
+use Rattle.base.specs.Lists.{part, eqs}
+use Rattle.base.proofs.Answers.{clash, one-broken}
+use Rattle.base.proofs.Below.{none-intro}
+use Rattle.base.proofs.Lists.{length-part, eqs-lengths, eqs-true}
+use Rattle.field.specs.Be.{beOf}
+use Rattle.volume_table.specs.Record.{recordOf, emptyRecord, isEmpty}
+use Rattle.volume_table.specs.Sums.{tallied, TallyOf}
+use Rattle.volume_table.specs.Table.{recordCount, recordsPart, recordAt, recordFine, nameOf, sameNames, autoresizes, tableRules, tableGood, takenLeb, takenRecords, copiesMark}
+use Rattle.volume_table.specs.declared.Tally.{Tally}
+use Rattle.volume_table.proofs.Laws.{part-part, front, all-broken, all-more, not-above, above-zero}
+use Rattle.volume_table.proofs.Records.{empty-test}
+
+-- ---- the records' part
+
+pub count-small : (size : ℕ) → recordCount size ≤ 128
+unfolding recordCount
+count-small size = min-le-left 128 _
+
+pub part-short : (size : ℕ) (content : List ℕ) {n : ℕ} → n ≡ recordCount size → length content < 172 * n → content ≡ recordsPart size content
+unfolding recordsPart
+part-short size content e h = sym (take-all (172 * recordCount size) content (omega arith))
+
+pub part-long : (size : ℕ) (content : List ℕ) {n : ℕ} → n ≡ recordCount size → take (172 * n - 0) content ≡ recordsPart size content
+unfolding recordsPart
+part-long size content e = rw (sub-zero, e)
+
+-- a copy that is long enough for its records has them all
+pub all-there : (size : ℕ) (content : List ℕ) {n : ℕ} {t : List ℕ} → n ≡ recordCount size → t ≡ recordsPart size content → 172 * n ≤ length content → 172 * n ≤ length t
+unfolding recordsPart
+all-there size content p q h = rw q (omega (arith, length-take (172 * recordCount size) content))
+
+pub cut-short : (size : ℕ) (content : List ℕ) {n : ℕ} → n ≡ recordCount size → length content < 172 * n → length (recordsPart size content) < 172 * n
+unfolding recordsPart
+cut-short size content p h = omega (arith, length-take (172 * recordCount size) content)
+
+-- ---- names where they stand
+
+module _ (t : List ℕ) where
+  pub name-size : (at : ℕ) → at + 172 ≤ length t → length (nameOf (part at 172 t)) ≡ min (beOf (part (at + 14) 2 t)) 128
+  unfolding nameOf recordOf
+  name-size at h = rw (length-take, part-part 14 2 at 172 t (lit≤ tt), part-part 16 128 at 172 t (lit≤ tt), length-part (at + 16) 128 t (omega arith))
+
+  -- a name starts 16 bytes into its record
+  name-at : (at : ℕ) → nameOf (part at 172 t) ≡ part (at + 16) (length (nameOf (part at 172 t))) t
+  unfolding nameOf recordOf
+  name-at at = rw (part-part 16 128 at 172 t (lit≤ tt)) (front (beOf (part 14 2 (part at 172 t))) 128 (drop (at + 16) t))
+
+  module _ (a b : ℕ) {m n : ℕ} (p : n ≡ length (nameOf (part a 172 t))) (q : m ≡ length (nameOf (part b 172 t))) where
+    pub lengths-differ : (m ≡ n → ⊥) → false ≡ eqs (nameOf (part a 172 t)) (nameOf (part b 172 t))
+    lengths-differ d = sym (eqs-lengths (nameOf (part a 172 t)) (nameOf (part b 172 t)) (λ e. d (omega (arith, e))))
+
+    pub names-compared : {r : Bool} → m ≡ n → r ≡ eqs (take (a + 16 + n - (a + 16)) (drop (a + 16) t)) (take (b + 16 + n - (b + 16)) (drop (b + 16) t))
+        → r ≡ eqs (nameOf (part a 172 t)) (nameOf (part b 172 t))
+    names-compared d e =
+        let x : a + 16 + n - (a + 16) ≡ length (nameOf (part a 172 t)) = omega arith in
+        let y : b + 16 + n - (b + 16) ≡ length (nameOf (part b 172 t)) = omega arith in
+        e ∙ ap₂ eqs (rw x (sym (name-at a))) (rw y (sym (name-at b)))
+
+-- ---- two records with one name
+
+-- a record where it stands, compared with the empty one
+pub empty-at : (at : ℕ) (t : List ℕ) {e : List ℕ} {b : Bool} → e ≡ emptyRecord → b ≡ eqs (take (at + 172 - at) (drop at t)) e → b ≡ isEmpty (part at 172 t)
+empty-at at t p q = empty-test (part at 172 t) p (rw add-sub-cancel-left at q)
+
+module _ (a b : List ℕ) {s : Bool} (p : s ≡ eqs (nameOf a) (nameOf b)) where
+  pub other-name : s ≡ false → false ≡ not (isEmpty a) && eqs (nameOf a) (nameOf b)
+  other-name q = rw (← p, q, and-false)
+
+  pub one-name : {e : Bool} → s ≡ true → e ≡ isEmpty a → not e ≡ not (isEmpty a) && eqs (nameOf a) (nameOf b)
+  one-name q r = rw (← p, q, r, and-true)
+
+module _ (t : List ℕ) (j : ℕ) where
+  -- has record i the name of record j, and neither is empty?
+  abbrev pub repeats : ℕ → Bool
+  repeats i = sameNames (recordAt t i) (recordAt t j)
+
+  pub none-repeats : {b : Bool} → b ≡ isEmpty (recordAt t j) → b ≡ true → false ≡ anyBelow j repeats
+  unfolding sameNames
+  none-repeats p q = sym (none-intro j repeats (λ i h. rw (← p, q, and-false)))
+
+  pub repeats-as : (i : ℕ) {b r : Bool} → b ≡ isEmpty (recordAt t j) → b ≡ false
+      → r ≡ not (isEmpty (recordAt t i)) && eqs (nameOf (recordAt t i)) (nameOf (recordAt t j)) → r ≡ repeats i
+  unfolding sameNames
+  repeats-as i p q r = r ∙ rw (← p, q)
+
+-- ---- the sums
+
+-- a bit counts as it is
+bit-counts : (n : ℕ) → n ≤ 1 → n ≡ cond (eqb n 1) 1 0
+bit-counts zero h = refl
+bit-counts (suc zero) h = refl
+bit-counts (suc (suc n)) h = absurd (omega arith)
+
+module _ (size unit : ℕ) (t : List ℕ) where
+  abbrev fineAt : ℕ → Bool
+  fineAt i = recordFine size unit (recordAt t i)
+
+  pub tally-none : TallyOf 0 size unit t (record { fine = true; reserved = 0; autoresize = 0 })
+  tally-none = record { fine = refl; reserved = λ _. refl; autoresize = λ _. refl }
+
+  module _ (i : ℕ) (s u : Tally) (e : u ≡ tallied size unit s (recordAt t i)) where
+    -- one record more, and it is empty or good
+    pub tally-more : TallyOf i size unit t s → s .fine ≡ true → u .fine ≡ true → TallyOf (i + 1) size unit t u
+    unfolding tallied autoresizes
+    tally-more h f g = record {
+      fine = g ∙ sym (all-more fineAt i (sym (h .fine) ∙ f) (sym (ap (λ (x : Tally). x .fine) e) ∙ g));
+      reserved = λ _. ap (λ (x : Tally). x .reserved) e ∙ rw (add-one, h .reserved f);
+      autoresize = λ _.
+          ap (λ (x : Tally). x .autoresize) e
+          ∙ rw (add-one, h .autoresize f, ← (bit-counts (bitAnd (recordOf (recordAt t i) .flags) 1) (and-le-r (recordOf (recordAt t i) .flags) 1)));
+    }
+
+    -- it is neither: the rest does not matter
+    pub tally-stop : (n : ℕ) → i < n → u .fine ≡ false → TallyOf n size unit t u
+    unfolding tallied
+    tally-stop n h g = record {
+      fine = g ∙ sym (all-broken n fineAt i h (sym (ap (λ (x : Tally). x .fine) e) ∙ g));
+      reserved = λ b. clash g b;
+      autoresize = λ b. clash g b;
+    }
+
+-- ---- is the table good?
+
+-- one rule broken is enough
+one-fails : (size unit pebs : ℕ) (content : List ℕ) {n : ℕ} {t : List ℕ} → n ≡ recordCount size → t ≡ recordsPart size content
+    → (k : ℕ) → getD (tableRules n size unit pebs t) k true ≡ false → false ≡ tableGood size unit pebs content
+unfolding tableGood
+one-fails size unit pebs content {n} {t} p q k e = rw (← p, ← q) (sym (one-broken (tableRules n size unit pebs t) k e))
+
+pub no-records : (size unit pebs : ℕ) (content : List ℕ) {n : ℕ} → n ≡ recordCount size → n ≡ 0 → false ≡ tableGood size unit pebs content
+unfolding tableRules
+no-records size unit pebs content p z = one-fails size unit pebs content p refl 0 (not-above _ z)
+
+pub too-short : (size unit pebs : ℕ) (content : List ℕ) {n : ℕ} → n ≡ recordCount size → length content < 172 * n → false ≡ tableGood size unit pebs content
+unfolding tableRules
+too-short size unit pebs content p h = one-fails size unit pebs content p refl 1 (lt-leb _ _ (cut-short size content p h))
+
+-- the count n, the records t and their sums s, as computed
+pub record Summed (size unit : ℕ) (content : List ℕ) (n : ℕ) (t : List ℕ) (s : Tally) : Type 0 where
+  pub count : n ≡ recordCount size
+  pub records : t ≡ recordsPart size content
+  pub sums : TallyOf n size unit t s
+
+module _ (size unit pebs : ℕ) (content : List ℕ) {n : ℕ} {t : List ℕ} {s : Tally} (h : Summed size unit content n t s) where
+  fails : (k : ℕ) → getD (tableRules n size unit pebs t) k true ≡ false → false ≡ tableGood size unit pebs content
+  fails = one-fails size unit pebs content (h .count) (h .records)
+
+  pub not-fine : s .fine ≡ false → false ≡ tableGood size unit pebs content
+  unfolding tableRules
+  not-fine f = fails 2 (sym (h .sums .fine) ∙ f)
+
+  module _ (f : s .fine ≡ true) where
+    pub too-many : 1 < s .autoresize → false ≡ tableGood size unit pebs content
+    unfolding tableRules
+    too-many l = fails 4 (lt-leb _ _ (rw (h .sums .autoresize f) at l))
+
+    pub too-much : pebs - 2 < s .reserved → false ≡ tableGood size unit pebs content
+    unfolding tableRules
+    too-much l = fails 5 (lt-leb _ _ (rw (h .sums .reserved f) at l))
+
+    -- with the other rules kept, the names decide
+    pub names-decide : {d : Bool} → (n ≡ 0 → ⊥) → 172 * n ≤ length t → s .autoresize ≤ 1 → s .reserved ≤ pebs - 2
+        → d ≡ not (anyBelow n (λ (j : ℕ). anyBelow j (repeats t j))) → d ≡ tableGood size unit pebs content
+    unfolding tableGood tableRules
+    names-decide z l a r d =
+        d
+        ∙ rw (← (h .count), ← (h .records), above-zero _ z, le-leb _ _ l, ← (h .sums .fine), f, ← (h .sums .autoresize f), le-leb _ _ a, ← (h .sums .reserved f), le-leb _ _ r)
+        (sym (and-true (not (anyBelow n (λ (j : ℕ). anyBelow j (repeats t j))))))
+
+-- ---- the table taken
+
+module _ (size unit pebs : ℕ) (copy0 copy1 : List ℕ) where
+  good-as : recordsPart size copy0 ≡ recordsPart size copy1 → tableGood size unit pebs copy0 ≡ tableGood size unit pebs copy1
+  unfolding tableGood
+  good-as e = rw e
+
+  module _ {g : Bool} {k : Option ℕ} {m : ℕ} (p : g ≡ tableGood size unit pebs copy0) where
+    -- equal records are judged once
+    pub chosen-equal : eqs (recordsPart size copy0) (recordsPart size copy1) ≡ true → k ≡ cond g (some 0) (cond g (some 1) none) → m ≡ cond g 0 1
+        → (k ≡ takenLeb size unit pebs copy0 copy1) × (m ≡ copiesMark size unit pebs copy0 copy1)
+    unfolding takenLeb copiesMark
+    chosen-equal e a b =
+        let q : g ≡ tableGood size unit pebs copy1 = p ∙ good-as (eqs-true _ _ e) in
+        (a ∙ rw (← p, ← q), b ∙ rw (← p, ← q, e, and-self))
+
+    pub chosen-unequal : {h : Bool} → h ≡ tableGood size unit pebs copy1 → eqs (recordsPart size copy0) (recordsPart size copy1) ≡ false
+        → k ≡ cond g (some 0) (cond h (some 1) none) → m ≡ cond (g && h) 2 1
+        → (k ≡ takenLeb size unit pebs copy0 copy1) × (m ≡ copiesMark size unit pebs copy0 copy1)
+    unfolding takenLeb copiesMark
+    chosen-unequal q e a b = (a ∙ rw (← p, ← q), b ∙ rw (← p, ← q, e))
+
+  module _ {g : Bool} (p : g ≡ tableGood size unit pebs copy0) where
+    pub first-taken : {r : List ℕ} → g ≡ true → r ≡ recordsPart size copy0 → r ≡ takenRecords size unit pebs copy0 copy1
+    unfolding takenRecords
+    first-taken e r = r ∙ rw (← p, e)
+
+    module _ {h : Bool} (q : h ≡ tableGood size unit pebs copy1) (e : g ≡ false) where
+      pub second-taken : {r : List ℕ} → h ≡ true → r ≡ recordsPart size copy1 → r ≡ takenRecords size unit pebs copy0 copy1
+      unfolding takenRecords
+      second-taken f r = r ∙ rw (← p, e, ← q, f)
+
+      pub neither-taken : h ≡ false → [] ≡ takenRecords size unit pebs copy0 copy1
+      unfolding takenRecords
+      neither-taken f = rw (← p, e, ← q, f)

@@ -1,0 +1,15 @@
+-- `volume_table::record::is_type` meets its contract. Assumes nothing.
+use borrow.Author.Tests.{eq-eqb, ne-eqb}
+use Rattle.volume_table.proofs.record.is_type.Statement.{statement}
+use Rattle.volume_table.proofs.record.is_type.Tie as tie
+use Rattle.volume_table.proofs.record.is_type.Reads as reads
+use Rattle.volume_table.proofs.record.is_type.Lts as lts
+
+returns : tie.Need-returns
+returns c = rw (eq-eqb _ _ (c .if1 .taken))
+
+returns-2 : tie.Need-returns-2
+returns-2 c = rw (ne-eqb _ _ (c .if1 .left))
+
+pub is-type-spec : {M : Type 1} → statement M
+is-type-spec = tie.close (tie.spec returns returns-2)

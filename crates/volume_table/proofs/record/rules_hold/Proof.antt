@@ -1,0 +1,101 @@
+-- `volume_table::record::rules_hold` meets its contract: one broken rule is enough. Assumes nothing.
+use borrow.Author.Needs.{needs}
+use borrow.Author.Tests.{lt-leb, ne-eqb}
+use Rattle.volume_table.specs.Record.{recordRules}
+use Rattle.volume_table.proofs.Laws.{was-false, was-true, not-above}
+use Rattle.volume_table.proofs.Records.{broken, flags-decide}
+use Rattle.volume_table.proofs.record.rules_hold.Statement.{statement}
+use Rattle.volume_table.proofs.record.rules_hold.Tie as tie
+use Rattle.volume_table.proofs.record.rules_hold.Reads as reads
+use Rattle.volume_table.proofs.record.rules_hold.Lts as lts
+use Rattle.volume_table.proofs.record.is_aligned.Reads as is-aligned-reads
+use Rattle.volume_table.proofs.record.is_type.Reads as is-type-reads
+use Rattle.volume_table.proofs.record.name_ends.Reads as name-ends-reads
+
+returns : tie.Need-returns
+unfolding recordRules
+returns c = let a = c .before .before .args in broken (a .leb-size) (a .unit) (a .v) 0 (not-above _ (c .if1 .taken))
+
+returns-2 : tie.Need-returns-2
+unfolding recordRules
+returns-2 c = let a = c .before .before .before .before .args in broken (a .leb-size) (a .unit) (a .v) 1 (not-above _ (c .if2 .taken))
+
+returns-3 : tie.Need-returns-3
+unfolding recordRules
+returns-3 c = let a = c .before .before .before .before .before .before .args in broken (a .leb-size) (a .unit) (a .v) 2 (lt-leb _ _ (c .if3 .taken))
+
+is-aligned-requires : tie.Need-is-aligned-requires
+is-aligned-requires c κs = search needs
+
+returns-4 : tie.Need-returns-4
+unfolding recordRules
+returns-4 c = let a = c .before .before .before .before .before .before .before .before .args in broken (a .leb-size) (a .unit) (a .v) 3 (was-false (c .before .is-aligned .ensures) (c .if4 .taken))
+
+rem-if5 : tie.Need-rem-if5
+rem-if5 c = search needs
+
+returns-5 : tie.Need-returns-5
+unfolding recordRules
+returns-5 c = let a = c .before .before .before .before .before .before .before .before .before .before .before .args in broken (a .leb-size) (a .unit) (a .v) 4 (ne-eqb _ _ (c .if5 .taken))
+
+is-type-requires : tie.Need-is-type-requires
+is-type-requires c κs = search needs
+
+returns-6 : tie.Need-returns-6
+unfolding recordRules
+returns-6 c = let a = c .before .before .before .before .before .before .before .before .before .before .before .before .before .args in broken (a .leb-size) (a .unit) (a .v) 5 (was-false (c .before .is-type .ensures) (c .if6 .taken))
+
+returns-7 : tie.Need-returns-7
+unfolding recordRules
+returns-7 c = let a = c .before .before .before .before .before .before .before .before .before .before .before .before .before .before .before .args in broken (a .leb-size) (a .unit) (a .v) 6 (lt-leb _ _ (c .if7 .taken))
+
+returns-8 : tie.Need-returns-8
+unfolding recordRules
+returns-8 c = let a = c .before .before .before .before .before .before .before .before .before .before .before .before .before .before .before .before .before .args in broken (a .leb-size) (a .unit) (a .v) 7 (not-above _ (c .if8 .taken))
+
+returns-9 : tie.Need-returns-9
+unfolding recordRules
+returns-9 c = let a = c .before .before .before .before .before .before .before .before .before .before .before .before .before .before .before .before .before .before .before .args in broken (a .leb-size) (a .unit) (a .v) 8 (lt-leb _ _ (c .if9 .taken))
+
+cast-name-ends : tie.Need-cast-name-ends
+cast-name-ends c = search needs
+
+name-ends-requires : tie.Need-name-ends-requires
+name-ends-requires c κs = search needs
+
+returns-10 : tie.Need-returns-10
+unfolding recordRules
+returns-10 c = let a = c .before .before .before .before .before .before .before .before .before .before .before .before .before .before .before .before .before .before .before .before .before .before .before .args in broken (a .leb-size) (a .unit) (a .v) 9 (was-false (c .before .name-ends .ensures) (c .if10 .taken))
+
+returns-11 : tie.Need-returns-11
+returns-11 c =
+    let a = c .before .before .before .before .before .before .before .before .before .before .before .before .before .before .before .before .before .before .before .before .before .before .before .before .args in
+    flags-decide (a .leb-size) (a .unit) (a .v) (c .before .before .before .before .before .before .before .before .before .before .before .before .before .before .before .before .before .before .before .before .before .before .if1 .left) (c .before .before .before .before .before .before .before .before .before .before .before .before .before .before .before .before .before .before .before .before .if2 .left) (c .before .before .before .before .before .before .before .before .before .before .before .before .before .before .before .before .before .before .if3 .left)
+    (was-true (c .before .before .before .before .before .before .before .before .before .before .before .before .before .before .before .before .before .is-aligned .ensures) (c .before .before .before .before .before .before .before .before .before .before .before .before .before .before .before .before .if4 .left))
+    (c .before .before .before .before .before .before .before .before .before .before .before .before .before .if5 .left)
+    (was-true (c .before .before .before .before .before .before .before .before .before .before .before .before .is-type .ensures) (c .before .before .before .before .before .before .before .before .before .before .before .if6 .left))
+    (c .before .before .before .before .before .before .before .before .before .if7 .left)
+    (c .before .before .before .before .before .before .before .if8 .left)
+    (c .before .before .before .before .before .if9 .left)
+    (was-true (c .before .before .name-ends .ensures) (c .before .if10 .left))
+
+pub rules-hold-spec : {M : Type 1} → statement M
+rules-hold-spec =
+    tie.close
+    (tie.spec
+    returns
+    returns-2
+    returns-3
+    is-aligned-requires
+    returns-4
+    rem-if5
+    returns-5
+    is-type-requires
+    returns-6
+    returns-7
+    returns-8
+    returns-9
+    cast-name-ends
+    name-ends-requires
+    returns-10
+    returns-11)

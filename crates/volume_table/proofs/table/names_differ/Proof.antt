@@ -1,0 +1,56 @@
+-- `volume_table::table::names_differ` meets its contract: none of the first j records repeats a name. Assumes nothing.
+use mathlib.Core.Path.{_≡_, sym, _∙_}
+use mathlib.Core.Bool.{false}
+use Prim.Native.Nat.{ℕ, _≤_, _-_}
+use native.Mathlib.Omega.{arith}
+use borrow.Author.Needs.{needs}
+use Rattle.base.specs.Below.{anyBelow}
+use Rattle.base.proofs.Below.{any-intro}
+use Rattle.volume_table.proofs.Laws.{any-more}
+use Rattle.volume_table.proofs.Tables.{repeats}
+use Rattle.volume_table.proofs.table.names_differ.Statement.{statement}
+use Rattle.volume_table.proofs.table.names_differ.Tie as tie
+use Rattle.volume_table.proofs.table.names_differ.Reads as reads
+use Rattle.volume_table.proofs.table.names_differ.Lts as lts
+use Rattle.volume_table.proofs.table.name_repeats.Reads as name-repeats-reads
+
+abbrev Inv-loop : tie.InvT-loop
+Inv-loop t n empty j₀ j = (j ≤ n) × (anyBelow j (λ (k : ℕ). anyBelow k (repeats t k)) ≡ false)
+
+abbrev μ-loop : tie.MeasureT-loop
+μ-loop t n empty j₀ j = n - j
+
+loop-holds : tie.Need-loop-holds Inv-loop μ-loop
+loop-holds c = search needs
+
+name-repeats-requires : tie.Need-name-repeats-requires Inv-loop μ-loop
+name-repeats-requires c κs = search needs
+
+returns : tie.Need-returns Inv-loop μ-loop
+returns c = let t = c .before .before .before .before .before .before .args .t .now in rw (any-intro (c .before .before .before .before .before .before .args .n) (λ (k : ℕ). anyBelow k (repeats t k)) (c .before .before .before .loop .j) (omega arith) (sym (c .before .name-repeats .ensures) ∙ c .if1 .taken))
+
+add-j : tie.Need-add-j Inv-loop μ-loop
+add-j c = search needs
+
+loop-less : tie.Need-loop-less Inv-loop μ-loop
+loop-less c = search needs
+
+loop-again : tie.Need-loop-again Inv-loop μ-loop
+loop-again c = let t = c .before .before .before .before .before .before .args .t .now in (omega arith, any-more (λ (k : ℕ). anyBelow k (repeats t k)) (c .before .before .before .loop .j) (c .before .before .before .loop .inv .1) (sym (c .before .name-repeats .ensures) ∙ c .if1 .left))
+
+returns-2 : tie.Need-returns-2 Inv-loop μ-loop
+returns-2 c = let e : c .before .loop .j ≡ c .before .before .before .before .args .n = omega arith in rw (rw e at (c .before .loop .inv .1))
+
+pub names-differ-spec : {M : Type 1} → statement M
+names-differ-spec =
+    tie.close
+    (tie.spec
+    Inv-loop
+    μ-loop
+    loop-holds
+    name-repeats-requires
+    returns
+    add-j
+    loop-less
+    loop-again
+    returns-2)

@@ -1,0 +1,86 @@
+-- 01 'The volume table': a volume record. Assumes nothing.
+use Prim.Native.Nat.{ℕ, _%_}
+use mathlib.Core.Bool.{Bool, not, _&&_, _||_, cond}
+use mathlib.Core.List.{List, [], _∷_, _++_}
+use lib.Bits.{bitAnd}
+use lib.Dec.{eqb, ltb, leb}
+use lib.ListN.{length, take, getD, replicate}
+use Rattle.base.specs.Answers.{Answer, given, refused, allOf}
+use Rattle.base.specs.Below.{allBelow}
+use Rattle.base.specs.Lists.{part, eqs}
+use Rattle.field.specs.Be.{beOf, toBe}
+use Rattle.crc32.specs.Crc.{crcOf}
+use Rattle.volume_table.specs.declared.VolumeRecord.{VolumeRecord}
+use Rattle.volume_table.specs.declared.RecordKind.{RecordKind}
+use Rattle.volume_table.specs.declared.RecordKind.the-variants.{Empty, Good, Bad, Short}
+
+-- "reserved PEBs 0-3, alignment 4-7, data pad 8-11, type 12, update marker 13, name length 14-15, name 16-143, flags 144"
+unfoldable pub recordOf : List ℕ → VolumeRecord
+recordOf r = record {
+  reserved = beOf (part 0 4 r);
+  alignment = beOf (part 4 4 r);
+  «data_pad» = beOf (part 8 4 r);
+  «vol_type» = beOf (part 12 1 r);
+  «update_marker» = beOf (part 13 1 r);
+  «name_length» = beOf (part 14 2 r);
+  name = part 16 128 r;
+  flags = beOf (part 144 1 r);
+}
+
+-- "CRC of 0-167 at 168-171"
+unfoldable pub recordSummed : List ℕ → Bool
+recordSummed r = eqb (crcOf (take 168 r)) (beOf (part 168 4 r))
+
+-- "An empty record has reserved 0 and is 168 zeroes with their CRC."
+unfoldable pub emptyRecord : List ℕ
+emptyRecord = replicate 168 0 ++ toBe 4 (crcOf (replicate 168 0))
+
+unfoldable pub isEmpty : List ℕ → Bool
+isEmpty r = eqs r emptyRecord
+
+-- "that many name bytes are nonzero and the next is zero"
+unfoldable pub nameEnds : List ℕ → ℕ → Bool
+nameEnds name n = allBelow n (λ (i : ℕ). not (eqb (getD name i 0) 0)) && eqb (getD name n 0) 0
+
+-- what a record other than the empty one has to say, beside its CRC, in 01's order
+unfoldable pub recordRules : ℕ → ℕ → VolumeRecord → List Bool
+recordRules size unit v =
+    -- "reserved is above 0"
+    ltb 0 (v .reserved)
+    -- "alignment is 1 to LEB size and 1 or a multiple of the unit"
+    ∷ leb 1 (v .alignment) ∷ leb (v .alignment) size ∷ (eqb (v .alignment) 1 || eqb (v .alignment % unit) 0)
+    -- "pad is LEB size modulo alignment"
+    ∷ eqb (v .«data_pad») (size % v .alignment)
+    -- "type is 1 or 2, marker is 0 or 1"
+    ∷ (eqb (v .«vol_type») 1 || eqb (v .«vol_type») 2) ∷ leb (v .«update_marker») 1
+    -- "name length is 1 to 127, that many name bytes are nonzero and the next is zero"
+    ∷ leb 1 (v .«name_length») ∷ leb (v .«name_length») 127 ∷ nameEnds (v .name) (v .«name_length»)
+    -- "no flag beyond 1 (autoresize) and 2 (skip CRC) is set"
+    ∷ eqb (bitAnd (v .flags) 0xFC) 0 ∷ []
+
+-- "Any other is good if the CRC matches, .."
+unfoldable pub recordGood : ℕ → ℕ → List ℕ → Bool
+recordGood size unit r = recordSummed r && allOf (recordRules size unit (recordOf r))
+
+-- a record is empty, good or neither
+pub data Judged : Type 0 where
+  empty : Judged
+  good : Judged
+  bad : Judged
+
+-- the record at the start of a lent slice; refusal 4 where the slice is shorter than a record
+unfoldable pub judgeRecord : ℕ → ℕ → List ℕ → Answer Judged
+judgeRecord size unit s =
+    cond (ltb (length s) 172) (refused 4 0)
+    (given (cond (isEmpty (take 172 s)) empty (cond (recordGood size unit (take 172 s)) good bad)))
+
+-- what each case of the answer is in 01
+abbrev pub recordKind : RecordKind → Answer Judged
+recordKind Empty = given empty
+recordKind Good = given good
+recordKind Bad = given bad
+recordKind Short = refused 4 0
+
+-- the numbers and name that are handed out beside it: those of the bytes, also where they are not good; zeroes where there are too few
+unfoldable pub shownRecord : List ℕ → VolumeRecord
+shownRecord s = cond (ltb (length s) 172) (recordOf (replicate 172 0)) (recordOf s)

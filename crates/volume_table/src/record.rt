@@ -1,0 +1,194 @@
+// A volume record of 172 bytes.
+ghost use mathlib.Core.Path.{_≡_};
+ghost use mathlib.Core.Bool.{_||_};
+ghost use Prim.Native.Nat.{_+_, _%_, _^_, _≤_, _<_};
+ghost use lib.Dec.{eqb};
+ghost use lib.ListN.{length};
+ghost use Rattle.base.specs.Answers.{allOf};
+ghost use Rattle.base.specs.Lists.{part};
+ghost use Rattle.volume_table.specs.Sums.{tallied};
+ghost use Rattle.volume_table.specs.Record.{recordOf, emptyRecord, nameEnds, recordRules, recordGood, judgeRecord, recordKind, shownRecord};
+use crate::RecordKind;
+use crate::RecordRead;
+use crate::Tally;
+use crate::VolumeRecord;
+
+// The 128 bytes of the name field.
+fn name_field(r: &[u8]) -> [u8; 128]
+    requires { ⌜ 172 ≤ length (now r) ⌝ }
+    ensures { λ n. ⌜ n ≡ part 16 128 (now (r .entry)) ⌝ }
+{
+    let mut name = [0u8; 128];
+    base::store(&mut name, 0, &r[16..144]);
+    name
+}
+
+// The numbers and the name in a record's bytes.
+fn parse(r: &[u8]) -> VolumeRecord
+    requires { ⌜ 172 ≤ length (now r) ⌝ }
+    ensures { λ v. ⌜ v ≡ recordOf (now (r .entry)) ⌝ }
+{
+    VolumeRecord {
+        reserved: field::read(r, 0, 4) as u32,
+        alignment: field::read(r, 4, 4) as u32,
+        data_pad: field::read(r, 8, 4) as u32,
+        vol_type: field::read(r, 12, 1) as u8,
+        update_marker: field::read(r, 13, 1) as u8,
+        name_length: field::read(r, 14, 2) as u16,
+        name: name_field(r),
+        flags: field::read(r, 144, 1) as u8,
+    }
+}
+
+// 168 zeroes with their CRC.
+pub fn empty_record() -> [u8; 172]
+    ensures { λ r. ⌜ r ≡ emptyRecord ⌝ }
+{
+    let zeroes = [0u8; 168];
+    let sum = crc32::crc32(&zeroes);
+    let mut r = [0u8; 172];
+    field::write(&mut r, 168, 4, sum as u64);
+    r
+}
+
+// Does the name have n bytes, none of them zero, and a zero after them?
+fn name_ends(name: [u8; 128], n: usize) -> bool
+    requires { ⌜ n < 128 ⌝ }
+    ensures { λ r. ⌜ r ≡ nameEnds name n ⌝ }
+{
+    let mut i: usize = 0;
+    while i < n {
+        if name[i] == 0 {
+            return false;
+        }
+        i += 1;
+    }
+    name[n] == 0
+}
+
+// Is the alignment 1 or a multiple of the unit?
+fn is_aligned(alignment: u32, unit: u32) -> bool
+    requires { ⌜ 0 < alignment ⌝ }
+    ensures { λ r. ⌜ r ≡ (eqb alignment 1 || eqb (alignment % unit) 0) ⌝ }
+{
+    if alignment == 1 {
+        return true;
+    }
+    // nothing above 0 is a multiple of 0
+    if unit == 0 {
+        return false;
+    }
+    alignment % unit == 0
+}
+
+// Is the volume dynamic or static?
+fn is_type(t: u8) -> bool
+    ensures { λ r. ⌜ r ≡ (eqb t 1 || eqb t 2) ⌝ }
+{
+    t == 1 || t == 2
+}
+
+// Do the numbers and the name keep the rules of a record that is not empty?
+fn rules_hold(v: VolumeRecord, leb_size: u32, unit: u32) -> bool
+    ensures { λ r. ⌜ r ≡ allOf (recordRules «leb_size» unit v) ⌝ }
+{
+    if v.reserved == 0 {
+        return false;
+    }
+    if v.alignment == 0 {
+        return false;
+    }
+    if leb_size < v.alignment {
+        return false;
+    }
+    if !is_aligned(v.alignment, unit) {
+        return false;
+    }
+    if v.data_pad != leb_size % v.alignment {
+        return false;
+    }
+    if !is_type(v.vol_type) {
+        return false;
+    }
+    if 1 < v.update_marker {
+        return false;
+    }
+    if v.name_length == 0 {
+        return false;
+    }
+    if 127 < v.name_length {
+        return false;
+    }
+    let name = v.name;
+    if !name_ends(name, v.name_length as usize) {
+        return false;
+    }
+    v.flags & 0xFC == 0
+}
+
+// Is a record that is not empty good: its CRC, then its numbers and name?
+fn is_good(r: &[u8], v: VolumeRecord, leb_size: u32, unit: u32) -> bool
+    requires { ⌜ (length (now r) ≡ 172) × (v ≡ recordOf (now r)) ⌝ }
+    ensures { λ g. ⌜ g ≡ recordGood «leb_size» unit (now (r .entry)) ⌝ }
+{
+    if crc32::crc32(&r[0..168]) as u64 != field::read(r, 168, 4) {
+        return false;
+    }
+    rules_hold(v, leb_size, unit)
+}
+
+// The record at the start of a slice: what it is, with its numbers and name.
+pub fn read_record(bytes: &[u8], leb_size: u32, unit: u32) -> RecordRead
+    ensures { λ r. ⌜ (recordKind (r .kind) ≡ judgeRecord «leb_size» unit (now (bytes .entry)))
+        × (r .record ≡ shownRecord (now (bytes .entry))) ⌝ }
+{
+    if bytes.len() < 172 {
+        let zeroes = [0u8; 172];
+        return RecordRead {
+            kind: RecordKind::Short,
+            record: parse(&zeroes),
+        };
+    }
+    let r = &bytes[0..172];
+    let record = parse(r);
+    let empty = empty_record();
+    if base::same(r, &empty) {
+        return RecordRead {
+            kind: RecordKind::Empty,
+            record,
+        };
+    }
+    if is_good(r, record, leb_size, unit) {
+        return RecordRead {
+            kind: RecordKind::Good,
+            record,
+        };
+    }
+    RecordRead {
+        kind: RecordKind::Bad,
+        record,
+    }
+}
+
+// The sums with one record more.
+pub fn tally_record(sum: Tally, r: &[u8], leb_size: u32, unit: u32, empty: &[u8]) -> Tally
+    requires { ⌜ (length (now r) ≡ 172) × ((now empty ≡ emptyRecord) × ((sum .reserved < 2 ^ 40) × (sum .autoresize < 128))) ⌝ }
+    ensures { λ t. ⌜ (t ≡ tallied «leb_size» unit sum (now (r .entry)))
+        × ((t .reserved < sum .reserved + 2 ^ 32) × (t .autoresize ≤ sum .autoresize + 1)) ⌝ }
+{
+    let v = parse(r);
+    let reserved = sum.reserved + v.reserved as u64;
+    let autoresize = sum.autoresize + (v.flags & 1) as u32;
+    if base::same(r, empty) {
+        return Tally {
+            fine: true,
+            reserved,
+            autoresize,
+        };
+    }
+    Tally {
+        fine: is_good(r, v, leb_size, unit),
+        reserved,
+        autoresize,
+    }
+}

@@ -1,0 +1,249 @@
+// The volume table: its records, and which of the two copies is taken.
+ghost use mathlib.Core.Path.{_≡_};
+ghost use mathlib.Core.Bool.{not, _&&_, cond};
+ghost use mathlib.Core.Option.{none, some};
+ghost use Prim.Native.Nat.{ℕ, _+_, _-_, _*_, _≤_, _<_};
+ghost use lib.ListN.{length};
+ghost use Rattle.base.specs.Below.{anyBelow};
+ghost use Rattle.base.specs.Lists.{part, eqs};
+ghost use Rattle.volume_table.specs.Record.{emptyRecord, isEmpty};
+ghost use Rattle.volume_table.specs.Table.{recordCount, recordsPart, recordAt, nameOf, sameNames, tableGood, takenLeb, takenRecords, copiesMark, takenNumber};
+ghost use Rattle.volume_table.specs.Sums.{TallyOf};
+use crate::TableChoice;
+use crate::Taken;
+use crate::Tally;
+use crate::record::empty_record;
+use crate::record::tally_record;
+
+// How many records a table has.
+pub fn record_count(leb_size: u32) -> usize
+    ensures { λ r. ⌜ r ≡ recordCount «leb_size» ⌝ }
+{
+    let fit = (leb_size / 172) as usize;
+    if fit < 128 {
+        return fit;
+    }
+    128
+}
+
+// The records' part of a layout LEB's content; all of it where it is shorter.
+pub fn records_part<'a>(content: &'a [u8], leb_size: u32) -> &'a [u8]
+    ensures { λ r. ⌜ now r ≡ recordsPart «leb_size» (now (content .entry)) ⌝ }
+{
+    let len = 172 * record_count(leb_size);
+    if content.len() < len {
+        return content;
+    }
+    &content[0..len]
+}
+
+// The length of the name in the record at `at`; a name ends with its field.
+fn name_length(t: &[u8], at: usize) -> usize
+    requires { ⌜ at + 172 ≤ length (now t) ⌝ }
+    ensures { λ r. ⌜ (r ≡ length (nameOf (part at 172 (now (t .entry))))) × (r ≤ 128) ⌝ }
+{
+    let n = field::read(t, at + 14, 2) as usize;
+    if n < 128 {
+        return n;
+    }
+    128
+}
+
+// Are the names in the records at a and b the same? They are compared where they stand.
+fn same_name(t: &[u8], a: usize, b: usize) -> bool
+    requires { ⌜ (a + 172 ≤ length (now t)) × (b + 172 ≤ length (now t)) ⌝ }
+    ensures { λ r. ⌜ r ≡ eqs (nameOf (part a 172 (now (t .entry)))) (nameOf (part b 172 (now (t .entry)))) ⌝ }
+{
+    let n = name_length(t, a);
+    if name_length(t, b) != n {
+        return false;
+    }
+    base::same(&t[a + 16..a + 16 + n], &t[b + 16..b + 16 + n])
+}
+
+// Is the record at a not empty, with the name of the record at b?
+fn names_clash(t: &[u8], a: usize, b: usize, empty: &[u8]) -> bool
+    requires { ⌜ (a + 172 ≤ length (now t)) × ((b + 172 ≤ length (now t)) × (now empty ≡ emptyRecord)) ⌝ }
+    ensures { λ r. ⌜ r ≡ (not (isEmpty (part a 172 (now (t .entry))))
+        && eqs (nameOf (part a 172 (now (t .entry)))) (nameOf (part b 172 (now (t .entry))))) ⌝ }
+{
+    if !same_name(t, a, b) {
+        return false;
+    }
+    !base::same(&t[a..a + 172], empty)
+}
+
+// Does record j, if it is not empty, have the name of one before it?
+fn name_repeats(t: &[u8], j: usize, empty: &[u8]) -> bool
+    requires { ⌜ (j < 128) × ((172 * j + 172 ≤ length (now t)) × (now empty ≡ emptyRecord)) ⌝ }
+    ensures { λ r. ⌜ r ≡ anyBelow j (λ (i : ℕ). sameNames (recordAt (now (t .entry)) i) (recordAt (now (t .entry)) j)) ⌝ }
+{
+    let b = 172 * j;
+    if base::same(&t[b..b + 172], empty) {
+        return false;
+    }
+    let mut i: usize = 0;
+    while i < j {
+        if names_clash(t, 172 * i, b, empty) {
+            return true;
+        }
+        i += 1;
+    }
+    false
+}
+
+// Do no two nonempty records of the first n have the same name?
+fn names_differ(t: &[u8], n: usize, empty: &[u8]) -> bool
+    requires { ⌜ (n ≤ 128) × ((172 * n ≤ length (now t)) × (now empty ≡ emptyRecord)) ⌝ }
+    ensures { λ r. ⌜ r ≡ not (anyBelow n (λ (j : ℕ). anyBelow j (λ (i : ℕ).
+        sameNames (recordAt (now (t .entry)) i) (recordAt (now (t .entry)) j)))) ⌝ }
+{
+    let mut j: usize = 0;
+    while j < n {
+        if name_repeats(t, j, empty) {
+            return false;
+        }
+        j += 1;
+    }
+    true
+}
+
+// The first n records: are all empty or good, and what they reserve and how many autoresize if so.
+fn tally(t: &[u8], n: usize, leb_size: u32, unit: u32, empty: &[u8]) -> Tally
+    requires { ⌜ (n ≤ 128) × ((172 * n ≤ length (now t)) × (now empty ≡ emptyRecord)) ⌝ }
+    ensures { λ r. ⌜ TallyOf n «leb_size» unit (now (t .entry)) r ⌝ }
+{
+    let mut sum = Tally {
+        fine: true,
+        reserved: 0,
+        autoresize: 0,
+    };
+    let mut i: usize = 0;
+    while i < n {
+        let at = 172 * i;
+        sum = tally_record(sum, &t[at..at + 172], leb_size, unit, empty);
+        if !sum.fine {
+            return sum;
+        }
+        i += 1;
+    }
+    sum
+}
+
+// Is the table in a layout LEB's content good?
+pub fn table_good(content: &[u8], leb_size: u32, unit: u32, peb_count: u32) -> bool
+    ensures { λ r. ⌜ r ≡ tableGood «leb_size» unit «peb_count» (now (content .entry)) ⌝ }
+{
+    let n = record_count(leb_size);
+    if n == 0 {
+        return false;
+    }
+    if content.len() < 172 * n {
+        return false;
+    }
+    let t = records_part(content, leb_size);
+    let empty = empty_record();
+    let sum = tally(t, n, leb_size, unit, &empty);
+    if !sum.fine {
+        return false;
+    }
+    if 1 < sum.autoresize {
+        return false;
+    }
+    if most_reserved(peb_count) < sum.reserved {
+        return false;
+    }
+    names_differ(t, n, &empty)
+}
+
+// "PEB count less 2", and not below 0.
+fn most_reserved(peb_count: u32) -> u64
+    ensures { λ r. ⌜ r ≡ «peb_count» - 2 ⌝ }
+{
+    if peb_count < 2 {
+        return 0;
+    }
+    (peb_count - 2) as u64
+}
+
+// The choice where the copies' records are equal.
+fn choice_of_equal(good: bool) -> TableChoice
+    ensures { λ r. ⌜ (takenNumber (r .taken) ≡ cond good (some 0) (cond good (some 1) none)) × (r .«copies_mark» ≡ cond good 0 1) ⌝ }
+{
+    if good {
+        return TableChoice {
+            taken: Taken::First,
+            copies_mark: 0,
+        };
+    }
+    TableChoice {
+        taken: Taken::Neither,
+        copies_mark: 1,
+    }
+}
+
+// The choice where they differ.
+fn choice_of(good0: bool, good1: bool) -> TableChoice
+    ensures { λ r. ⌜ (takenNumber (r .taken) ≡ cond good0 (some 0) (cond good1 (some 1) none)) × (r .«copies_mark» ≡ cond (good0 && good1) 2 1) ⌝ }
+{
+    if good0 {
+        if good1 {
+            return TableChoice {
+                taken: Taken::First,
+                copies_mark: 2,
+            };
+        }
+        return TableChoice {
+            taken: Taken::First,
+            copies_mark: 1,
+        };
+    }
+    if good1 {
+        return TableChoice {
+            taken: Taken::Second,
+            copies_mark: 1,
+        };
+    }
+    TableChoice {
+        taken: Taken::Neither,
+        copies_mark: 1,
+    }
+}
+
+// Which copy's table is taken, and the copies mark. A copy of a LEB that is not mapped has no bytes.
+pub fn choose_table(
+    copy0: &[u8],
+    copy1: &[u8],
+    leb_size: u32,
+    unit: u32,
+    peb_count: u32,
+) -> TableChoice
+    ensures { λ r. ⌜ (takenNumber (r .taken) ≡ takenLeb «leb_size» unit «peb_count» (now (copy0 .entry)) (now (copy1 .entry)))
+        × (r .«copies_mark» ≡ copiesMark «leb_size» unit «peb_count» (now (copy0 .entry)) (now (copy1 .entry))) ⌝ }
+{
+    let good0 = table_good(copy0, leb_size, unit, peb_count);
+    if base::same(records_part(copy0, leb_size), records_part(copy1, leb_size)) {
+        // equal records are judged once
+        return choice_of_equal(good0);
+    }
+    choice_of(good0, table_good(copy1, leb_size, unit, peb_count))
+}
+
+// The records of the table taken; none where neither copy is good.
+pub fn taken_table<'a>(
+    copy0: &'a [u8],
+    copy1: &'a [u8],
+    leb_size: u32,
+    unit: u32,
+    peb_count: u32,
+) -> &'a [u8]
+    ensures { λ r. ⌜ now r ≡ takenRecords «leb_size» unit «peb_count» (now (copy0 .entry)) (now (copy1 .entry)) ⌝ }
+{
+    if table_good(copy0, leb_size, unit, peb_count) {
+        return records_part(copy0, leb_size);
+    }
+    if table_good(copy1, leb_size, unit, peb_count) {
+        return records_part(copy1, leb_size);
+    }
+    &copy0[0..0]
+}
