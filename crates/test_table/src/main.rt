@@ -1,0 +1,96 @@
+// Judges for each frame a volume record or two copies of a volume table, as its first byte says, and prints the answer.
+use frames::Frame;
+use volume_table::RecordKind;
+use volume_table::RecordRead;
+use volume_table::Taken;
+use volume_table::VolumeRecord;
+
+fn main() {
+    let mut buf = [0u8; 65536];
+    // A proved loop ends: no input has so many frames.
+    for _ in 0u32..1000000 {
+        if !turn(&mut buf) {
+            break;
+        }
+    }
+}
+
+// The answer to the next frame, if there is one.
+fn turn(buf: &mut [u8]) -> bool {
+    let Frame::Payload(n) = frames::next(buf) else {
+        return false;
+    };
+    answer(&buf[0..n]);
+    frames::line_end();
+    true
+}
+
+fn answer(payload: &[u8]) {
+    let leb_size = u32_at(payload, 1);
+    let unit = u32_at(payload, 5);
+    if frames::number_at(payload, 0, 1) == 1 {
+        print_record(volume_table::read_record(frames::rest(payload, 9), leb_size, unit));
+        return;
+    }
+    let peb_count = u32_at(payload, 9);
+    let copies = frames::rest(payload, 17);
+    let split = frames::number_at(payload, 13, 4) as usize;
+    if copies.len() < split {
+        return;
+    }
+    print_tables(
+        &copies[0..split],
+        &copies[split..],
+        leb_size,
+        unit,
+        peb_count,
+    );
+}
+
+fn u32_at(payload: &[u8], at: usize) -> u32 {
+    (frames::number_at(payload, at, 4) % 0x100000000) as u32
+}
+
+fn print_record(r: RecordRead) {
+    let kind = r.kind;
+    match kind {
+        RecordKind::Good => print_fields(r.record),
+        RecordKind::Empty => frames::word(b"empty"),
+        RecordKind::Bad => frames::word(b"bad"),
+        RecordKind::Short => frames::word(b"refused 4"),
+    }
+}
+
+fn print_fields(v: VolumeRecord) {
+    frames::word(b"good");
+    frames::next_number(v.reserved as u64);
+    frames::next_number(v.alignment as u64);
+    frames::next_number(v.data_pad as u64);
+    frames::next_number(v.vol_type as u64);
+    frames::next_number(v.update_marker as u64);
+    frames::next_number(v.name_length as u64);
+    frames::next_number(v.flags as u64);
+    let name = v.name;
+    print_name(name);
+}
+
+fn print_name(name: [u8; 128]) {
+    frames::word(b" ");
+    frames::hex(&name);
+}
+
+fn print_tables<'a>(copy0: &'a [u8], copy1: &'a [u8], leb_size: u32, unit: u32, peb_count: u32) {
+    let choice = volume_table::choose_table(copy0, copy1, leb_size, unit, peb_count);
+    let taken = choice.taken;
+    match taken {
+        Taken::First => frames::word(b"taken 0"),
+        Taken::Second => frames::word(b"taken 1"),
+        Taken::Neither => frames::word(b"taken 2"),
+    }
+    frames::word(b" mark");
+    frames::next_number(choice.copies_mark as u64);
+    let records = volume_table::taken_table(copy0, copy1, leb_size, unit, peb_count);
+    frames::word(b" records");
+    frames::next_number(records.len() as u64);
+    frames::next_number(crc32::crc32(records) as u64);
+}
