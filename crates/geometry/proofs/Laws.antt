@@ -1,21 +1,22 @@
 -- Laws of units and multiples. Assumes nothing.
-use mathlib.Core.Path.{_≡_, refl, sym, ap, _∙_}
+use mathlib.Core.Path.{_≡_, refl, sym, ap, _∙_, subst}
 use mathlib.Core.Logic.{⊎-elim}
 use mathlib.Core.Bool.{Bool, true, false, _||_, _&&_, false≢true, and-true}
 use Prim.Native.Nat.{ℕ, zero, suc, _+_, _-_, _*_, _/_, _%_, _^_, _≤_, _<_}
-use native.Mathlib.Nat.{pow-suc, pow-le-pow-right, one-le-pow, div-add-mod', mod-lt, mul-mod-left, mul-le-mul-right, div-lt-iff-lt-mul}
+use native.Mathlib.Nat.{pow-suc, pow-le-pow-right, one-le-pow, div-add-mod', mod-lt, mul-mod-left, mul-mod-right, mul-sub, mul-comm, mul-le-mul-right, div-lt-iff-lt-mul}
 use native.Mathlib.Numerals.{add-one}
 use native.Mathlib.Omega.{arith}
 use lib.Dec.{eqb, leb, lit<}
 use lib.ListN.{getD, length}
 use mathlib.Core.List.{List}
-use borrow.Author.Tests.{eqb-true, eq-eqb, ne-eqb, le-leb, lt-leb}
+use borrow.Author.Tests.{leb-true, eqb-true, eq-eqb, ne-eqb, le-leb, lt-leb}
 use Rattle.base.specs.Below.{anyBelow}
-use Rattle.base.specs.Answers.{Answer, given, refused}
-use Rattle.base.proofs.Answers.{or-true-cases, one-broken, each-holds}
+use Rattle.base.specs.Answers.{Answer, given, refused, allOf}
+use Rattle.base.proofs.Answers.{or-true-cases, one-broken, each-holds, cond-yes}
 use Rattle.base.proofs.Below.{any-intro}
 use Rattle.geometry.specs.declared.Geometry.{Geometry}
-use Rattle.geometry.specs.Slip.{hasField, slipRules, wellFormed}
+use Rattle.geometry.specs.Slip.{hasField, valueAt, slipRules, wellFormed, slipGeometry}
+use Rattle.geometry.specs.Placed.{Placed}
 use Rattle.geometry.specs.Geometry.{goodUnit, roundUp, geometryRules, geometryOf, makeGeometry, vidStart, dataStart, lebSize}
 
 -- ---- units
@@ -97,3 +98,47 @@ last-field s l a b c e = e ∙ rw (a, b, c, eq-eqb _ _ l) (sym (and-true (hasFie
 pub slip-length : (s : List ℕ) → wellFormed s ≡ true → length s ≡ 20
 unfolding wellFormed slipRules
 slip-length s e = eqb-true (length s) 20 (each-holds (slipRules s) e 4)
+
+-- ---- a geometry within the rules
+
+-- both parts of a difference are multiples
+sub-multiple : (a b u : ℕ) → a % u ≡ 0 → b % u ≡ 0 → (a - b) % u ≡ 0
+sub-multiple a b u p q =
+    let e : a - b ≡ u * (a / u - b / u) =
+        rw mul-sub (omega (arith, div-add-mod' a u, div-add-mod' b u, mul-comm u (a / u), mul-comm u (b / u))) in
+    rw e (mul-mod-right u (a / u - b / u))
+
+made : (peb unit sub : ℕ) → allOf (geometryRules peb unit sub) ≡ true → Placed (makeGeometry peb unit sub)
+unfolding makeGeometry lebSize dataStart vidStart geometryRules
+made peb unit sub e =
+    let r : (k : ℕ) → getD (geometryRules peb unit sub) k true ≡ true = each-holds (geometryRules peb unit sub) e in
+    let u = unit-range unit (r 0) in
+    let s = unit-range sub (r 1) in
+    let v = round-at-least sub 64 (s .0) in
+    let d = round-at-least unit (roundUp sub 64 + 64) (u .0) in
+    let l = leb-true 172 (peb - roundUp unit (roundUp sub 64 + 64)) (r 6) in
+    record {
+      vid-after-ec = v;
+      data-after-vid = d;
+      leb-fills = omega arith;
+      leb-least = l;
+      peb-most = leb-true peb 262144 (r 4);
+      unit-above = u .0;
+      unit-divides = sub-multiple peb (roundUp unit (roundUp sub 64 + 64)) unit (eqb-true (peb % unit) 0 (r 5)) (round-multiple unit (roundUp sub 64 + 64));
+    }
+
+given-is : {a b : Geometry} → _≡_ {A = Answer Geometry} (given a) (given b) → a ≡ b
+given-is e = cc
+
+refused-not : {k : ℕ} {g : Geometry} → _≡_ {A = Answer Geometry} (refused k 0) (given g) → ⊥
+refused-not e = let z : _≡_ {A = ℕ} 0 1 = cc in omega arith
+
+pub placed : (peb unit sub : ℕ) (g : Geometry) → geometryOf peb unit sub ≡ given g → Placed g
+unfolding geometryOf
+placed peb unit sub g e =
+    let c = cond-yes (allOf (geometryRules peb unit sub)) refused-not e in
+    subst Placed (given-is (c .1)) (made peb unit sub (c .0))
+
+pub slip-placed : (s : List ℕ) (g : Geometry) → slipGeometry s ≡ given g → Placed g
+unfolding slipGeometry
+slip-placed s g e = placed (valueAt 0 4 s) (valueAt 7 2 s) (valueAt 12 2 s) g (cond-yes (wellFormed s) refused-not e .1)

@@ -1,2 +1,3 @@
 pub mod Slip
 pub mod Geometry
+pub mod Placed
