@@ -44,7 +44,7 @@ pub all-there : (size : ℕ) (content : List ℕ) {n : ℕ} {t : List ℕ} → n
 unfolding recordsPart
 all-there size content p q h = rw q (omega (arith, length-take (172 * recordCount size) content))
 
-pub cut-short : (size : ℕ) (content : List ℕ) {n : ℕ} → n ≡ recordCount size → length content < 172 * n → length (recordsPart size content) < 172 * n
+cut-short : (size : ℕ) (content : List ℕ) {n : ℕ} → n ≡ recordCount size → length content < 172 * n → length (recordsPart size content) < 172 * n
 unfolding recordsPart
 cut-short size content p h = omega (arith, length-take (172 * recordCount size) content)
 
@@ -77,12 +77,11 @@ module _ (t : List ℕ) where
 pub empty-at : (at : ℕ) (t : List ℕ) {e : List ℕ} {b : Bool} → e ≡ emptyRecord → b ≡ eqs (take (at + 172 - at) (drop at t)) e → b ≡ isEmpty (part at 172 t)
 empty-at at t p q = empty-test (part at 172 t) p (rw add-sub-cancel-left at q)
 
-module _ (a b : List ℕ) {s : Bool} (p : s ≡ eqs (nameOf a) (nameOf b)) where
-  pub other-name : s ≡ false → false ≡ not (isEmpty a) && eqs (nameOf a) (nameOf b)
-  other-name q = rw (← p, q, and-false)
+pub other-name : (a b : List ℕ) → eqs (nameOf a) (nameOf b) ≡ false → false ≡ not (isEmpty a) && eqs (nameOf a) (nameOf b)
+other-name a b p = rw (p, and-false)
 
-  pub one-name : {e : Bool} → s ≡ true → e ≡ isEmpty a → not e ≡ not (isEmpty a) && eqs (nameOf a) (nameOf b)
-  one-name q r = rw (← p, q, r, and-true)
+pub one-name : (a b : List ℕ) {e : Bool} → eqs (nameOf a) (nameOf b) ≡ true → e ≡ isEmpty a → not e ≡ not (isEmpty a) && eqs (nameOf a) (nameOf b)
+one-name a b p q = rw (p, q, and-true)
 
 module _ (t : List ℕ) (j : ℕ) where
   -- has record i the name of record j, and neither is empty?

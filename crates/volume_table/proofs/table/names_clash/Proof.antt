@@ -1,7 +1,7 @@
 -- `volume_table::table::names_clash` meets its contract. Assumes nothing.
 use borrow.Author.Needs.{needs}
-use borrow.Author.Tests.{not-true, not-false}
 use Rattle.base.specs.Lists.{part}
+use Rattle.volume_table.proofs.Laws.{was-false, was-true}
 use Rattle.volume_table.proofs.Tables.{empty-at, other-name, one-name}
 use Rattle.volume_table.proofs.table.names_clash.Statement.{statement}
 use Rattle.volume_table.proofs.table.names_clash.Tie as tie
@@ -14,7 +14,7 @@ same-name-requires : tie.Need-same-name-requires
 same-name-requires c κs = search needs
 
 returns : tie.Need-returns
-returns c = let a = c .before .before .before .before .args in other-name (part (a .a) 172 (a .t .now)) (part (a .b) 172 (a .t .now)) (c .before .same-name .ensures) (not-true (c .before .same-name .result) (c .if1 .taken))
+returns c = let a = c .before .before .before .before .args in other-name (part (a .a) 172 (a .t .now)) (part (a .b) 172 (a .t .now)) (was-false (c .before .same-name .ensures) (c .if1 .taken))
 
 add-same : tie.Need-add-same
 add-same c = search needs
@@ -34,7 +34,7 @@ same-requires c κs = search needs
 returns-2 : tie.Need-returns-2
 returns-2 c =
     let a = c .before .before .before .before .before .before .args in
-    one-name (part (a .a) 172 (a .t .now)) (part (a .b) 172 (a .t .now)) (c .before .before .before .same-name .ensures) (not-false (c .before .before .before .same-name .result) (c .before .before .if1 .left))
+    one-name (part (a .a) 172 (a .t .now)) (part (a .b) 172 (a .t .now)) (was-true (c .before .before .before .same-name .ensures) (c .before .before .if1 .left))
     (empty-at (a .a) (a .t .now) (c .before .before .before .before .before .before .pre .1 .1) (c .same .ensures))
 
 pub names-clash-spec : {M : Type 1} → statement M
