@@ -1,0 +1,80 @@
+-- The mean "lies between the lowest and the highest good counter", and is 0 where there is none. Assumes nothing.
+use mathlib.Core.Path.{_≡_, refl}
+use mathlib.Core.Logic.{_⊎_, inl, inr, ⊎-elim}
+use mathlib.Core.Bool.{Bool, true, false, cond}
+use mathlib.Core.Option.{Option, none, some}
+use Prim.Native.Nat.{ℕ, zero, suc, _+_, _*_, _≤_, _<_}
+use native.Mathlib.Nat.{mul-add, mul-comm, le-div-iff-mul-le, div-le-of-le-mul, div-zero}
+use native.Mathlib.Omega.{arith}
+use lib.Dec.{ltb}
+use borrow.Author.Tests.{ltb-true, ltb-false}
+use Rattle.base.specs.Below.{sumBelow}
+use Rattle.base.proofs.Below.{below-suc}
+use Rattle.header.specs.declared.EcHeader.{EcHeader}
+use Rattle.report.specs.View.{Views, ecs}
+use Rattle.report.specs.Report.{counterOr, isSome, meanOf}
+use Rattle.report.proofs.First.{First, first}
+
+le-or : (a b : ℕ) → (a ≤ b) ⊎ (b ≤ a)
+le-or a b = go (ltb a b) refl
+  where
+    go : (t : Bool) → ltb a b ≡ t → (a ≤ b) ⊎ (b ≤ a)
+    go true e = inl (omega (arith, ltb-true a b e))
+    go false e = inr (ltb-false a b e)
+
+module _ (f : ℕ → Option EcHeader) where
+  -- the sum of the good counters below n, and their number
+  abbrev sum : ℕ → ℕ
+  sum n = sumBelow n (λ i. counterOr 0 (f i))
+
+  abbrev number : ℕ → ℕ
+  number n = sumBelow n (λ i. cond (isSome (f i)) 1 0)
+
+  -- every good counter below n is so
+  abbrev Each : (ℕ → Type 0) → ℕ → Type 0
+  Each P n = (i : ℕ) → i < n → (h : EcHeader) → f i ≡ some h → P (h .counter)
+
+  number-none : (n : ℕ) → ((i : ℕ) → i < n → f i ≡ none) → number n ≡ 0
+  number-none zero h = refl
+  number-none (suc n) h = rw (number-none n (λ i k. h i (omega arith)), h n (omega arith))
+
+  number-some : (n i : ℕ) (h : EcHeader) → i < n → f i ≡ some h → 0 < number n
+  number-some zero i h k e = absurd (omega arith)
+  number-some (suc n) i h k e =
+      ⊎-elim (λ (l : i < n). let p = number-some n i h l e in omega arith) (λ (q : i ≡ n). rw (← q, e) (omega arith)) (below-suc n i k)
+
+  at-least : (m n : ℕ) → Each (λ c. m ≤ c) n → m * number n ≤ sum n
+  at-least m zero h = omega arith
+  at-least m (suc n) h = go (f n) refl (at-least m n (λ i k. h i (omega arith)))
+    where
+      go : (x : Option EcHeader) → f n ≡ x → m * number n ≤ sum n → m * (number n + cond (isSome x) 1 0) ≤ sum n + counterOr 0 x
+      go none e l = rw mul-add (omega arith)
+      go (some x) e l = rw mul-add (omega (arith, h n (omega arith) x e))
+
+  at-most : (m n : ℕ) → Each (λ c. c ≤ m) n → sum n ≤ m * number n
+  at-most m zero h = omega arith
+  at-most m (suc n) h = go (f n) refl (at-most m n (λ i k. h i (omega arith)))
+    where
+      go : (x : Option EcHeader) → f n ≡ x → sum n ≤ m * number n → sum n + counterOr 0 x ≤ m * (number n + cond (isSome x) 1 0)
+      go none e l = rw mul-add (omega arith)
+      go (some x) e l = rw mul-add (omega (arith, h n (omega arith) x e))
+
+module _ (n : ℕ) (vs : Views) where
+  pub mean-none : ((i : ℕ) → i < n → ecs vs i ≡ none) → meanOf n vs ≡ 0
+  unfolding meanOf
+  mean-none h = rw (number-none (ecs vs) n h) (div-zero _)
+
+  -- the lowest good counter, and the highest
+  pub mean-between : (i : ℕ) (h : EcHeader) → i < n → ecs vs i ≡ some h
+      → (a : First (ecs vs) (λ x y. x .counter ≤ y .counter) n) × (b : First (ecs vs) (λ x y. y .counter ≤ x .counter) n)
+      × (a .value .counter ≤ meanOf n vs) × (meanOf n vs ≤ b .value .counter)
+  unfolding meanOf
+  mean-between i h k e =
+      let a = first (ecs vs) (λ x y. x .counter ≤ y .counter) (λ x y. le-or (x .counter) (y .counter)) (λ x y z p q. omega arith) n i h k e in
+      let b = first (ecs vs) (λ x y. y .counter ≤ x .counter) (λ x y. le-or (y .counter) (x .counter)) (λ x y z p q. omega arith) n i h k e in
+      let p = number-some (ecs vs) n i h k e in (
+        a,
+        b,
+        le-div-iff-mul-le p .1 (at-least (ecs vs) (a .value .counter) n (a .leads)),
+        div-le-of-le-mul _ (rw mul-comm (at-most (ecs vs) (b .value .counter) n (b .leads))),
+      )

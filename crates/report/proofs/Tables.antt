@@ -1,0 +1,219 @@
+-- What is known of the table taken in an image that attaches: its records, its entries, their number. Assumes nothing.
+use mathlib.Core.Path.{_≡_, refl, sym, _∙_, ap}
+use mathlib.Core.Logic.{_⊎_, inl, inr, ⊎-elim}
+use mathlib.Core.Bool.{Bool, true, false, not, _&&_, _||_, cond}
+use mathlib.Core.Option.{Option, none, some}
+use mathlib.Core.List.{List, [], _∷_}
+use Prim.Native.Nat.{ℕ, zero, suc, _+_, _-_, _*_, _≤_, _<_}
+use native.Mathlib.Nat.{min-le-left}
+use native.Mathlib.Omega.{arith}
+use lib.Dec.{eqb, ltb}
+use lib.ListN.{length, drop, length-take}
+use borrow.Author.Tests.{eqb-true, eq-eqb, ltb-true, ltb-false, not-false}
+use Rattle.base.specs.Below.{sumBelow}
+use Rattle.base.proofs.Answers.{and-left, and-right, or-left, or-right}
+use Rattle.base.proofs.Below.{below-suc, first-none-at}
+use Rattle.field.specs.Be.{beFrom}
+use Rattle.geometry.specs.declared.Geometry.{Geometry}
+use Rattle.header.specs.Vid.{layoutVolume}
+use Rattle.volume_table.specs.Record.{recordOf, recordGood}
+use Rattle.volume_table.specs.Table.{recordCount, recordsPart, recordAt, tableGood, takenLeb, takenRecords}
+use Rattle.volume_table.specs.declared.VolumeRecord.{VolumeRecord}
+use Rattle.volume_table.proofs.Good.{records-fine, reserved-within, empty-or-good, empty-reserves-none}
+use Rattle.report.specs.View.{Views}
+use Rattle.report.specs.Scan.{differs}
+use Rattle.report.specs.Volumes.{
+  Face,
+  Faces,
+  Places,
+  layoutContent,
+  tableLeb,
+  tableRecords,
+  recordFor,
+  reservedOf,
+  mapUpTo,
+  mapOf,
+  usedOf,
+  misfit,
+  misfitIn,
+  misfitAt,
+  refusal1112,
+}
+use Rattle.report.specs.Report.{faces, places, records, entries, refusal}
+use Rattle.report.proofs.First.{none-some}
+use Rattle.report.proofs.Map.{map-length}
+use Rattle.report.proofs.Facts.{when-none, mapO-none, first-some, differs-false, parts}
+
+-- ---- 11 and 12
+
+module _ (a : Option ℕ) (t : List ℕ) (fs : Faces) (ps : Places) (e : refusal1112 a t fs ps ≡ none) where
+  pub table-taken : (k : ℕ) × (a ≡ some k)
+  table-taken = go a e
+    where
+      go : (a : Option ℕ) → refusal1112 a t fs ps ≡ none → (k : ℕ) × (a ≡ some k)
+      go none e = none-some (sym e)
+      go (some k) e = (k, refl)
+
+  pub no-misfit : misfitAt t fs ≡ none
+  no-misfit = go a e
+    where
+      go : (a : Option ℕ) → refusal1112 a t fs ps ≡ none → misfitAt t fs ≡ none
+      go none e = none-some (sym e)
+      go (some k) e = mapO-none _ (misfitAt t fs) e
+
+  -- where the entries lie makes no difference
+  pub no-1112 : (ps′ : Places) → refusal1112 a t fs ps′ ≡ none
+  no-1112 ps′ = rw (table-taken .1, no-misfit)
+
+-- an entry of a user volume has its record's type and pad; static, it has used LEBs as its volume's first entry has, and within reserved
+pub record Fits (t : List ℕ) (fs : Faces) (v : ℕ) (r : VolumeRecord) (f : Face) : Type 0 where
+  pub same-type : f .vol-type ≡ r .«vol_type»
+  pub same-pad : f .pad ≡ r .«data_pad»
+  pub same-used : f .vol-type ≡ 2 → usedOf t fs v ≡ some (f .used)
+  pub used-within : f .vol-type ≡ 2 → f .used ≤ r .reserved
+
+module _ (t : List ℕ) (fs : Faces) (e : misfitAt t fs ≡ none) (v l : ℕ) (r : VolumeRecord) (f : Face)
+    (k : v < 128) (is : recordFor t v ≡ some r) (h : l < r .reserved) (q : fs v l ≡ some f) where
+  one-fits : misfit (some r) (usedOf t fs v) (some f) ≡ none
+  unfolding misfitAt misfitIn
+  one-fits =
+      rw (is, q) at
+      (first-none-at (reservedOf (recordFor t v)) (λ l. misfit (recordFor t v) (usedOf t fs v) (fs v l))
+      (mapO-none _ _ (first-none-at 128 (misfitIn t fs) e v k)) l (rw is h))
+
+  abbrev bad-type : Bool
+  bad-type = not (eqb (f .vol-type) (r .«vol_type») && eqb (f .pad) (r .«data_pad»))
+
+  abbrev bad-used : Bool
+  bad-used = differs (usedOf t fs v) (f .used) || ltb (r .reserved) (f .used)
+
+  no-bad : bad-type || (eqb (f .vol-type) 2 && bad-used) ≡ false
+  no-bad = when-none _ 12 one-fits
+
+  good-used : f .vol-type ≡ 2 → bad-used ≡ false
+  good-used s = rw (eq-eqb _ _ s) at (or-right bad-type (eqb (f .vol-type) 2 && bad-used) no-bad)
+
+  pub entry-fits : Fits t fs v r f
+  unfolding usedOf
+  entry-fits =
+      let a = not-false _ (or-left bad-type (eqb (f .vol-type) 2 && bad-used) no-bad) in
+      let x = first-some (reservedOf (recordFor t v)) (fs v) l f (rw is h) q in
+      let u : usedOf t fs v ≡ some (x .0 .1 .used) = rw (x .1) in
+      record {
+        same-type = eqb-true _ _ (and-left (eqb (f .vol-type) (r .«vol_type»)) (eqb (f .pad) (r .«data_pad»)) a);
+        same-pad = eqb-true _ _ (and-right (eqb (f .vol-type) (r .«vol_type»)) (eqb (f .pad) (r .«data_pad»)) a);
+        same-used = λ s. u ∙ ap some (sym (differs-false _ (f .used) (rw u at (or-left (differs (usedOf t fs v) (f .used)) _ (good-used s)))));
+        used-within = λ s. ltb-false (r .reserved) (f .used) (or-right (differs (usedOf t fs v) (f .used)) _ (good-used s));
+      }
+
+-- ---- the records of the table taken
+
+-- an empty or absent record reserves nothing
+pub reserved-is : (t : List ℕ) (v : ℕ) → reservedOf (recordFor t v) ≡ recordOf (recordAt t v) .reserved
+unfolding recordFor
+reserved-is t v = go (ltb 0 (recordOf (recordAt t v) .reserved)) refl
+  where
+    go : (b : Bool) → ltb 0 (recordOf (recordAt t v) .reserved) ≡ b
+        → reservedOf (cond b (some (recordOf (recordAt t v))) none) ≡ recordOf (recordAt t v) .reserved
+    go true e = refl
+    go false e = omega (arith, ltb-false 0 (recordOf (recordAt t v) .reserved) e)
+
+drop-past : (n : ℕ) (s : List ℕ) → length s ≤ n → drop n s ≡ []
+drop-past zero [] h = refl
+drop-past zero (x ∷ s) h = absurd (omega arith)
+drop-past (suc n) [] h = refl
+drop-past (suc n) (x ∷ s) h = drop-past n s (omega arith)
+
+-- a sum that has nothing from c on
+module _ (f : ℕ → ℕ) where
+  sum-grows : (j k : ℕ) → j ≤ k → sumBelow j f ≤ sumBelow k f
+  sum-grows j zero h = let z : j ≡ 0 = omega arith in rw z (omega arith)
+  sum-grows j (suc k) h =
+      ⊎-elim (λ (l : j < suc k). omega (arith, sum-grows j k (omega arith))) (λ (q : j ≡ suc k). rw q (omega arith))
+      (below-suc (suc k) j (omega arith))
+
+  sum-most : (c : ℕ) → ((i : ℕ) → c ≤ i → f i ≡ 0) → (k : ℕ) → sumBelow k f ≤ sumBelow c f
+  sum-most c h zero = omega arith
+  sum-most c h (suc k) = go (ltb k c) refl (sum-most c h k)
+    where
+      go : (b : Bool) → ltb k c ≡ b → sumBelow k f ≤ sumBelow c f → sumBelow k f + f k ≤ sumBelow c f
+      go true q l = sum-grows (suc k) c (ltb-true k c q)
+      go false q l = omega (arith, h k (ltb-false k c q))
+
+-- t are the records of the table taken from one of two copies, which is good
+pub record TakenFrom (size unit pebs : ℕ) (copy0 copy1 t : List ℕ) : Type 0 where
+  pub content : List ℕ
+  pub from : (content ≡ copy0) ⊎ (content ≡ copy1)
+  pub good : tableGood size unit pebs content ≡ true
+  pub is : t ≡ recordsPart size content
+
+module _ (size unit pebs : ℕ) (copy0 copy1 : List ℕ) where
+  pub taken : (k : ℕ) → takenLeb size unit pebs copy0 copy1 ≡ some k → TakenFrom size unit pebs copy0 copy1 (takenRecords size unit pebs copy0 copy1)
+  unfolding takenLeb takenRecords
+  taken k e = go (tableGood size unit pebs copy0) refl (tableGood size unit pebs copy1) refl e
+    where
+      go : (b : Bool) → tableGood size unit pebs copy0 ≡ b → (c : Bool) → tableGood size unit pebs copy1 ≡ c
+          → cond b (some 0) (cond c (some 1) none) ≡ some k → TakenFrom size unit pebs copy0 copy1 (takenRecords size unit pebs copy0 copy1)
+      go true p c q e = record { content = copy0; from = inl refl; good = p; is = rw p }
+      go false p true q e = record { content = copy1; from = inr refl; good = q; is = rw (p, q) }
+      go false p false q e = none-some e
+
+  module _ (t : List ℕ) (T : TakenFrom size unit pebs copy0 copy1 t) where
+    past-count : (v : ℕ) → recordCount size ≤ v → recordOf (recordAt t v) .reserved ≡ 0
+    unfolding recordOf recordsPart beFrom
+    past-count v h =
+        let l : length t ≤ 172 * v = rw (T .is, length-take) (omega (arith, min-le-left (172 * recordCount size) (length (T .content)))) in
+        rw (drop-past (172 * v) t l)
+
+    -- a record that is not empty is one of the LEB's, and good
+    reserves-good : (v : ℕ) → 0 < recordOf (recordAt t v) .reserved → (v < recordCount size) × (recordGood size unit (recordAt t v) ≡ true)
+    reserves-good v h = go (ltb v (recordCount size)) refl
+      where
+        go : (b : Bool) → ltb v (recordCount size) ≡ b → (v < recordCount size) × (recordGood size unit (recordAt t v) ≡ true)
+        go true q =
+            let k : v < recordCount size = ltb-true _ _ q in (
+              k,
+              ⊎-elim
+                  (λ p. absurd (omega (arith, empty-reserves-none (recordAt t v) p)))
+                  (λ p. p)
+                  (empty-or-good size unit (recordAt t v) (rw (T .is) (records-fine size unit pebs (T .content) (T .good) v k))),
+            )
+        go false q = absurd (omega (arith, past-count v (ltb-false _ _ q)))
+
+    pub record-good : (v : ℕ) (r : VolumeRecord) → recordFor t v ≡ some r
+        → (v < recordCount size) × (recordGood size unit (recordAt t v) ≡ true) × (r ≡ recordOf (recordAt t v))
+    unfolding recordFor
+    record-good v r e = go (ltb 0 (recordOf (recordAt t v) .reserved)) refl e
+      where
+        go : (b : Bool) → ltb 0 (recordOf (recordAt t v) .reserved) ≡ b → cond b (some (recordOf (recordAt t v))) none ≡ some r
+            → (v < recordCount size) × (recordGood size unit (recordAt t v) ≡ true) × (r ≡ recordOf (recordAt t v))
+        go true q e = let z = reserves-good v (ltb-true _ _ q) in (z .0, z .1, cc)
+        go false q e = none-some e
+
+    -- volumes reserve no more than the PEBs beside the layout volume's two
+    reserved-sum : (k : ℕ) → sumBelow k (λ v. reservedOf (recordFor t v)) ≤ pebs - 2
+    reserved-sum k =
+        simp (reserved-is)
+        (omega (
+          arith,
+          sum-most (λ v. recordOf (recordAt t v) .reserved) (recordCount size) past-count k,
+          rw (← (T .is)) at (reserved-within size unit pebs (T .content) (T .good)),
+        ))
+
+    pub map-within : (k m : ℕ) (ps : Places) → length (mapUpTo k m t ps) ≤ pebs - 2 + m
+    map-within k m ps = omega (arith, map-length k m t ps, reserved-sum k)
+
+-- ---- in an image that attaches
+
+module _ (g : Geometry) (n : ℕ) (vs : Views) (e : refusal g n vs ≡ none) where
+  pub table-good :
+      TakenFrom (g .«leb_size») (g .unit) n (layoutContent (faces g n vs layoutVolume 0)) (layoutContent (faces g n vs layoutVolume 1)) (records g n vs)
+  unfolding tableLeb tableRecords
+  table-good =
+      let k = table-taken (tableLeb g n (faces g n vs)) (records g n vs) (faces g n vs) (places g n vs) (parts g n vs e .none1112) in
+      taken (g .«leb_size») (g .unit) n (layoutContent (faces g n vs layoutVolume 0)) (layoutContent (faces g n vs layoutVolume 1)) (k .0) (k .1)
+
+  -- the map has no more entries than there are PEBs
+  pub entries-fit : 2 ≤ n → length (entries g n vs) ≤ n
+  unfolding entries mapOf
+  entries-fit h = omega (arith, map-within _ _ _ _ _ (records g n vs) table-good 128 2 (places g n vs))
