@@ -8,11 +8,11 @@ use native.Mathlib.Nat.{mul-add, mul-comm, le-div-iff-mul-le, div-le-of-le-mul, 
 use native.Mathlib.Omega.{arith}
 use lib.Dec.{ltb}
 use borrow.Author.Tests.{ltb-true, ltb-false}
-use Rattle.base.specs.Below.{sumBelow}
+use Rattle.base.specs.Below.{countBelow, sumBelow}
 use Rattle.base.proofs.Below.{below-suc}
 use Rattle.header.specs.declared.EcHeader.{EcHeader}
 use Rattle.report.specs.View.{Views, ecs}
-use Rattle.report.specs.Report.{counterOr, isSome, meanOf}
+use Rattle.report.specs.Report.{counterOr, hasCounter, meanOf}
 use Rattle.report.proofs.First.{First, first}
 
 le-or : (a b : ℕ) → (a ≤ b) ⊎ (b ≤ a)
@@ -28,7 +28,7 @@ module _ (f : ℕ → Option EcHeader) where
   sum n = sumBelow n (λ i. counterOr 0 (f i))
 
   abbrev number : ℕ → ℕ
-  number n = sumBelow n (λ i. cond (isSome (f i)) 1 0)
+  number n = countBelow n (λ i. hasCounter (f i))
 
   -- every good counter below n is so
   abbrev Each : (ℕ → Type 0) → ℕ → Type 0
@@ -47,7 +47,7 @@ module _ (f : ℕ → Option EcHeader) where
   at-least m zero h = omega arith
   at-least m (suc n) h = go (f n) refl (at-least m n (λ i k. h i (omega arith)))
     where
-      go : (x : Option EcHeader) → f n ≡ x → m * number n ≤ sum n → m * (number n + cond (isSome x) 1 0) ≤ sum n + counterOr 0 x
+      go : (x : Option EcHeader) → f n ≡ x → m * number n ≤ sum n → m * (number n + cond (hasCounter x) 1 0) ≤ sum n + counterOr 0 x
       go none e l = rw mul-add (omega arith)
       go (some x) e l = rw mul-add (omega (arith, h n (omega arith) x e))
 
@@ -55,7 +55,7 @@ module _ (f : ℕ → Option EcHeader) where
   at-most m zero h = omega arith
   at-most m (suc n) h = go (f n) refl (at-most m n (λ i k. h i (omega arith)))
     where
-      go : (x : Option EcHeader) → f n ≡ x → sum n ≤ m * number n → sum n + counterOr 0 x ≤ m * (number n + cond (isSome x) 1 0)
+      go : (x : Option EcHeader) → f n ≡ x → sum n ≤ m * number n → sum n + counterOr 0 x ≤ m * (number n + cond (hasCounter x) 1 0)
       go none e l = rw mul-add (omega arith)
       go (some x) e l = rw mul-add (omega (arith, h n (omega arith) x e))
 

@@ -10,6 +10,7 @@ use native.Mathlib.Omega.{arith}
 use lib.Dec.{eqb, ltb}
 use lib.ListN.{length, drop, length-take}
 use borrow.Author.Tests.{eqb-true, eq-eqb, ltb-true, ltb-false, not-false}
+use Rattle.base.specs.Answers.{Answer, given, refused}
 use Rattle.base.specs.Below.{sumBelow}
 use Rattle.base.proofs.Answers.{and-left, and-right, or-left, or-right}
 use Rattle.base.proofs.Below.{below-suc, first-none-at}
@@ -46,20 +47,20 @@ use Rattle.report.proofs.Facts.{when-none, mapO-none, first-some, diffe
 
 -- ---- 11 and 12
 
-module _ (a : Option ℕ) (t : List ℕ) (fs : Faces) (ps : Places) (e : refusal1112 a t fs ps ≡ none) where
-  pub table-taken : (k : ℕ) × (a ≡ some k)
+module _ (a : Answer ℕ) (t : List ℕ) (fs : Faces) (ps : Places) (e : refusal1112 a t fs ps ≡ none) where
+  pub table-taken : (k : ℕ) × (a ≡ given k)
   table-taken = go a e
     where
-      go : (a : Option ℕ) → refusal1112 a t fs ps ≡ none → (k : ℕ) × (a ≡ some k)
-      go none e = none-some (sym e)
-      go (some k) e = (k, refl)
+      go : (a : Answer ℕ) → refusal1112 a t fs ps ≡ none → (k : ℕ) × (a ≡ given k)
+      go (refused k p) e = none-some (sym e)
+      go (given k) e = (k, refl)
 
   pub no-misfit : misfitAt t fs ≡ none
   no-misfit = go a e
     where
-      go : (a : Option ℕ) → refusal1112 a t fs ps ≡ none → misfitAt t fs ≡ none
-      go none e = none-some (sym e)
-      go (some k) e = mapO-none _ (misfitAt t fs) e
+      go : (a : Answer ℕ) → refusal1112 a t fs ps ≡ none → misfitAt t fs ≡ none
+      go (refused k p) e = none-some (sym e)
+      go (given k) e = mapO-none _ (misfitAt t fs) e
 
   -- where the entries lie makes no difference
   pub no-1112 : (ps′ : Places) → refusal1112 a t fs ps′ ≡ none
@@ -148,15 +149,15 @@ pub record TakenFrom (size unit pebs : ℕ) (copy0 copy1 t : List ℕ) : Type 0 
   pub is : t ≡ recordsPart size content
 
 module _ (size unit pebs : ℕ) (copy0 copy1 : List ℕ) where
-  pub taken : (k : ℕ) → takenLeb size unit pebs copy0 copy1 ≡ some k → TakenFrom size unit pebs copy0 copy1 (takenRecords size unit pebs copy0 copy1)
+  pub taken : (k : ℕ) → takenLeb size unit pebs copy0 copy1 ≡ given k → TakenFrom size unit pebs copy0 copy1 (takenRecords size unit pebs copy0 copy1)
   unfolding takenLeb takenRecords
   taken k e = go (tableGood size unit pebs copy0) refl (tableGood size unit pebs copy1) refl e
     where
       go : (b : Bool) → tableGood size unit pebs copy0 ≡ b → (c : Bool) → tableGood size unit pebs copy1 ≡ c
-          → cond b (some 0) (cond c (some 1) none) ≡ some k → TakenFrom size unit pebs copy0 copy1 (takenRecords size unit pebs copy0 copy1)
+          → cond b (given 0) (cond c (given 1) (refused 11 0)) ≡ given k → TakenFrom size unit pebs copy0 copy1 (takenRecords size unit pebs copy0 copy1)
       go true p c q e = record { content = copy0; from = inl refl; good = p; is = rw p }
       go false p true q e = record { content = copy1; from = inr refl; good = q; is = rw (p, q) }
-      go false p false q e = none-some e
+      go false p false q e = absurd (let z : _≡_ {A = ℕ} 0 1 = cc in omega arith)
 
   module _ (t : List ℕ) (T : TakenFrom size unit pebs copy0 copy1 t) where
     past-count : (v : ℕ) → recordCount size ≤ v → recordOf (recordAt t v) .reserved ≡ 0

@@ -17,8 +17,8 @@ use Rattle.base.proofs.Below.{all-at}
 use Rattle.base.proofs.Lists.{eqs-true, bytes-part}
 use Rattle.field.specs.Be.{beFrom}
 use Rattle.field.proofs.Laws.{field-lt}
-use Rattle.volume_table.specs.Record.{recordOf, recordSummed, emptyRecord, isEmpty, recordRules, recordGood}
-use Rattle.volume_table.specs.Table.{recordCount, recordsPart, recordAt, recordFine, tableRules, tableGood}
+use Rattle.volume_table.specs.Record.{recordOf, recordCrcMatches, emptyRecord, isEmpty, recordRules, recordGood}
+use Rattle.volume_table.specs.Table.{recordCount, recordsPart, recordAt, emptyOrGood, tableRules, tableTests, tableGood}
 use Rattle.volume_table.specs.declared.VolumeRecord.{VolumeRecord}
 
 -- ---- numbers
@@ -65,7 +65,7 @@ widths r h b = record {
 module _ (size unit : ℕ) (r : List ℕ) (g : recordGood size unit r ≡ true) where
   kept : (k : ℕ) → getD (recordRules size unit (recordOf r)) k true ≡ true
   unfolding recordGood
-  kept = each-holds (recordRules size unit (recordOf r)) (and-right (recordSummed r) (allOf (recordRules size unit (recordOf r))) g)
+  kept = each-holds (recordRules size unit (recordOf r)) (and-right (recordCrcMatches r) (allOf (recordRules size unit (recordOf r))) g)
 
   pub good-reserved : 0 < recordOf r .reserved
   unfolding recordRules
@@ -100,9 +100,9 @@ pub empty-reserves-none : (r : List ℕ) → isEmpty r ≡ true → recordOf r .
 unfolding isEmpty emptyRecord recordOf beFrom
 empty-reserves-none r e = rw (eqs-true r emptyRecord e)
 
-module _ (size unit : ℕ) (r : List ℕ) (f : recordFine size unit r ≡ true) where
+module _ (size unit : ℕ) (r : List ℕ) (f : emptyOrGood size unit r ≡ true) where
   pub empty-or-good : (isEmpty r ≡ true) ⊎ (recordGood size unit r ≡ true)
-  unfolding recordFine
+  unfolding emptyOrGood
   empty-or-good = or-true-cases (isEmpty r) (recordGood size unit r) f
 
   pub other-is-good : isEmpty r ≡ false → recordGood size unit r ≡ true
@@ -121,18 +121,18 @@ module _ (size unit : ℕ) (r : List ℕ) (f : recordFine size unit r ≡ true) 
 -- ---- a good table
 
 module _ (size unit pebs : ℕ) (content : List ℕ) (g : tableGood size unit pebs content ≡ true) where
-  rule : (k : ℕ) → getD (tableRules (recordCount size) size unit pebs (recordsPart size content)) k true ≡ true
+  rule : (k : ℕ) → getD (tableTests (recordCount size) size unit pebs (recordsPart size content)) k true ≡ true
   unfolding tableGood
-  rule = each-holds (tableRules (recordCount size) size unit pebs (recordsPart size content)) g
+  rule = each-holds (tableTests (recordCount size) size unit pebs (recordsPart size content)) g
 
   pub has-records : (0 < recordCount size) × (172 * recordCount size ≤ length (recordsPart size content))
-  unfolding tableRules
+  unfolding tableTests tableRules
   has-records = (ltb-true _ _ (rule 0), leb-true _ _ (rule 1))
 
-  pub records-fine : (i : ℕ) → i < recordCount size → recordFine size unit (recordAt (recordsPart size content) i) ≡ true
-  unfolding tableRules
-  records-fine = all-at (recordCount size) (λ (i : ℕ). recordFine size unit (recordAt (recordsPart size content) i)) (rule 2)
+  pub records-fine : (i : ℕ) → i < recordCount size → emptyOrGood size unit (recordAt (recordsPart size content) i) ≡ true
+  unfolding tableTests tableRules
+  records-fine = all-at (recordCount size) (λ (i : ℕ). emptyOrGood size unit (recordAt (recordsPart size content) i)) (rule 2)
 
   pub reserved-within : sumBelow (recordCount size) (λ (i : ℕ). recordOf (recordAt (recordsPart size content) i) .reserved) ≤ pebs - 2
-  unfolding tableRules
+  unfolding tableTests tableRules
   reserved-within = leb-true _ _ (rule 5)

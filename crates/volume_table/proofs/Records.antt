@@ -15,9 +15,9 @@ use Rattle.base.specs.Lists.{part, eqs, put}
 use Rattle.base.proofs.Answers.{one-broken}
 use Rattle.field.specs.Be.{beOf, toBeOn, toBe}
 use Rattle.crc32.specs.Crc.{crcOf}
-use Rattle.volume_table.specs.Record.{nameEnds, recordRules, recordOf, recordSummed, recordGood, emptyRecord, isEmpty, empty, good, bad, judgeRecord, shownRecord}
+use Rattle.volume_table.specs.Record.{nameEnds, recordRules, recordOf, recordCrcMatches, recordGood, emptyRecord, isEmpty, empty, good, bad, judgeRecord, shownRecord}
 use Rattle.volume_table.specs.Sums.{tallied}
-use Rattle.volume_table.specs.Table.{recordFine}
+use Rattle.volume_table.specs.Table.{emptyOrGood}
 use Rattle.volume_table.specs.declared.Tally.{Tally}
 use Rattle.volume_table.specs.declared.VolumeRecord.{VolumeRecord}
 use Rattle.volume_table.proofs.Laws.{part-take, all-broken, all-more, above-zero}
@@ -72,12 +72,12 @@ module _ (size unit : ℕ) (v : VolumeRecord) where
 
 module _ (size unit : ℕ) (r : List ℕ) where
   pub not-summed : {s k : ℕ} → s ≡ crcOf (take 168 r) → k ≡ beOf (part 168 4 r) → (s ≡ k → ⊥) → false ≡ recordGood size unit r
-  unfolding recordGood recordSummed
+  unfolding recordGood recordCrcMatches
   not-summed p q n = rw (← p, ← q, ne-eqb _ _ n)
 
   pub rules-decide : {s k : ℕ} {v : VolumeRecord} {g : Bool} → s ≡ crcOf (take 168 r) → k ≡ beOf (part 168 4 r) → s ≡ k
       → v ≡ recordOf r → g ≡ allOf (recordRules size unit v) → g ≡ recordGood size unit r
-  unfolding recordGood recordSummed
+  unfolding recordGood recordCrcMatches
   rules-decide p q e v g = g ∙ rw (← p, ← q, eq-eqb _ _ e, v)
 
 -- the comparison with the empty record
@@ -127,15 +127,15 @@ module _ (size unit : ℕ) (s : List ℕ) {v : VolumeRecord} {e : List ℕ} {b :
 
 -- ---- the sums with one record more
 
-pub fine-empty : (size unit : ℕ) (r : List ℕ) {e : List ℕ} {b : Bool} → e ≡ emptyRecord → b ≡ eqs r e → b ≡ true → true ≡ recordFine size unit r
-unfolding recordFine
+pub fine-empty : (size unit : ℕ) (r : List ℕ) {e : List ℕ} {b : Bool} → e ≡ emptyRecord → b ≡ eqs r e → b ≡ true → true ≡ emptyOrGood size unit r
+unfolding emptyOrGood
 fine-empty size unit r p q t = rw (← (empty-test r p q), t)
 
-pub fine-other : (size unit : ℕ) (r : List ℕ) {e : List ℕ} {b g : Bool} → e ≡ emptyRecord → b ≡ eqs r e → b ≡ false → g ≡ recordGood size unit r → g ≡ recordFine size unit r
-unfolding recordFine
+pub fine-other : (size unit : ℕ) (r : List ℕ) {e : List ℕ} {b g : Bool} → e ≡ emptyRecord → b ≡ eqs r e → b ≡ false → g ≡ recordGood size unit r → g ≡ emptyOrGood size unit r
+unfolding emptyOrGood
 fine-other size unit r p q t g = g ∙ rw (← (empty-test r p q), t)
 
-pub tallied-as : (size unit : ℕ) (s : Tally) (r : List ℕ) {v : VolumeRecord} {f : Bool} → v ≡ recordOf r → f ≡ recordFine size unit r
+pub tallied-as : (size unit : ℕ) (s : Tally) (r : List ℕ) {v : VolumeRecord} {f : Bool} → v ≡ recordOf r → f ≡ emptyOrGood size unit r
     → record { fine = f; reserved = s .reserved + v .reserved; autoresize = s .autoresize + bitAnd (v .flags) 1 } ≡ tallied size unit s r
 unfolding tallied
 tallied-as size unit s r p q = rw (p, q)

@@ -1,7 +1,7 @@
 -- Laws of the volume table. Assumes nothing.
 use mathlib.Core.Path.{_≡_, refl, sym, ap, _∙_, ap₂}
 use mathlib.Core.Bool.{Bool, true, false, not, _&&_, and-true, and-false, and-self, cond}
-use mathlib.Core.Option.{Option, some, none}
+use Rattle.base.specs.Answers.{Answer, given, refused}
 use mathlib.Core.List.{List, []}
 use Prim.Native.Nat.{ℕ, zero, suc, _+_, _-_, _*_, _≤_, _<_, min}
 use native.Mathlib.Nat.{add-sub-cancel-left, min-le-left, sub-zero}
@@ -20,7 +20,7 @@ use Rattle.base.proofs.Lists.{length-part, eqs-lengths, eqs-true}
 use Rattle.field.specs.Be.{beOf}
 use Rattle.volume_table.specs.Record.{recordOf, emptyRecord, isEmpty}
 use Rattle.volume_table.specs.Sums.{tallied, TallyOf}
-use Rattle.volume_table.specs.Table.{recordCount, recordsPart, recordAt, recordFine, nameOf, sameNames, autoresizes, tableRules, tableGood, takenLeb, takenRecords, copiesMark}
+use Rattle.volume_table.specs.Table.{recordCount, recordsPart, recordAt, emptyOrGood, nameOf, sameNames, autoresizes, tableRules, tableTests, tableGood, takenLeb, takenRecords, copiesMark}
 use Rattle.volume_table.specs.declared.Tally.{Tally}
 use Rattle.volume_table.proofs.Laws.{part-part, front, all-broken, all-more, not-above, above-zero}
 use Rattle.volume_table.proofs.Records.{empty-test}
@@ -107,7 +107,7 @@ bit-counts (suc (suc n)) h = absurd (omega arith)
 
 module _ (size unit : ℕ) (t : List ℕ) where
   abbrev fineAt : ℕ → Bool
-  fineAt i = recordFine size unit (recordAt t i)
+  fineAt i = emptyOrGood size unit (recordAt t i)
 
   pub tally-none : TallyOf 0 size unit t (record { fine = true; reserved = 0; autoresize = 0 })
   tally-none = record { fine = refl; reserved = λ _. refl; autoresize = λ _. refl }
@@ -137,16 +137,16 @@ module _ (size unit : ℕ) (t : List ℕ) where
 
 -- one rule broken is enough
 one-fails : (size unit pebs : ℕ) (content : List ℕ) {n : ℕ} {t : List ℕ} → n ≡ recordCount size → t ≡ recordsPart size content
-    → (k : ℕ) → getD (tableRules n size unit pebs t) k true ≡ false → false ≡ tableGood size unit pebs content
+    → (k : ℕ) → getD (tableTests n size unit pebs t) k true ≡ false → false ≡ tableGood size unit pebs content
 unfolding tableGood
-one-fails size unit pebs content {n} {t} p q k e = rw (← p, ← q) (sym (one-broken (tableRules n size unit pebs t) k e))
+one-fails size unit pebs content {n} {t} p q k e = rw (← p, ← q) (sym (one-broken (tableTests n size unit pebs t) k e))
 
 pub no-records : (size unit pebs : ℕ) (content : List ℕ) {n : ℕ} → n ≡ recordCount size → n ≡ 0 → false ≡ tableGood size unit pebs content
-unfolding tableRules
+unfolding tableTests tableRules
 no-records size unit pebs content p z = one-fails size unit pebs content p refl 0 (not-above _ z)
 
 pub too-short : (size unit pebs : ℕ) (content : List ℕ) {n : ℕ} → n ≡ recordCount size → length content < 172 * n → false ≡ tableGood size unit pebs content
-unfolding tableRules
+unfolding tableTests tableRules
 too-short size unit pebs content p h = one-fails size unit pebs content p refl 1 (lt-leb _ _ (cut-short size content p h))
 
 -- the count n, the records t and their sums s, as computed
@@ -156,26 +156,26 @@ pub record Summed (size unit : ℕ) (content : List ℕ) (n : ℕ) (t : List ℕ
   pub sums : TallyOf n size unit t s
 
 module _ (size unit pebs : ℕ) (content : List ℕ) {n : ℕ} {t : List ℕ} {s : Tally} (h : Summed size unit content n t s) where
-  fails : (k : ℕ) → getD (tableRules n size unit pebs t) k true ≡ false → false ≡ tableGood size unit pebs content
+  fails : (k : ℕ) → getD (tableTests n size unit pebs t) k true ≡ false → false ≡ tableGood size unit pebs content
   fails = one-fails size unit pebs content (h .count) (h .records)
 
   pub not-fine : s .fine ≡ false → false ≡ tableGood size unit pebs content
-  unfolding tableRules
+  unfolding tableTests tableRules
   not-fine f = fails 2 (sym (h .sums .fine) ∙ f)
 
   module _ (f : s .fine ≡ true) where
     pub too-many : 1 < s .autoresize → false ≡ tableGood size unit pebs content
-    unfolding tableRules
+    unfolding tableTests tableRules
     too-many l = fails 4 (lt-leb _ _ (rw (h .sums .autoresize f) at l))
 
     pub too-much : pebs - 2 < s .reserved → false ≡ tableGood size unit pebs content
-    unfolding tableRules
+    unfolding tableTests tableRules
     too-much l = fails 5 (lt-leb _ _ (rw (h .sums .reserved f) at l))
 
     -- with the other rules kept, the names decide
     pub names-decide : {d : Bool} → (n ≡ 0 → ⊥) → 172 * n ≤ length t → s .autoresize ≤ 1 → s .reserved ≤ pebs - 2
         → d ≡ not (anyBelow n (λ (j : ℕ). anyBelow j (repeats t j))) → d ≡ tableGood size unit pebs content
-    unfolding tableGood tableRules
+    unfolding tableGood tableTests tableRules
     names-decide z l a r d =
         d
         ∙ rw (← (h .count), ← (h .records), above-zero _ z, le-leb _ _ l, ← (h .sums .fine), f, ← (h .sums .autoresize f), le-leb _ _ a, ← (h .sums .reserved f), le-leb _ _ r)
@@ -188,9 +188,9 @@ module _ (size unit pebs : ℕ) (copy0 copy1 : List ℕ) where
   unfolding tableGood
   good-as e = rw e
 
-  module _ {g : Bool} {k : Option ℕ} {m : ℕ} (p : g ≡ tableGood size unit pebs copy0) where
+  module _ {g : Bool} {k : Answer ℕ} {m : ℕ} (p : g ≡ tableGood size unit pebs copy0) where
     -- equal records are judged once
-    pub chosen-equal : eqs (recordsPart size copy0) (recordsPart size copy1) ≡ true → k ≡ cond g (some 0) (cond g (some 1) none) → m ≡ cond g 0 1
+    pub chosen-equal : eqs (recordsPart size copy0) (recordsPart size copy1) ≡ true → k ≡ cond g (given 0) (cond g (given 1) (refused 11 0)) → m ≡ cond g 0 1
         → (k ≡ takenLeb size unit pebs copy0 copy1) × (m ≡ copiesMark size unit pebs copy0 copy1)
     unfolding takenLeb copiesMark
     chosen-equal e a b =
@@ -198,7 +198,7 @@ module _ (size unit pebs : ℕ) (copy0 copy1 : List ℕ) where
         (a ∙ rw (← p, ← q), b ∙ rw (← p, ← q, e, and-self))
 
     pub chosen-unequal : {h : Bool} → h ≡ tableGood size unit pebs copy1 → eqs (recordsPart size copy0) (recordsPart size copy1) ≡ false
-        → k ≡ cond g (some 0) (cond h (some 1) none) → m ≡ cond (g && h) 2 1
+        → k ≡ cond g (given 0) (cond h (given 1) (refused 11 0)) → m ≡ cond (g && h) 2 1
         → (k ≡ takenLeb size unit pebs copy0 copy1) × (m ≡ copiesMark size unit pebs copy0 copy1)
     unfolding takenLeb copiesMark
     chosen-unequal q e a b = (a ∙ rw (← p, ← q), b ∙ rw (← p, ← q, e))

@@ -28,8 +28,8 @@ recordOf r = record {
 }
 
 -- "CRC of 0-167 at 168-171"
-unfoldable pub recordSummed : List ℕ → Bool
-recordSummed r = eqb (crcOf (take 168 r)) (beOf (part 168 4 r))
+unfoldable pub recordCrcMatches : List ℕ → Bool
+recordCrcMatches r = eqb (crcOf (take 168 r)) (beOf (part 168 4 r))
 
 -- "An empty record has reserved 0 and is 168 zeroes with their CRC."
 unfoldable pub emptyRecord : List ℕ
@@ -42,7 +42,7 @@ isEmpty r = eqs r emptyRecord
 unfoldable pub nameEnds : List ℕ → ℕ → Bool
 nameEnds name n = allBelow n (λ (i : ℕ). not (eqb (getD name i 0) 0)) && eqb (getD name n 0) 0
 
--- what a record other than the empty one has to say, beside its CRC, in 01's order
+-- what a record other than the empty one must satisfy, beside its CRC, in 01's order
 unfoldable pub recordRules : ℕ → ℕ → VolumeRecord → List Bool
 recordRules size unit v =
     -- "reserved is above 0"
@@ -60,22 +60,22 @@ recordRules size unit v =
 
 -- "Any other is good if the CRC matches, .."
 unfoldable pub recordGood : ℕ → ℕ → List ℕ → Bool
-recordGood size unit r = recordSummed r && allOf (recordRules size unit (recordOf r))
+recordGood size unit r = recordCrcMatches r && allOf (recordRules size unit (recordOf r))
 
 -- a record is empty, good or neither
-pub data Judged : Type 0 where
-  empty : Judged
-  good : Judged
-  bad : Judged
+pub data RecordVerdict : Type 0 where
+  empty : RecordVerdict
+  good : RecordVerdict
+  bad : RecordVerdict
 
 -- the record at the start of a lent slice; refusal 4 where the slice is shorter than a record
-unfoldable pub judgeRecord : ℕ → ℕ → List ℕ → Answer Judged
+unfoldable pub judgeRecord : ℕ → ℕ → List ℕ → Answer RecordVerdict
 judgeRecord size unit s =
     cond (ltb (length s) 172) (refused 4 0)
     (given (cond (isEmpty (take 172 s)) empty (cond (recordGood size unit (take 172 s)) good bad)))
 
 -- what each case of the answer is in 01
-abbrev pub recordKind : RecordKind → Answer Judged
+abbrev pub recordKind : RecordKind → Answer RecordVerdict
 recordKind Empty = given empty
 recordKind Good = given good
 recordKind Bad = given bad

@@ -2,11 +2,10 @@
 use Prim.Native.Nat.{ℕ, _-_, _*_, _/_, min}
 use mathlib.Core.Bool.{Bool, not, _&&_, _||_, cond}
 use mathlib.Core.List.{List, [], _∷_}
-use mathlib.Core.Option.{Option, none, some}
 use lib.Bits.{bitAnd}
 use lib.Dec.{eqb, ltb, leb}
 use lib.ListN.{length, take}
-use Rattle.base.specs.Answers.{allOf}
+use Rattle.base.specs.Answers.{Answer, given, refused, allOf}
 use Rattle.base.specs.Below.{allBelow, anyBelow, countBelow, sumBelow}
 use Rattle.base.specs.Lists.{part, eqs}
 use Rattle.volume_table.specs.Record.{recordOf, isEmpty, recordGood}
@@ -26,8 +25,8 @@ abbrev pub recordAt : List ℕ → ℕ → List ℕ
 recordAt t i = part (172 * i) 172 t
 
 -- "A table is good if all records are": empty or good
-unfoldable pub recordFine : ℕ → ℕ → List ℕ → Bool
-recordFine size unit r = isEmpty r || recordGood size unit r
+unfoldable pub emptyOrGood : ℕ → ℕ → List ℕ → Bool
+emptyOrGood size unit r = isEmpty r || recordGood size unit r
 
 -- the name bytes of a record
 unfoldable pub nameOf : List ℕ → List ℕ
@@ -41,30 +40,37 @@ sameNames a b = not (isEmpty a) && (not (isEmpty b) && eqs (nameOf a) (nameOf b)
 unfoldable pub autoresizes : List ℕ → Bool
 autoresizes r = eqb (bitAnd (recordOf r .flags) 1) 1
 
--- the rules of a table of n records on a chip of `pebs` PEBs, in 01's order; a LEB that holds no record has no good table,
--- and neither has a copy that is too short for its records
+-- "PEB count less 2"; 0 where there are fewer than 2, which no image of 01 has
+abbrev pub reservedLimit : ℕ → ℕ
+reservedLimit pebs = pebs - 2
+
+-- the rules of a table of n records on a chip of `pebs` PEBs, in 01's order
 unfoldable pub tableRules : ℕ → ℕ → ℕ → ℕ → List ℕ → List Bool
 tableRules n size unit pebs t =
-    ltb 0 n ∷ leb (172 * n) (length t)
     -- "all records are"
-    ∷ allBelow n (λ (i : ℕ). recordFine size unit (recordAt t i))
+    allBelow n (λ (i : ℕ). emptyOrGood size unit (recordAt t i))
     -- "no two nonempty ones have the same name bytes"
     ∷ not (anyBelow n (λ (j : ℕ). anyBelow j (λ (i : ℕ). sameNames (recordAt t i) (recordAt t j))))
     -- "at most one autoresizes"
     ∷ leb (countBelow n (λ (i : ℕ). autoresizes (recordAt t i))) 1
     -- "reserved PEBs sum to at most PEB count less 2"
-    ∷ leb (sumBelow n (λ (i : ℕ). recordOf (recordAt t i) .reserved)) (pebs - 2) ∷ []
+    ∷ leb (sumBelow n (λ (i : ℕ). recordOf (recordAt t i) .reserved)) (reservedLimit pebs) ∷ []
+
+-- ours, before them: a LEB that is too small for a record (none of 01's geometry is) has no good table, and neither has a copy that is too
+-- short for its records
+unfoldable pub tableTests : ℕ → ℕ → ℕ → ℕ → List ℕ → List Bool
+tableTests n size unit pebs t = ltb 0 n ∷ leb (172 * n) (length t) ∷ tableRules n size unit pebs t
 
 -- is the table in a layout LEB's content good? A LEB that is not mapped has no bytes
 unfoldable pub tableGood : ℕ → ℕ → ℕ → List ℕ → Bool
-tableGood size unit pebs content = allOf (tableRules (recordCount size) size unit pebs (recordsPart size content))
+tableGood size unit pebs content = allOf (tableTests (recordCount size) size unit pebs (recordsPart size content))
 
 module _ (size unit pebs : ℕ) (copy0 copy1 : List ℕ) where
-  -- "LEB 0's table is taken if mapped and good, else LEB 1's": the LEB, if one is good
-  unfoldable pub takenLeb : Option ℕ
-  takenLeb = cond (tableGood size unit pebs copy0) (some 0) (cond (tableGood size unit pebs copy1) (some 1) none)
+  -- "LEB 0's table is taken if mapped and good, else LEB 1's": the LEB; refusal 11 "no good table"
+  unfoldable pub takenLeb : Answer ℕ
+  takenLeb = cond (tableGood size unit pebs copy0) (given 0) (cond (tableGood size unit pebs copy1) (given 1) (refused 11 0))
 
-  -- the records of the table taken; none where neither copy is good
+  -- the records of the table taken; no bytes where neither copy is good
   unfoldable pub takenRecords : List ℕ
   takenRecords = cond (tableGood size unit pebs copy0) (recordsPart size copy0) (cond (tableGood size unit pebs copy1) (recordsPart size copy1) [])
 
@@ -74,7 +80,7 @@ module _ (size unit pebs : ℕ) (copy0 copy1 : List ℕ) where
       cond (tableGood size unit pebs copy0 && tableGood size unit pebs copy1) (cond (eqs (recordsPart size copy0) (recordsPart size copy1)) 0 2) 1
 
 -- what each case of the answer is in 01: the layout LEB whose table is taken
-abbrev pub takenNumber : Taken → Option ℕ
-takenNumber First = some 0
-takenNumber Second = some 1
-takenNumber Neither = none
+abbrev pub takenNumber : Taken → Answer ℕ
+takenNumber First = given 0
+takenNumber Second = given 1
+takenNumber Neither = refused 11 0

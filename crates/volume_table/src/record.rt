@@ -139,8 +139,8 @@ fn is_good(r: &[u8], v: VolumeRecord, leb_size: u32, unit: u32) -> bool
 
 // The record at the start of a slice: what it is, with its numbers and name.
 pub fn read_record(bytes: &[u8], leb_size: u32, unit: u32) -> RecordRead
-    ensures { λ r. ⌜ (recordKind (r .kind) ≡ judgeRecord «leb_size» unit (now (bytes .entry)))
-        × (r .record ≡ shownRecord (now (bytes .entry))) ⌝ }
+    ensures kind { λ r. ⌜ recordKind (r .kind) ≡ judgeRecord «leb_size» unit (now (bytes .entry)) ⌝ }
+    ensures record { λ r. ⌜ r .record ≡ shownRecord (now (bytes .entry)) ⌝ }
 {
     if bytes.len() < 172 {
         let zeroes = [0u8; 172];

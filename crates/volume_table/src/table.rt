@@ -1,13 +1,13 @@
 // The volume table: its records, and which of the two copies is taken.
 ghost use mathlib.Core.Path.{_≡_};
 ghost use mathlib.Core.Bool.{not, _&&_, cond};
-ghost use mathlib.Core.Option.{none, some};
+ghost use Rattle.base.specs.Answers.{given, refused};
 ghost use Prim.Native.Nat.{ℕ, _+_, _-_, _*_, _≤_, _<_};
 ghost use lib.ListN.{length};
 ghost use Rattle.base.specs.Below.{anyBelow};
 ghost use Rattle.base.specs.Lists.{part, eqs};
 ghost use Rattle.volume_table.specs.Record.{emptyRecord, isEmpty};
-ghost use Rattle.volume_table.specs.Table.{recordCount, recordsPart, recordAt, nameOf, sameNames, tableGood, takenLeb, takenRecords, copiesMark, takenNumber};
+ghost use Rattle.volume_table.specs.Table.{recordCount, recordsPart, recordAt, nameOf, sameNames, reservedLimit, tableGood, takenLeb, takenRecords, copiesMark, takenNumber};
 ghost use Rattle.volume_table.specs.Sums.{TallyOf};
 use crate::TableChoice;
 use crate::Taken;
@@ -158,7 +158,7 @@ pub fn table_good(content: &[u8], leb_size: u32, unit: u32, peb_count: u32) -> b
 
 // "PEB count less 2", and not below 0.
 fn most_reserved(peb_count: u32) -> u64
-    ensures { λ r. ⌜ r ≡ «peb_count» - 2 ⌝ }
+    ensures { λ r. ⌜ r ≡ reservedLimit «peb_count» ⌝ }
 {
     if peb_count < 2 {
         return 0;
@@ -168,7 +168,7 @@ fn most_reserved(peb_count: u32) -> u64
 
 // The choice where the copies' records are equal.
 fn choice_of_equal(good: bool) -> TableChoice
-    ensures { λ r. ⌜ (takenNumber (r .taken) ≡ cond good (some 0) (cond good (some 1) none)) × (r .«copies_mark» ≡ cond good 0 1) ⌝ }
+    ensures { λ r. ⌜ (takenNumber (r .taken) ≡ cond good (given 0) (cond good (given 1) (refused 11 0))) × (r .«copies_mark» ≡ cond good 0 1) ⌝ }
 {
     if good {
         return TableChoice {
@@ -184,7 +184,7 @@ fn choice_of_equal(good: bool) -> TableChoice
 
 // The choice where they differ.
 fn choice_of(good0: bool, good1: bool) -> TableChoice
-    ensures { λ r. ⌜ (takenNumber (r .taken) ≡ cond good0 (some 0) (cond good1 (some 1) none)) × (r .«copies_mark» ≡ cond (good0 && good1) 2 1) ⌝ }
+    ensures { λ r. ⌜ (takenNumber (r .taken) ≡ cond good0 (given 0) (cond good1 (given 1) (refused 11 0))) × (r .«copies_mark» ≡ cond (good0 && good1) 2 1) ⌝ }
 {
     if good0 {
         if good1 {
@@ -218,8 +218,8 @@ pub fn choose_table(
     unit: u32,
     peb_count: u32,
 ) -> TableChoice
-    ensures { λ r. ⌜ (takenNumber (r .taken) ≡ takenLeb «leb_size» unit «peb_count» (now (copy0 .entry)) (now (copy1 .entry)))
-        × (r .«copies_mark» ≡ copiesMark «leb_size» unit «peb_count» (now (copy0 .entry)) (now (copy1 .entry))) ⌝ }
+    ensures taken { λ r. ⌜ takenNumber (r .taken) ≡ takenLeb «leb_size» unit «peb_count» (now (copy0 .entry)) (now (copy1 .entry)) ⌝ }
+    ensures mark { λ r. ⌜ r .«copies_mark» ≡ copiesMark «leb_size» unit «peb_count» (now (copy0 .entry)) (now (copy1 .entry)) ⌝ }
 {
     let good0 = table_good(copy0, leb_size, unit, peb_count);
     if base::same(records_part(copy0, leb_size), records_part(copy1, leb_size)) {
@@ -229,7 +229,7 @@ pub fn choose_table(
     choice_of(good0, table_good(copy1, leb_size, unit, peb_count))
 }
 
-// The records of the table taken; none where neither copy is good.
+// The records of the table taken; no bytes where neither copy is good.
 pub fn taken_table<'a>(
     copy0: &'a [u8],
     copy1: &'a [u8],

@@ -1,0 +1,7 @@
+pub mod View
+pub mod Scan
+pub mod Choice
+pub mod Volumes
+pub mod Report
+pub mod Attach
+pub mod Scratch

@@ -1,0 +1,85 @@
+-- 01 'Refusal numbers': 5 to 8, which go PEB by PEB, and 10. Assumes nothing.
+use Prim.Native.Nat.{ℕ}
+use mathlib.Core.Bool.{Bool, true, false, not, _&&_}
+use mathlib.Core.Option.{Option, none, some}
+use lib.Dec.{eqb}
+use Rattle.base.specs.Answers.{orElse, mapO}
+use Rattle.base.specs.Below.{allBelow, firstBelow}
+use Rattle.geometry.specs.declared.Geometry.{Geometry}
+use Rattle.header.specs.declared.EcHeader.{EcHeader}
+use Rattle.report.specs.View.{
+  Copy,
+  EcView,
+  ecGood,
+  ecNewer,
+  ecBlank,
+  ecLost,
+  VidView,
+  vidGood,
+  vidNewer,
+  vidBlank,
+  vidBad,
+  View,
+  Views,
+  ecs,
+  isMappable,
+}
+
+-- a refusal: "number and place"
+pub record Refusal : Type 0 where
+  pub number : ℕ
+  pub place : ℕ
+
+-- the number, if the test holds
+abbrev pub when : Bool → ℕ → Option ℕ
+when true k = some k
+when false k = none
+
+-- does a number differ from the one compared with, if there is one?
+abbrev pub differs : Option ℕ → ℕ → Bool
+differs none x = false
+differs (some y) x = not (eqb x y)
+
+-- the image sequence that refusal 7 compares with: "that of the lowest PEB with a good EC"
+unfoldable pub imageSeq : ℕ → Views → Option ℕ
+imageSeq n vs = mapO (λ (x : ℕ × EcHeader). x .1 .«image_seq») (firstBelow n (ecs vs))
+
+-- 5 "header version above 1"; 6 "good EC names other VID or data starts"; 7 "image sequence differs"
+abbrev pub ecRefusal : Geometry → Option ℕ → EcView → Option ℕ
+ecRefusal g seq ecNewer = some 5
+ecRefusal g seq (ecGood h) =
+    orElse (when (not (eqb (h .«vid_start») (g .«vid_start») && eqb (h .«data_start») (g .«data_start»))) 6) (when (differs seq (h .«image_seq»)) 7)
+ecRefusal g seq ecBlank = none
+ecRefusal g seq ecLost = none
+
+-- 5, of the VID header; 8 "unknown internal volume with compatibility 5"
+abbrev pub vidRefusal : VidView → Option ℕ
+vidRefusal vidNewer = some 5
+vidRefusal (vidGood c) = when (not (isMappable (c .header .volume)) && eqb (c .header .compat) 5) 8
+vidRefusal vidBlank = none
+vidRefusal vidBad = none
+
+-- "within one: EC version, 6, 7, VID version, 8"
+unfoldable pub viewRefusal : Geometry → Option ℕ → View → Option ℕ
+viewRefusal g seq v = orElse (ecRefusal g seq (v .ec)) (vidRefusal (v .vid))
+
+abbrev pub atPeb : ℕ × ℕ → Refusal
+atPeb x = record { number = x .1; place = x .0 }
+
+-- "5 to 8 go PEB by PEB"; the place is the PEB
+unfoldable pub refusal5678 : Geometry → ℕ → Views → Option Refusal
+refusal5678 g n vs = mapO atPeb (firstBelow n (λ (i : ℕ). viewRefusal g (imageSeq n vs) (vs i)))
+
+-- class 0 "free (good EC, VID bytes all 0xFF)" or class 3 "blank (both headers all 0xFF)"
+abbrev pub isUnused : EcView → VidView → Bool
+isUnused (ecGood h) vidBlank = true
+isUnused ecBlank vidBlank = true
+isUnused ecNewer vidBlank = false
+isUnused ecLost vidBlank = false
+isUnused e (vidGood c) = false
+isUnused e vidNewer = false
+isUnused e vidBad = false
+
+-- 10 "every PEB is class 0 or 3"
+unfoldable pub refusal10 : ℕ → Views → Option Refusal
+refusal10 n vs = mapO (λ (k : ℕ). record { number = k; place = 0 }) (when (allBelow n (λ (i : ℕ). isUnused (vs i .ec) (vs i .vid))) 10)

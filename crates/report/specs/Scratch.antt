@@ -1,0 +1,51 @@
+-- What attaching keeps in the lent words before the report is done. Contracts of inner functions cite it; no public promise does.
+-- Assumes nothing.
+use mathlib.Core.Path.{_≡_}
+use Prim.Native.Nat.{ℕ, _*_}
+use mathlib.Core.Bool.{Bool, cond}
+use mathlib.Core.List.{List, [], _∷_}
+use lib.Dec.{eqb}
+use lib.ListN.{take}
+use Rattle.base.specs.Below.{concatBelow}
+use Rattle.header.specs.declared.VidHeader.{VidHeader}
+use Rattle.report.specs.View.{
+  Copy,
+  EcView,
+  ecGood,
+  ecNewer,
+  ecBlank,
+  ecLost,
+  VidView,
+  vidGood,
+  vidNewer,
+  vidBlank,
+  vidBad,
+  View,
+  Views,
+  isMappable,
+}
+use Rattle.report.specs.Report.{noWord}
+
+-- the class of a PEB before any copy is chosen: one of a user or layout LEB is passed over (2) until it is chosen
+abbrev pub firstClass : EcView → VidView → ℕ
+firstClass e (vidGood c) = cond (isMappable (c .header .volume)) 2 (cond (eqb (c .header .compat) 1) 5 6)
+firstClass (ecGood h) vidBlank = 0
+firstClass ecBlank vidBlank = 3
+firstClass ecLost vidBlank = 4
+firstClass ecNewer vidBlank = 4
+firstClass e vidBad = 4
+firstClass e vidNewer = 4
+
+-- volume, LEB and PEB of a copy of a user or layout LEB; else no words
+abbrev pub copyWords : ℕ → VidHeader → List ℕ
+copyWords i h = cond (isMappable (h .volume)) (h .volume ∷ h .lnum ∷ i ∷ []) (noWord ∷ noWord ∷ noWord ∷ [])
+
+abbrev pub keyWords : ℕ → VidView → List ℕ
+keyWords i (vidGood c) = copyWords i (c .header)
+keyWords i vidNewer = noWord ∷ noWord ∷ noWord ∷ []
+keyWords i vidBlank = noWord ∷ noWord ∷ noWord ∷ []
+keyWords i vidBad = noWord ∷ noWord ∷ noWord ∷ []
+
+-- the map's words after the first pass: three for each PEB
+abbrev pub keysOf : ℕ → Views → List ℕ
+keysOf n vs = concatBelow n (λ (i : ℕ). keyWords i (vs i .vid))

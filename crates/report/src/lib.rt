@@ -1,0 +1,20 @@
+// The report on an image: what attaching answers. The definitions and laws that attaching and moving cite stand in specs/ and proofs/.
+
+// The report's numbers, and the PEB count, which a listing shows; the classes, counters, map and volume states are in the lent tables.
+pub struct Report {
+    pub peb_count: u32,
+    pub entries: u32,
+    pub mean: u32,
+    pub highest: u64,
+    pub read_only: bool,
+    // the layout LEB, 0 or 1, whose table is taken
+    pub table: u32,
+    pub copies_mark: u32,
+    pub grade: u32,
+}
+
+// A report, or a refusal's number and place.
+pub enum Attached {
+    Given(Report),
+    Refused { number: u32, place: u32 },
+}
