@@ -1,0 +1,223 @@
+-- The map's words after the first pass, and the copies that they name. Assumes nothing.
+use mathlib.Core.Path.{_≡_, refl, sym, ap, _∙_, subst}
+use mathlib.Core.Logic.{_⊎_, inl, inr, ⊎-elim}
+use mathlib.Core.Bool.{Bool, true, false, not, _&&_, _||_, cond, true≢false, false≢true}
+use mathlib.Core.Option.{Option, none, some}
+use mathlib.Core.List.{List, [], _∷_, _++_}
+use Prim.Native.Nat.{ℕ, zero, suc, _+_, _-_, _*_, _≤_, _<_}
+use native.Mathlib.Omega.{arith}
+use native.Mathlib.Nat.{mul-le-mul-right}
+use borrow.Author.Tests.{eqb-true, eqb-false, eq-eqb, ne-eqb}
+use lib.Dec.{eqb, ltb}
+use lib.ListN.{length, take, drop, getD, length-append, length-take, List·getD-append}
+use lib.Seq.{getD-take, getD-append-add}
+use Rattle.base.specs.Below.{concatBelow}
+use Rattle.base.proofs.Answers.{and-left, and-right, and-intro, clash}
+use Rattle.base.proofs.Below.{below-suc}
+use Rattle.geometry.specs.declared.Geometry.{Geometry}
+use Rattle.geometry.specs.Placed.{Placed}
+use Rattle.header.specs.Vid.{layoutVolume}
+use Rattle.header.specs.declared.VidHeader.{VidHeader}
+use Rattle.report.specs.View.{Copy, VidView, vidGood, vidNewer, vidBlank, vidBad, copyOf, viewsOf, goodVid, copies, isMappable}
+use Rattle.report.specs.Attach.{noWord}
+use Rattle.report.specs.Choice.{repeats, ofKey}
+use Rattle.report.specs.Scratch.{copyWords, keyWords, keysOf}
+use Rattle.report.proofs.First.{none-some}
+use Rattle.choice.specs.Keyed.{Keyed, Within, headerAt, copyAt, sequenceAt, volumeWord, lebWord, sameLeb, repeatsAt}
+use Rattle.choice.proofs.Copies.{copy-is}
+
+-- ---- rows of three
+
+module _ (f : ℕ → List ℕ) (three : (i : ℕ) → length (f i) ≡ 3) where
+  length-rows : (n : ℕ) → length (concatBelow n f) ≡ n * 3
+  length-rows zero = refl
+  length-rows (suc n) = simp length-append (omega (arith, length-rows n, three n))
+
+  row-word : (n i k : ℕ) → i < n → k < 3 → getD (concatBelow n f) (i * 3 + k) 0 ≡ getD (f i) k 0
+  row-word zero i k h l = absurd (omega arith)
+  row-word (suc n) i k h l =
+      ⊎-elim
+      (λ (p : i < n). List·getD-append (concatBelow n f) (f n) 0 (i * 3 + k) (omega (arith, length-rows n)) ∙ row-word n i k p l)
+      (λ (p : i ≡ n). let e : i * 3 + k ≡ length (concatBelow n f) + k = omega (arith, length-rows n) in
+      rw (e, p) (getD-append-add (concatBelow n f) (f n) k 0))
+      (below-suc n i h)
+
+-- ---- the words of one PEB
+
+three-words : (i : ℕ) (x : VidView) → length (keyWords i x) ≡ 3
+three-words i vidNewer = refl
+three-words i vidBlank = refl
+three-words i vidBad = refl
+three-words i (vidGood c) = go (isMappable (c .header .volume))
+  where
+    go : (b : Bool) → length (cond b (c .header .volume ∷ c .header .lnum ∷ i ∷ []) (noWord ∷ noWord ∷ noWord ∷ [])) ≡ 3
+    go true = refl
+    go false = refl
+
+-- no user or layout volume is the word that stands for nothing
+mappable-word : (v : ℕ) → isMappable v ≡ true → v ≡ noWord → ⊥
+mappable-word v m e = false≢true (rw e at m)
+
+-- words that are there name a copy of a user or layout LEB
+record Named (o : Option Copy) (v l : ℕ) : Type 0 where
+  pub copy : Copy
+  pub is : o ≡ some copy
+  pub mappable : isMappable (copy .header .volume) ≡ true
+  pub volume : copy .header .volume ≡ v
+  pub leb : copy .header .lnum ≡ l
+
+named : (i : ℕ) (x : VidView) → (getD (keyWords i x) 0 0 ≡ noWord → ⊥) → Named (goodVid x) (getD (keyWords i x) 0 0) (getD (keyWords i x) 1 0)
+named i vidNewer n = absurd (n refl)
+named i vidBlank n = absurd (n refl)
+named i vidBad n = absurd (n refl)
+named i (vidGood c) n = go (isMappable (c .header .volume)) refl
+  where
+    go : (b : Bool) → isMappable (c .header .volume) ≡ b → Named (some c) (getD (keyWords i (vidGood c)) 0 0) (getD (keyWords i (vidGood c)) 1 0)
+    go true e = record { copy = c; is = refl; mappable = e; volume = rw e; leb = rw e }
+    go false e = absurd (n (rw e))
+
+-- and such a copy has its words there
+words-of : (i : ℕ) (x : VidView) (c : Copy) → goodVid x ≡ some c → isMappable (c .header .volume) ≡ true
+    → (getD (keyWords i x) 0 0 ≡ c .header .volume) × (getD (keyWords i x) 1 0 ≡ c .header .lnum)
+words-of i vidNewer c e m = none-some e
+words-of i vidBlank c e m = none-some e
+words-of i vidBad c e m = none-some e
+words-of i (vidGood d) c e m = let q : d ≡ c = cc in rw (q, m) (refl, refl)
+
+-- ---- the words in the map
+
+-- a PEB that has a copy of a user or layout LEB, with the volume and LEB of its words
+pub record Held (g : Geometry) (image map : List ℕ) (i : ℕ) : Type 0 where
+  pub is : copies (viewsOf g image) i ≡ some (copyAt g image i)
+  pub mappable : isMappable (copyAt g image i .header .volume) ≡ true
+  pub volume : copyAt g image i .header .volume ≡ volumeWord map i
+  pub leb : copyAt g image i .header .lnum ≡ lebWord map i
+
+module _ (g : Geometry) (image : List ℕ) (n : ℕ) (map : List ℕ) (d : Keyed g image n map) where
+  row : ℕ → List ℕ
+  row i = keyWords i (viewsOf g image i .vid)
+
+  rows-three : (i : ℕ) → length (row i) ≡ 3
+  unfolding row
+  rows-three i = three-words i (viewsOf g image i .vid)
+
+  pub map-long : n * 3 ≤ length map
+  unfolding row
+  map-long =
+      let e : length (take (n * 3) map) ≡ n * 3 = ap length (d .keys) ∙ length-rows row rows-three n in
+      omega (arith, simp length-take at e)
+
+  map-word : (i k : ℕ) → i < n → k < 3 → getD map (i * 3 + k) 0 ≡ getD (row i) k 0
+  unfolding row
+  map-word i k h l =
+      sym (getD-take (n * 3) map (i * 3 + k) 0 (omega arith)) ∙ ap (λ (s : List ℕ). getD s (i * 3 + k) 0) (d .keys)
+      ∙ row-word row rows-three n i k h l
+
+  module _ (i : ℕ) (h : i < n) where
+    pub within : Within g image map i
+    within = record {
+      placed = d .placed;
+      bytes = omega (arith, d .whole, mul-le-mul-right (g .«peb_size») h);
+      words = omega (arith, map-long);
+    }
+
+    volume-word : volumeWord map i ≡ getD (row i) 0 0
+    volume-word = let e : i * 3 ≡ i * 3 + 0 = omega arith in rw e (map-word i 0 h (omega arith))
+
+    pub held : (volumeWord map i ≡ noWord → ⊥) → Held g image map i
+    unfolding row
+    held n =
+        let w : Named (copies (viewsOf g image) i) (getD (row i) 0 0) (getD (row i) 1 0) =
+        named i (viewsOf g image i .vid) (λ (e : getD (row i) 0 0 ≡ noWord). n (volume-word ∙ e)) in
+        let e : w .copy ≡ copyAt g image i = copy-is g image i (w .copy) (w .is) in
+        record {
+          is = w .is ∙ ap some e;
+          mappable = rw e at (w .mappable);
+          volume = rw e at (w .volume) ∙ sym volume-word;
+          leb = rw e at (w .leb) ∙ sym (map-word i 1 h (omega arith));
+        }
+
+    -- the words of a copy of a user or layout LEB
+    pub has-words : (c : Copy) → copies (viewsOf g image) i ≡ some c → isMappable (c .header .volume) ≡ true
+        → (volumeWord map i ≡ c .header .volume) × (lebWord map i ≡ c .header .lnum)
+    unfolding row
+    has-words c e m =
+        let w = words-of i (viewsOf g image i .vid) c e m in
+        (volume-word ∙ w .0, map-word i 1 h (omega arith) ∙ w .1)
+
+-- ---- repeats
+
+record Repeat (o p : Option Copy) : Type 0 where
+  pub c : Copy
+  pub d : Copy
+  pub is : o ≡ some c
+  pub was : p ≡ some d
+  pub mappable : isMappable (c .header .volume) ≡ true
+  pub volume : c .header .volume ≡ d .header .volume
+  pub leb : c .header .lnum ≡ d .header .lnum
+
+repeat-of : (o p : Option Copy) → repeats o p ≡ true → Repeat o p
+repeat-of none p e = absurd (false≢true e)
+repeat-of (some c) none e = absurd (false≢true e)
+repeat-of (some c) (some d) e =
+    let t = eqb (c .header .sequence) (d .header .sequence) in
+    let l = eqb (c .header .lnum) (d .header .lnum) in
+    let v = eqb (c .header .volume) (d .header .volume) in
+    let m = isMappable (c .header .volume) in
+    let r = and-right m (v && (l && t)) e in
+    record {
+      c = c;
+      d = d;
+      is = refl;
+      was = refl;
+      mappable = and-left m (v && (l && t)) e;
+      volume = eqb-true (c .header .volume) (d .header .volume) (and-left v (l && t) r);
+      leb = eqb-true (c .header .lnum) (d .header .lnum) (and-left l t (and-right v (l && t) r));
+    }
+
+not-so : (b : Bool) → (b ≡ true → ⊥) → b ≡ false
+not-so true h = absurd (h refl)
+not-so false h = refl
+
+same-true : (map : List ℕ) (i j : ℕ) → sameLeb map i j ≡ true → (volumeWord map i ≡ volumeWord map j) × (lebWord map i ≡ lebWord map j)
+same-true map i j e =
+    let v = eqb (volumeWord map i) (volumeWord map j) in
+    let l = eqb (lebWord map i) (lebWord map j) in
+    (eqb-true (volumeWord map i) (volumeWord map j) (and-left v l e), eqb-true (lebWord map i) (lebWord map j) (and-right v l e))
+
+true-same : (map : List ℕ) (i j : ℕ) → volumeWord map i ≡ volumeWord map j → lebWord map i ≡ lebWord map j → sameLeb map i j ≡ true
+true-same map i j p q = rw (eq-eqb (volumeWord map i) (volumeWord map j) p) (eq-eqb (lebWord map i) (lebWord map j) q)
+
+module _ (g : Geometry) (image : List ℕ) (n : ℕ) (map : List ℕ) (d : Keyed g image n map) (i j : ℕ) (h : i < n) (k : j < n) where
+  abbrev cs : ℕ → Option Copy
+  cs = copies (viewsOf g image)
+
+  repeat-words : repeats (cs i) (cs j) ≡ true → (volumeWord map i ≡ noWord → ⊥) × (sameLeb map i j ≡ true)
+  repeat-words e =
+      let r = repeat-of (cs i) (cs j) e in
+      let a = has-words g image n map d i h (r .c) (r .is) (r .mappable) in
+      let b = has-words g image n map d j k (r .d) (r .was) (rw (r .volume) at (r .mappable)) in (
+        λ (z : volumeWord map i ≡ noWord). mappable-word (r .c .header .volume) (r .mappable) (sym (a .0) ∙ z),
+        true-same map i j (a .0 ∙ r .volume ∙ sym (b .0)) (a .1 ∙ r .leb ∙ sym (b .1)),
+      )
+
+  pub repeat-sequence : (volumeWord map i ≡ noWord → ⊥) → sameLeb map i j ≡ true → repeats (cs i) (cs j) ≡ eqb (sequenceAt g image i) (sequenceAt g image j)
+  unfolding copyOf
+  repeat-sequence z s =
+      let e = same-true map i j s in
+      let a = held g image n map d i h z in
+      let b = held g image n map d j k (λ (y : volumeWord map j ≡ noWord). z (e .0 ∙ y)) in
+      rw (a .is, b .is, a .mappable, eq-eqb (copyAt g image i .header .volume) (copyAt g image j .header .volume) (a .volume ∙ e .0 ∙ sym (b .volume)), eq-eqb (copyAt g image i .header .lnum) (copyAt g image j .header .lnum) (a .leb ∙ e .1 ∙ sym (b .leb)))
+
+  -- what is told from words and sequences is what the definition says of the copies
+  repeats-at : repeatsAt g image map i j ≡ repeats (cs i) (cs j)
+  repeats-at = go (eqb (volumeWord map i) noWord) (sameLeb map i j) refl refl
+    where
+      go : (a b : Bool) → eqb (volumeWord map i) noWord ≡ a → sameLeb map i j ≡ b
+          → not a && (b && eqb (sequenceAt g image i) (sequenceAt g image j)) ≡ repeats (cs i) (cs j)
+      go true b p q = sym (not-so (repeats (cs i) (cs j)) (λ e. repeat-words e .0 (eqb-true (volumeWord map i) noWord p)))
+      go false false p q = sym (not-so (repeats (cs i) (cs j)) (λ e. true≢false (sym (repeat-words e .1) ∙ q)))
+      go false true p q = sym (repeat-sequence (eqb-false (volumeWord map i) noWord p) q)
+
+  pub repeats-told : {t b : Bool} → t ≡ repeatsAt g image map i j → t ≡ b → repeats (cs i) (cs j) ≡ b
+  repeats-told e q = sym repeats-at ∙ sym e ∙ q

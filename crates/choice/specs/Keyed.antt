@@ -1,0 +1,59 @@
+-- What the contracts here cite beside the report's definitions: the map's words after the first pass, and a PEB's copy. Assumes nothing.
+use mathlib.Core.Path.{_≡_}
+use mathlib.Core.Bool.{Bool, true, not, _&&_, _||_, cond}
+use mathlib.Core.Option.{Option, none, some}
+use mathlib.Core.List.{List}
+use Prim.Native.Nat.{ℕ, _+_, _*_, _≤_, _<_}
+use lib.Dec.{eqb, ltb, leb}
+use lib.ListN.{length, take, getD}
+use Rattle.base.specs.Lists.{part}
+use Rattle.geometry.specs.declared.Geometry.{Geometry}
+use Rattle.geometry.specs.Placed.{Placed}
+use Rattle.header.specs.declared.VidHeader.{VidHeader}
+use Rattle.header.specs.Vid.{vidFields}
+use Rattle.report.specs.View.{Copy, vidPart, pebAt, viewsOf, copyOf}
+use Rattle.report.specs.Scan.{Refusal}
+use Rattle.report.specs.Scratch.{keysOf}
+use Rattle.report.specs.Attach.{noWord}
+
+-- an image of n PEBs, and the lent words that hold each PEB's volume, LEB and number
+pub record Keyed (g : Geometry) (image : List ℕ) (n : ℕ) (map : List ℕ) : Type 0 where
+  pub placed : Placed g
+  pub whole : length image ≡ n * g .«peb_size»
+  pub keys : take (n * 3) map ≡ keysOf n (viewsOf g image)
+
+-- the fields in the place of PEB i's VID header, and the copy that they make if the header is good
+unfoldable pub headerAt : Geometry → List ℕ → ℕ → VidHeader
+headerAt g image i = vidFields (vidPart g (pebAt g image i))
+
+abbrev pub copyAt : Geometry → List ℕ → ℕ → Copy
+copyAt g image i = copyOf g (pebAt g image i) (headerAt g image i)
+
+abbrev pub sequenceAt : Geometry → List ℕ → ℕ → ℕ
+sequenceAt g image i = headerAt g image i .sequence
+
+-- the volume and LEB in PEB i's words
+abbrev pub volumeWord : List ℕ → ℕ → ℕ
+volumeWord map i = getD map (i * 3) 0
+
+abbrev pub lebWord : List ℕ → ℕ → ℕ
+lebWord map i = getD map (i * 3 + 1) 0
+
+-- PEB i lies within the image, and its three words within the map
+pub record Within (g : Geometry) (image map : List ℕ) (i : ℕ) : Type 0 where
+  pub placed : Placed g
+  pub bytes : (i + 1) * g .«peb_size» ≤ length image
+  pub words : i * 3 + 3 ≤ length map
+
+-- do the words of two PEBs name one volume and LEB?
+abbrev pub sameLeb : List ℕ → ℕ → ℕ → Bool
+sameLeb map i j = eqb (volumeWord map i) (volumeWord map j) && eqb (lebWord map i) (lebWord map j)
+
+-- does PEB i, which holds a user or layout LEB, repeat the volume, LEB and sequence of PEB j?
+abbrev pub repeatsAt : Geometry → List ℕ → List ℕ → ℕ → ℕ → Bool
+repeatsAt g image map i j =
+    not (eqb (volumeWord map i) noWord) && (sameLeb map i j && eqb (sequenceAt g image i) (sequenceAt g image j))
+
+-- the refusal that a first repeat r stands for, if it is one of the n PEBs
+abbrev pub repeatAt : ℕ → ℕ → Option Refusal
+repeatAt n r = cond (ltb r n) (some (record { number = 9; place = r })) none

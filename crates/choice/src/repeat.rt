@@ -1,0 +1,53 @@
+// Refusal 9: two copies of one user or layout LEB that share a sequence.
+ghost use mathlib.Core.Path.{_≡_};
+ghost use Prim.Native.Nat.{_+_, _*_, _≤_, _<_};
+ghost use lib.ListN.{length};
+ghost use Rattle.report.specs.View.{viewsOf, copies};
+ghost use Rattle.report.specs.Choice.{refusal9};
+ghost use Rattle.choice.specs.Keyed.{Keyed, Within, sameLeb, repeatsAt, repeatAt};
+use crate::copy::sequence;
+use geometry::Geometry;
+
+// The lowest PEB that repeats the volume, LEB and sequence of a lower one; n if there is none.
+pub fn first_repeat(image: &[u8], g: Geometry, n: usize, map: &[u32]) -> usize
+    requires { ⌜ Keyed g (now image) n (now map) ⌝ }
+    ensures { λ r. ⌜ (repeatAt n r ≡ refusal9 n (copies (viewsOf g (now (image .entry))))) × (r ≤ n) ⌝ }
+{
+    let mut i: usize = 0;
+    'pebs: while i < n {
+        let mut j: usize = 0;
+        while j < i {
+            if is_repeat(image, g, map, i, j) {
+                break 'pebs;
+            }
+            j += 1;
+        }
+        i += 1;
+    }
+    i
+}
+
+// Does PEB i, which holds a user or layout LEB, repeat PEB j? The image is read only where volume and LEB agree.
+fn is_repeat(image: &[u8], g: Geometry, map: &[u32], i: usize, j: usize) -> bool
+    requires { ⌜ (Within g (now image) (now map) i) × (Within g (now image) (now map) j) ⌝ }
+    ensures { λ r. ⌜ r ≡ repeatsAt g (now (image .entry)) (now (map .entry)) i j ⌝ }
+{
+    if map[i * 3] == 0xFFFFFFFF {
+        return false;
+    }
+    if !same_leb(map, i, j) {
+        return false;
+    }
+    sequence(image, g, i) == sequence(image, g, j)
+}
+
+// Do the words of two PEBs name one volume and LEB?
+pub fn same_leb(map: &[u32], i: usize, j: usize) -> bool
+    requires { ⌜ (i * 3 + 3 ≤ length (now map)) × (j * 3 + 3 ≤ length (now map)) ⌝ }
+    ensures { λ r. ⌜ r ≡ sameLeb (now (map .entry)) i j ⌝ }
+{
+    if map[i * 3] != map[j * 3] {
+        return false;
+    }
+    map[i * 3 + 1] == map[j * 3 + 1]
+}
