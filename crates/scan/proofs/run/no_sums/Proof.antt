@@ -1,0 +1,16 @@
+-- `scan::run::no_sums` meets its contract. Assumes nothing.
+use mathlib.Core.Path.{_≡_, refl, sym, ap, _∙_}
+use Prim.Native.Nat.{_≤_, _<_, _-_, _+_}
+use native.Mathlib.Omega.{arith}
+use borrow.Author.Needs.{needs}
+use Rattle.scan.proofs.Passes.{sums-none}
+use Rattle.scan.proofs.run.no_sums.Statement.{statement}
+use Rattle.scan.proofs.run.no_sums.Tie as tie
+use Rattle.scan.proofs.run.no_sums.Reads as reads
+use Rattle.scan.proofs.run.no_sums.Lts as lts
+
+returns : tie.Need-returns
+returns c = λ vs. sums-none vs _ refl refl refl refl refl refl
+
+pub no-sums-spec : {M : Type 1} → statement M
+no-sums-spec = tie.close (tie.spec returns)

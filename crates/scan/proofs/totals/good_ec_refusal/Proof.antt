@@ -1,0 +1,28 @@
+-- `scan::totals::good_ec_refusal` meets its contract. Assumes nothing.
+use mathlib.Core.Path.{_≡_, refl, sym, ap, _∙_}
+use Prim.Native.Nat.{_≤_, _<_, _-_, _+_}
+use native.Mathlib.Omega.{arith}
+use borrow.Author.Needs.{needs}
+use borrow.Author.Tests.{lt-ltb, le-ltb, eq-eqb, ne-eqb, not-true, not-false}
+use Rattle.scan.proofs.totals.good_ec_refusal.Statement.{statement}
+use Rattle.scan.proofs.totals.good_ec_refusal.Tie as tie
+use Rattle.scan.proofs.totals.good_ec_refusal.Reads as reads
+use Rattle.scan.proofs.totals.good_ec_refusal.Lts as lts
+
+returns : tie.Need-returns
+returns c = rw (ne-eqb _ _ (c .if1 .taken))
+
+returns-2 : tie.Need-returns-2
+returns-2 c = rw (eq-eqb _ _ (c .before .before .before .if1 .left), ne-eqb _ _ (c .if2 .taken))
+
+returns-3 : tie.Need-returns-3
+returns-3 c = rw (eq-eqb _ _ (c .before .before .before .before .before .if1 .left), eq-eqb _ _ (c .before .before .if2 .left), not-true (c .before .before .before .before .before .before .before .before .args .s .«has_seq») (c .if3 .taken))
+
+returns-4 : tie.Need-returns-4
+returns-4 c = rw (eq-eqb _ _ (c .before .before .before .before .before .before .before .before .if1 .left), eq-eqb _ _ (c .before .before .before .before .before .if2 .left), not-false (c .before .before .before .before .before .before .before .before .before .before .before .args .s .«has_seq») (c .before .before .before .if3 .left), ne-eqb _ _ (c .if4 .taken))
+
+returns-5 : tie.Need-returns-5
+returns-5 c = rw (eq-eqb _ _ (c .before .before .before .before .before .before .before .before .if1 .left), eq-eqb _ _ (c .before .before .before .before .before .if2 .left), not-false (c .before .before .before .before .before .before .before .before .before .before .before .args .s .«has_seq») (c .before .before .before .if3 .left), eq-eqb _ _ (c .if4 .left))
+
+pub good-ec-refusal-spec : {M : Type 1} → statement M
+good-ec-refusal-spec = tie.close (tie.spec returns returns-2 returns-3 returns-4 returns-5)

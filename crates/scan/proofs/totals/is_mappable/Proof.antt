@@ -1,0 +1,19 @@
+-- `scan::totals::is_mappable` meets its contract. Assumes nothing.
+use mathlib.Core.Path.{_≡_, refl, sym, ap, _∙_}
+use Prim.Native.Nat.{_≤_, _<_, _-_, _+_}
+use native.Mathlib.Omega.{arith}
+use borrow.Author.Needs.{needs}
+use borrow.Author.Tests.{lt-ltb, le-ltb, eq-eqb, ne-eqb, not-true, not-false}
+use Rattle.scan.proofs.totals.is_mappable.Statement.{statement}
+use Rattle.scan.proofs.totals.is_mappable.Tie as tie
+use Rattle.scan.proofs.totals.is_mappable.Reads as reads
+use Rattle.scan.proofs.totals.is_mappable.Lts as lts
+
+returns : tie.Need-returns
+returns c = rw (lt-ltb _ _ (c .if1 .taken))
+
+returns-2 : tie.Need-returns-2
+returns-2 c = rw (le-ltb _ _ (c .if1 .left))
+
+pub is-mappable-spec : {M : Type 1} → statement M
+is-mappable-spec = tie.close (tie.spec returns returns-2)

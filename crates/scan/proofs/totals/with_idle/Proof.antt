@@ -1,0 +1,22 @@
+-- `scan::totals::with_idle` meets its contract. Assumes nothing.
+use mathlib.Core.Path.{_≡_, refl, sym, ap, _∙_}
+use Prim.Native.Nat.{_≤_, _<_, _-_, _+_}
+use native.Mathlib.Omega.{arith}
+use borrow.Author.Needs.{needs}
+use mathlib.Core.Bool.{or-false}
+use native.Mathlib.Nat.{max-zero}
+use borrow.Author.Needs.{needs}
+use Rattle.scan.proofs.totals.with_idle.Statement.{statement}
+use Rattle.scan.proofs.totals.with_idle.Tie as tie
+use Rattle.scan.proofs.totals.with_idle.Reads as reads
+use Rattle.scan.proofs.totals.with_idle.Lts as lts
+use Rattle.scan.proofs.totals.both.Reads as both-reads
+
+both-requires : tie.Need-both-requires
+both-requires c κs = search needs
+
+returns : tie.Need-returns
+returns c = rw (c .both .ensures, max-zero, or-false)
+
+pub with-idle-spec : {M : Type 1} → statement M
+with-idle-spec = tie.close (tie.spec both-requires returns)

@@ -1,0 +1,77 @@
+// The two headers of a PEB.
+ghost use mathlib.Core.Path.{_≡_};
+ghost use mathlib.Core.Bool.{cond};
+ghost use Prim.Native.Nat.{_≤_};
+ghost use lib.ListN.{length, take};
+ghost use Rattle.geometry.specs.Placed.{Placed};
+ghost use Rattle.report.specs.View.{allFF, viewOf};
+ghost use Rattle.scan.specs.Seen.{ecSeen, vidSeen};
+use crate::EcSeen;
+use crate::VidSeen;
+use geometry::Geometry;
+use header::EcRead;
+use header::VidRead;
+
+// Is every byte 0xFF?
+pub fn all_ff(s: &[u8]) -> bool
+    ensures { λ r. ⌜ r ≡ allFF (now (s .entry)) ⌝ }
+{
+    let mut i: usize = 0;
+    while i < s.len() {
+        if s[i] != 0xFF {
+            return false;
+        }
+        i += 1;
+    }
+    true
+}
+
+// The EC header of the PEB with the bytes p.
+pub fn see_ec(p: &[u8], g: Geometry) -> EcSeen
+    requires { ⌜ (Placed g) × (length (now p) ≡ g .«peb_size») ⌝ }
+    ensures { λ r. ⌜ ecSeen r ≡ viewOf g (now (p .entry)) .ec ⌝ }
+{
+    let s = &p[0..64];
+    let r = header::read_ec(s);
+    match r {
+        EcRead::Good(h) => return EcSeen::Good(h),
+        EcRead::Newer => return EcSeen::Newer,
+        EcRead::Lost => return blank_or_lost(s),
+        EcRead::Short => return EcSeen::Lost,
+    }
+}
+
+// A header that is not good: all 0xFF, or not.
+fn blank_or_lost(s: &[u8]) -> EcSeen
+    ensures { λ r. ⌜ r ≡ cond (allFF (now (s .entry))) EcSeen.Blank EcSeen.Lost ⌝ }
+{
+    if all_ff(s) {
+        return EcSeen::Blank;
+    }
+    EcSeen::Lost
+}
+
+// The VID header of the PEB with the bytes p.
+pub fn see_vid(p: &[u8], g: Geometry) -> VidSeen
+    requires { ⌜ (Placed g) × (length (now p) ≡ g .«peb_size») ⌝ }
+    ensures { λ r. ⌜ vidSeen g (now (p .entry)) r ≡ viewOf g (now (p .entry)) .vid ⌝ }
+{
+    let at = g.vid_start as usize;
+    let s = &p[at..at + 64];
+    let r = header::read_vid(s, g.leb_size);
+    match r {
+        VidRead::Good(h) => return VidSeen::Good(h),
+        VidRead::Newer => return VidSeen::Newer,
+        VidRead::Bad => return blank_or_bad(s),
+        VidRead::Short => return VidSeen::Bad,
+    }
+}
+
+fn blank_or_bad(s: &[u8]) -> VidSeen
+    ensures { λ r. ⌜ r ≡ cond (allFF (now (s .entry))) VidSeen.Blank VidSeen.Bad ⌝ }
+{
+    if all_ff(s) {
+        return VidSeen::Blank;
+    }
+    VidSeen::Bad
+}

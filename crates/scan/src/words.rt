@@ -1,0 +1,118 @@
+// The words that a PEB is given in the lent tables before any copy is chosen.
+ghost use mathlib.Core.Path.{_≡_};
+ghost use mathlib.Core.Bool.{_||_};
+ghost use mathlib.Core.List.{List, [], _∷_};
+ghost use Prim.Native.Nat.{ℕ, _+_, _*_, _≤_, _<_};
+ghost use lib.Dec.{eqb};
+ghost use lib.ListN.{length};
+ghost use Rattle.base.specs.Lists.{put};
+ghost use Rattle.geometry.specs.declared.Geometry.{Geometry};
+ghost use Rattle.report.specs.View.{goodEc, vidBlank};
+ghost use Rattle.report.specs.Report.{counterOr, noWord};
+ghost use Rattle.report.specs.Scratch.{firstClass, copyWords, keyWords};
+ghost use Rattle.scan.specs.Seen.{ecSeen, vidSeen, headerClass};
+ghost use Rattle.scan.specs.Pass.{smallCounter};
+use crate::EcSeen;
+use crate::VidSeen;
+use crate::totals::is_mappable;
+use header::VidHeader;
+
+// The class before any copy is chosen.
+pub fn first_class(e: EcSeen, v: VidSeen) -> u32
+    ensures { λ r. ⌜ ((g : Geometry) (p : List ℕ) → r ≡ firstClass (ecSeen e) (vidSeen g p v)) ⌝ }
+{
+    match v {
+        VidSeen::Good(h) => return good_class(h),
+        VidSeen::Newer => return 4,
+        VidSeen::Bad => return 4,
+        VidSeen::Blank => return blank_class(e),
+    }
+}
+
+// The class of a block with a good VID header.
+fn good_class(h: VidHeader) -> u32
+    ensures { λ r. ⌜ r ≡ headerClass h ⌝ }
+{
+    if is_mappable(h.volume) {
+        return 2;
+    }
+    if h.compat == 1 {
+        return 5;
+    }
+    6
+}
+
+// The class of a block whose VID header is blank.
+fn blank_class(e: EcSeen) -> u32
+    ensures { λ r. ⌜ r ≡ firstClass (ecSeen e) vidBlank ⌝ }
+{
+    match e {
+        EcSeen::Good(_) => return 0,
+        EcSeen::Blank => return 3,
+        EcSeen::Newer => return 4,
+        EcSeen::Lost => return 4,
+    }
+}
+
+// Is a block of this class free or blank?
+pub fn is_idle(class: u32) -> bool
+    ensures { λ r. ⌜ r ≡ (eqb class 0 || eqb class 3) ⌝ }
+{
+    class == 0 || class == 3
+}
+
+// The counter's word.
+pub fn counter_word(e: EcSeen) -> u32
+    requires { ⌜ smallCounter (ecSeen e) ⌝ }
+    ensures { λ r. ⌜ r ≡ counterOr noWord (goodEc (ecSeen e)) ⌝ }
+{
+    match e {
+        EcSeen::Good(h) => return h.counter as u32,
+        EcSeen::Newer => return 0xFFFFFFFF,
+        EcSeen::Blank => return 0xFFFFFFFF,
+        EcSeen::Lost => return 0xFFFFFFFF,
+    }
+}
+
+// The two words of PEB i.
+pub fn store_pair(words: &mut [u32], i: usize, a: u32, b: u32)
+    requires { ⌜ (i < 4096) × (i * 2 + 2 ≤ length (now words)) ⌝ }
+    ensures { λ _. ⌜ now (words .exit) ≡ put (i * 2) (a ∷ b ∷ []) (now (words .entry)) ⌝ }
+{
+    words[i * 2] = a;
+    words[i * 2 + 1] = b;
+}
+
+// The three words of PEB i.
+pub fn store_triple(words: &mut [u32], i: usize, a: u32, b: u32, c: u32)
+    requires { ⌜ (i < 4096) × (i * 3 + 3 ≤ length (now words)) ⌝ }
+    ensures { λ _. ⌜ now (words .exit) ≡ put (i * 3) (a ∷ b ∷ c ∷ []) (now (words .entry)) ⌝ }
+{
+    words[i * 3] = a;
+    words[i * 3 + 1] = b;
+    words[i * 3 + 2] = c;
+}
+
+// The volume, LEB and PEB of a copy, or no words.
+pub fn store_key(map: &mut [u32], i: usize, v: VidSeen)
+    requires { ⌜ (i < 4096) × (i * 3 + 3 ≤ length (now map)) ⌝ }
+    ensures { λ _. ⌜ ((g : Geometry) (p : List ℕ) → now (map .exit) ≡ put (i * 3) (keyWords i (vidSeen g p v)) (now (map .entry))) ⌝ }
+{
+    match v {
+        VidSeen::Good(h) => store_header(map, i, h),
+        VidSeen::Newer => store_triple(map, i, 0xFFFFFFFF, 0xFFFFFFFF, 0xFFFFFFFF),
+        VidSeen::Blank => store_triple(map, i, 0xFFFFFFFF, 0xFFFFFFFF, 0xFFFFFFFF),
+        VidSeen::Bad => store_triple(map, i, 0xFFFFFFFF, 0xFFFFFFFF, 0xFFFFFFFF),
+    }
+}
+
+fn store_header(map: &mut [u32], i: usize, h: VidHeader)
+    requires { ⌜ (i < 4096) × (i * 3 + 3 ≤ length (now map)) ⌝ }
+    ensures { λ _. ⌜ now (map .exit) ≡ put (i * 3) (copyWords i h) (now (map .entry)) ⌝ }
+{
+    if is_mappable(h.volume) {
+        store_triple(map, i, h.volume, h.lnum, i as u32);
+        return;
+    }
+    store_triple(map, i, 0xFFFFFFFF, 0xFFFFFFFF, 0xFFFFFFFF);
+}
