@@ -23,8 +23,10 @@ use Rattle.report.specs.View.{
   View,
   Views,
   isMappable,
+  ecs,
 }
-use Rattle.report.specs.Report.{noWord}
+use Rattle.report.specs.Volumes.{Places}
+use Rattle.report.specs.Report.{noWord, counterOr, isPlace}
 
 -- the class of a PEB before any copy is chosen: one of a user or layout LEB is passed over (2) until it is chosen
 abbrev pub firstClass : EcView → VidView → ℕ
@@ -49,3 +51,18 @@ keyWords i vidBad = noWord ∷ noWord ∷ noWord ∷ []
 -- the map's words after the first pass: three for each PEB
 abbrev pub keysOf : ℕ → Views → List ℕ
 keysOf n vs = concatBelow n (λ (i : ℕ). keyWords i (vs i .vid))
+
+-- the class of a PEB once the copies are chosen: 1 for a chosen copy, whether or not it stays in the map
+abbrev pub markedClass : Places → ℕ → EcView → VidView → ℕ
+markedClass ps i e (vidGood c) =
+    cond (isMappable (c .header .volume)) (cond (isPlace (ps (c .header .volume) (c .header .lnum)) i) 1 2) (cond (eqb (c .header .compat) 1) 5 6)
+markedClass ps i (ecGood h) vidBlank = 0
+markedClass ps i ecBlank vidBlank = 3
+markedClass ps i ecLost vidBlank = 4
+markedClass ps i ecNewer vidBlank = 4
+markedClass ps i e vidBad = 4
+markedClass ps i e vidNewer = 4
+
+-- class and counter of each PEB then
+abbrev pub markedWords : Places → ℕ → Views → List ℕ
+markedWords ps n vs = concatBelow n (λ (i : ℕ). markedClass ps i (vs i .ec) (vs i .vid) ∷ counterOr noWord (ecs vs i) ∷ [])

@@ -9,6 +9,8 @@ use header::VidHeader;
 pub use peb::see_ec;
 pub use peb::see_vid;
 pub use run::pass;
+pub use words::store_pair;
+pub use words::store_triple;
 
 // What an EC header is.
 pub enum EcSeen {

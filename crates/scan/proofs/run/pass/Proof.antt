@@ -62,9 +62,22 @@ part-pass-peb-end c = omega (arith, within c)
 pass-peb-requires : tie.Need-pass-peb-requires Inv-loop μ-loop
 pass-peb-requires c κs =
     let a = c .before .before .before .before .before .before .before .before .before .before .args in
-    let l = c .before .before .before .before .loop in
-    (c .before .before .before .before .before .before .before .before .before .before .pre .0, (peb-part (a .image .now) (l .i * a .g .«peb_size») (a .g .«peb_size») (within (c .before .before .before)), (omega arith, (omega arith, (omega arith,
-      (omega (arith, l .inv .1 .1 .1 .sums .counters-small), omega (arith, l .inv .1 .1 .1 .sums .good-few)))))))
+    let l = c .before .before .before .before .loop in (
+      c .before .before .before .before .before .before .before .before .before .before .pre .0,
+      (
+        peb-part (a .image .now) (l .i * a .g .«peb_size») (a .g .«peb_size») (within (c .before .before .before)),
+        (
+          omega arith,
+          (
+            omega arith,
+            (
+              omega arith,
+              (omega (arith, l .inv .1 .1 .1 .sums .counters-small), omega (arith, l .inv .1 .1 .1 .sums .good-few)),
+            ),
+          ),
+        ),
+      ),
+    )
 
 cast-t22 : tie.Need-cast-t22 Inv-loop μ-loop
 cast-t22 c = omega (arith, c .before .before .before .before .before .before .before .before .before .before .before .loop-test .taken, c .before .before .before .before .before .before .before .before .before .before .before .before .before .before .before .before .before .before .pre .1 .1 .0)
@@ -95,9 +108,17 @@ loop-again c =
     let a = c .before .before .before .before .before .before .before .before .before .before .before .before .before .before .before .before .before .before .args in
     let l = c .before .before .before .before .before .before .before .before .before .before .before .before .loop in
     let vs = viewsOf (a .g) (a .image .now) in
-    let e : l .i * a .g .«peb_size» + a .g .«peb_size» - l .i * a .g .«peb_size» ≡ a .g .«peb_size» = omega arith in
-    (omega arith, (search needs, (search needs, pass-on (a .g) (a .n) (l .i) vs (omega arith) (l .s) (a .pebs .now) (l .pebs) (a .map .now) (l .map) (l .inv .1 .1 .1)
-      (small-view (a .g) (pebAt (a .g) (a .image .now) (l .i))) (c .before .before .before .before .before .before .before .pass-peb .result) _ _ (rw e at (c .before .before .before .before .before .before .before .pass-peb .ensures)) (c .if1 .left))))
+    let e : l .i * a .g .«peb_size» + a .g .«peb_size» - l .i * a .g .«peb_size» ≡ a .g .«peb_size» = omega arith in (
+      omega arith,
+      (
+        search needs,
+        (
+          search needs,
+          pass-on (a .g) (a .n) (l .i) vs (omega arith) (l .s) (a .pebs .now) (l .pebs) (a .map .now) (l .map) (l .inv .1 .1 .1)
+              (small-view (a .g) (pebAt (a .g) (a .image .now) (l .i))) (c .before .before .before .before .before .before .before .pass-peb .result) _ _ (rw e at (c .before .before .before .before .before .before .before .pass-peb .ensures)) (c .if1 .left),
+        ),
+      ),
+    )
 
 same-length-3 : tie.Need-same-length-3 Inv-loop μ-loop
 same-length-3 c = c .before .loop .inv .1 .0
