@@ -1,19 +1,18 @@
 -- A PEB's copy, where it stands in the image. Assumes nothing.
 use mathlib.Core.Path.{_≡_, refl, sym, ap, _∙_}
-use mathlib.Core.Bool.{Bool, true, false, _&&_, cond, true≢false, false≢true}
-use mathlib.Core.Option.{Option, none, some}
+use mathlib.Core.Bool.{Bool, true, false, _&&_, cond}
+use mathlib.Core.Option.{some}
 use mathlib.Core.List.{List, [], _∷_}
 use Prim.Native.Nat.{ℕ, zero, suc, _+_, _-_, _*_, _≤_, _<_, _^_}
 use native.Mathlib.Omega.{arith}
-use native.Mathlib.Nat.{sub-zero, add-zero}
+use native.Mathlib.Nat.{sub-zero}
 use borrow.Author.Tests.{leb-true, ne-eqb}
-use lib.Dec.{eqb, ltb, leb}
-use lib.ListN.{length, take, drop, getD}
-use lib.Seq.{take-take, drop-drop, drop-nil, take-nil}
+use lib.Dec.{eqb}
+use lib.ListN.{length, take, drop}
+use lib.Seq.{take-take, drop-drop, take-nil}
 use Rattle.base.specs.Answers.{allOf}
 use Rattle.base.specs.Lists.{part, eqs, Bytes}
 use Rattle.base.proofs.Answers.{each-holds}
-use Rattle.base.proofs.Lists.{length-part, bytes-part}
 use Rattle.crc32.specs.Crc.{crcOf}
 use Rattle.field.specs.Be.{beOf}
 use Rattle.field.proofs.Laws.{field-lt}
@@ -22,24 +21,9 @@ use Rattle.geometry.specs.Placed.{Placed}
 use Rattle.header.specs.declared.VidHeader.{VidHeader}
 use Rattle.header.specs.Fields.{fieldOf, fieldAt, crcMatches, Verdict, good, bad, newer, byVersion}
 use Rattle.header.specs.Vid.{vidMagic, vidFields, vidRules, judgeVid, readVid}
-use Rattle.report.specs.View.{
-  allFF,
-  Copy,
-  VidView,
-  vidGood,
-  vidNewer,
-  vidBlank,
-  vidBad,
-  copyOf,
-  vidOf,
-  vidPart,
-  viewOf,
-  pebAt,
-  viewsOf,
-  goodVid,
-  copies,
-}
+use Rattle.report.specs.View.{allFF, Copy, vidBlank, copyOf, vidOf, vidPart, viewOf, pebAt, viewsOf, goodVid, copies}
 use Rattle.report.specs.Choice.{sound}
+use Rattle.report.proofs.First.{none-some}
 use Rattle.choice.specs.Keyed.{headerAt, copyAt, sequenceAt}
 
 -- ---- a part of a part
@@ -56,9 +40,6 @@ part-part a n b m s h =
     rw (drop-take a m (drop b s), drop-drop a b s, take-take n (m - a))
 
 -- ---- a header that was read is the one of the fields in its place
-
-nothing : {A B : Type 0} {a : A} → none ≡ some a → B
-nothing e = absurd (let z : _≡_ {A = ℕ} 0 1 = cc in omega arith)
 
 judged-good : (one old b : Bool) {x h : VidHeader} → cond one (cond b (good x) bad) (cond old bad newer) ≡ good h → (x ≡ h) × (b ≡ true)
 judged-good true old true e = (cc, refl)
@@ -83,9 +64,9 @@ view-good g p c e = go (allFF (vidPart g p)) (readVid (g .«leb_size») (vidPart
   where
     go : (t : Bool) (v : Verdict VidHeader) → readVid (g .«leb_size») (vidPart g p) ≡ v → goodVid (cond t vidBlank (vidOf g p v)) ≡ some c
         → (c ≡ copyOf g p (vidFields (vidPart g p))) × (allOf (vidRules (g .«leb_size») (vidFields (vidPart g p))) ≡ true)
-    go true v q e = nothing e
-    go false bad q e = nothing e
-    go false newer q e = nothing e
+    go true v q e = none-some e
+    go false bad q e = none-some e
+    go false newer q e = none-some e
     go false (good h) q e =
         let r = read-good (g .«leb_size») (vidPart g p) h q in
         let z : copyOf g p h ≡ c = cc in
@@ -156,3 +137,9 @@ module _ (g : Geometry) (image : List ℕ) (i : ℕ) where
         rw (s, a) (ap crcOf (data-there g image i p (fieldIn g image i 20 4) size-within)) in
         let z : sum ≡ crcOf (part at size image) = rw d at k in
         rw (z, t, r) (sound-data (λ (q : fieldIn g image i 6 1 ≡ 0). n (f ∙ q)))
+
+-- a sequence fits its 8 bytes
+pub sequence-fits : (g : Geometry) (image : List ℕ) (i : ℕ) → Placed g → (i + 1) * g .«peb_size» ≤ length image → Bytes image → sequenceAt g image i < 256 ^ 8
+sequence-fits g image i p h b =
+    rw (field-there g image i p 40 8 (omega arith), sequence-in g image i) at
+    (field-lt (i * g .«peb_size» + g .«vid_start» + 40) 8 image (omega (arith, p .data-after-vid, p .leb-fills)) b)

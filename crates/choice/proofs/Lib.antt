@@ -1,3 +1,5 @@
+-- The laws that proofs here cite. Assumes nothing.
 pub mod Copies
 pub mod Words
 pub mod Repeats
+pub mod Best

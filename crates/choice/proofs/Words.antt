@@ -1,29 +1,26 @@
 -- The map's words after the first pass, and the copies that they name. Assumes nothing.
-use mathlib.Core.Path.{_≡_, refl, sym, ap, _∙_, subst}
-use mathlib.Core.Logic.{_⊎_, inl, inr, ⊎-elim}
-use mathlib.Core.Bool.{Bool, true, false, not, _&&_, _||_, cond, true≢false, false≢true}
+use mathlib.Core.Path.{_≡_, refl, sym, ap, _∙_}
+use mathlib.Core.Logic.{_⊎_, ⊎-elim}
+use mathlib.Core.Bool.{Bool, true, false, not, _&&_, cond, true≢false, false≢true}
 use mathlib.Core.Option.{Option, none, some}
-use mathlib.Core.List.{List, [], _∷_, _++_}
-use Prim.Native.Nat.{ℕ, zero, suc, _+_, _-_, _*_, _≤_, _<_}
+use mathlib.Core.List.{List, [], _∷_}
+use Prim.Native.Nat.{ℕ, zero, suc, _+_, _*_, _≤_, _<_}
 use native.Mathlib.Omega.{arith}
 use native.Mathlib.Nat.{mul-le-mul-right}
-use borrow.Author.Tests.{eqb-true, eqb-false, eq-eqb, ne-eqb}
-use lib.Dec.{eqb, ltb}
-use lib.ListN.{length, take, drop, getD, length-append, length-take, List·getD-append}
+use borrow.Author.Tests.{eqb-true, eqb-false, eq-eqb}
+use lib.Dec.{eqb}
+use lib.ListN.{length, take, getD, length-append, length-take, List·getD-append}
 use lib.Seq.{getD-take, getD-append-add}
 use Rattle.base.specs.Below.{concatBelow}
-use Rattle.base.proofs.Answers.{and-left, and-right, and-intro, clash}
+use Rattle.base.proofs.Answers.{and-left, and-right}
 use Rattle.base.proofs.Below.{below-suc}
 use Rattle.geometry.specs.declared.Geometry.{Geometry}
-use Rattle.geometry.specs.Placed.{Placed}
-use Rattle.header.specs.Vid.{layoutVolume}
-use Rattle.header.specs.declared.VidHeader.{VidHeader}
 use Rattle.report.specs.View.{Copy, VidView, vidGood, vidNewer, vidBlank, vidBad, copyOf, viewsOf, goodVid, copies, isMappable}
-use Rattle.report.specs.Attach.{noWord}
-use Rattle.report.specs.Choice.{repeats, ofKey}
-use Rattle.report.specs.Scratch.{copyWords, keyWords, keysOf}
+use Rattle.report.specs.Report.{noWord}
+use Rattle.report.specs.Choice.{repeats}
+use Rattle.report.specs.Scratch.{keyWords}
 use Rattle.report.proofs.First.{none-some}
-use Rattle.choice.specs.Keyed.{Keyed, Within, headerAt, copyAt, sequenceAt, volumeWord, lebWord, sameLeb, repeatsAt}
+use Rattle.choice.specs.Keyed.{Keyed, Within, copyAt, sequenceAt, volumeWord, lebWord, sameLeb, repeatsAt}
 use Rattle.choice.proofs.Copies.{copy-is}
 
 -- ---- rows of three
@@ -179,13 +176,13 @@ not-so : (b : Bool) → (b ≡ true → ⊥) → b ≡ false
 not-so true h = absurd (h refl)
 not-so false h = refl
 
-same-true : (map : List ℕ) (i j : ℕ) → sameLeb map i j ≡ true → (volumeWord map i ≡ volumeWord map j) × (lebWord map i ≡ lebWord map j)
+pub same-true : (map : List ℕ) (i j : ℕ) → sameLeb map i j ≡ true → (volumeWord map i ≡ volumeWord map j) × (lebWord map i ≡ lebWord map j)
 same-true map i j e =
     let v = eqb (volumeWord map i) (volumeWord map j) in
     let l = eqb (lebWord map i) (lebWord map j) in
     (eqb-true (volumeWord map i) (volumeWord map j) (and-left v l e), eqb-true (lebWord map i) (lebWord map j) (and-right v l e))
 
-true-same : (map : List ℕ) (i j : ℕ) → volumeWord map i ≡ volumeWord map j → lebWord map i ≡ lebWord map j → sameLeb map i j ≡ true
+pub true-same : (map : List ℕ) (i j : ℕ) → volumeWord map i ≡ volumeWord map j → lebWord map i ≡ lebWord map j → sameLeb map i j ≡ true
 true-same map i j p q = rw (eq-eqb (volumeWord map i) (volumeWord map j) p) (eq-eqb (lebWord map i) (lebWord map j) q)
 
 module _ (g : Geometry) (image : List ℕ) (n : ℕ) (map : List ℕ) (d : Keyed g image n map) (i j : ℕ) (h : i < n) (k : j < n) where

@@ -6,15 +6,15 @@ use mathlib.Core.List.{List}
 use Prim.Native.Nat.{ℕ, _+_, _*_, _≤_, _<_}
 use lib.Dec.{eqb, ltb, leb}
 use lib.ListN.{length, take, getD}
-use Rattle.base.specs.Lists.{part}
 use Rattle.geometry.specs.declared.Geometry.{Geometry}
 use Rattle.geometry.specs.Placed.{Placed}
 use Rattle.header.specs.declared.VidHeader.{VidHeader}
 use Rattle.header.specs.Vid.{vidFields}
-use Rattle.report.specs.View.{Copy, vidPart, pebAt, viewsOf, copyOf}
+use Rattle.report.specs.View.{Copy, vidPart, pebAt, viewsOf, copyOf, copies}
+use Rattle.report.specs.Choice.{refusal9}
 use Rattle.report.specs.Scan.{Refusal}
 use Rattle.report.specs.Scratch.{keysOf}
-use Rattle.report.specs.Attach.{noWord}
+use Rattle.report.specs.Report.{noWord}
 
 -- an image of n PEBs, and the lent words that hold each PEB's volume, LEB and number
 pub record Keyed (g : Geometry) (image : List ℕ) (n : ℕ) (map : List ℕ) : Type 0 where
@@ -57,3 +57,21 @@ repeatsAt g image map i j =
 -- the refusal that a first repeat r stands for, if it is one of the n PEBs
 abbrev pub repeatAt : ℕ → ℕ → Option Refusal
 repeatAt n r = cond (ltb r n) (some (record { number = 9; place = r })) none
+
+-- PEB i holds a user or layout LEB, and no copy repeats another
+pub record Choosing (g : Geometry) (image : List ℕ) (n : ℕ) (map : List ℕ) (i : ℕ) : Type 0 where
+  pub keyed : Keyed g image n map
+  pub below : i < n
+  pub holds : volumeWord map i ≡ noWord → ⊥
+  pub no-repeat : refusal9 n (copies (viewsOf g image)) ≡ none
+
+-- the better of `best` (n for none) and PEB j: of the copies of PEB i's LEB with a sequence of at most `most`, the one with the higher
+abbrev pub higherOf : Geometry → List ℕ → ℕ → List ℕ → ℕ → ℕ → ℕ → ℕ → ℕ
+higherOf g image n map i most best j =
+    cond (sameLeb map i j && (leb (sequenceAt g image j) most && (eqb best n || ltb (sequenceAt g image best) (sequenceAt g image j)))) j best
+
+-- r is, of the copies of PEB i's LEB in the PEBs below k with a sequence of at most `most`, one with the highest sequence; n if there is none
+pub record Highest (g : Geometry) (image : List ℕ) (n : ℕ) (map : List ℕ) (i most k r : ℕ) : Type 0 where
+  pub range : r ≤ n
+  pub is : r < n → (sameLeb map i r ≡ true) × (sequenceAt g image r ≤ most)
+  pub leads : (j : ℕ) → j < k → sameLeb map i j ≡ true → sequenceAt g image j ≤ most → (r < n) × (sequenceAt g image j ≤ sequenceAt g image r)

@@ -1,10 +1,8 @@
 -- `choice::copy::header_field` meets its contract. Assumes nothing.
-use mathlib.Core.Path.{_≡_, refl, sym, ap, _∙_}
-use Prim.Native.Nat.{_≤_, _<_, _-_, _+_}
+use mathlib.Core.Path.{_≡_, ap, _∙_}
+use Prim.Native.Nat.{_+_, _*_}
 use native.Mathlib.Omega.{arith}
-use lib.ListN.{length, drop, getD}
 use borrow.Author.Needs.{needs}
-use Prim.Native.Nat.{_*_}
 use Rattle.base.specs.Lists.{part}
 use Rattle.field.specs.Be.{beOf}
 use Rattle.report.specs.View.{vidPart, pebAt}

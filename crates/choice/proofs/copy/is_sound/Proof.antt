@@ -1,8 +1,6 @@
 -- `choice::copy::is_sound` meets its contract. Assumes nothing.
-use mathlib.Core.Path.{_≡_, refl, sym, ap, _∙_}
-use Prim.Native.Nat.{_≤_, _<_, _-_, _+_}
+use mathlib.Core.Path.{refl, sym, _∙_}
 use native.Mathlib.Omega.{arith}
-use lib.ListN.{length, drop, getD}
 use borrow.Author.Needs.{needs}
 use Rattle.choice.proofs.Copies.{size-within, sound-flag, sound-run}
 use Rattle.choice.proofs.copy.is_sound.Statement.{statement}

@@ -1,8 +1,5 @@
 -- `choice::copy::sequence` meets its contract. Assumes nothing.
-use mathlib.Core.Path.{_≡_, refl, sym, ap, _∙_}
-use Prim.Native.Nat.{_≤_, _<_, _-_, _+_}
-use native.Mathlib.Omega.{arith}
-use lib.ListN.{length, drop, getD}
+use mathlib.Core.Path.{_∙_}
 use borrow.Author.Needs.{needs}
 use Rattle.choice.proofs.Copies.{sequence-in}
 use Rattle.choice.proofs.copy.sequence.Statement.{statement}

@@ -1,13 +1,11 @@
 -- `choice::repeat::first_repeat` meets its contract: the PEBs passed repeat no lower one. Assumes nothing.
-use mathlib.Core.Path.{_≡_, refl, sym, ap, _∙_}
-use Prim.Native.Nat.{_≤_, _<_, _-_, _+_}
+use mathlib.Core.Path.{_≡_}
+use Prim.Native.Nat.{_≤_, _<_, _-_, ℕ}
 use native.Mathlib.Omega.{arith}
 use borrow.Author.Needs.{needs}
-use lib.ListN.{length, drop, getD}
-use Prim.Native.Nat.{ℕ}
-use mathlib.Core.Bool.{Bool, true, false}
+use mathlib.Core.Bool.{true, false}
 use Rattle.report.specs.View.{viewsOf, copies}
-use Rattle.report.specs.Choice.{repeats, refusal9}
+use Rattle.report.specs.Choice.{repeats}
 use Rattle.choice.proofs.Words.{within, repeats-told}
 use Rattle.choice.proofs.Repeats.{more, Fresh, no-repeat, a-repeat}
 use Rattle.choice.proofs.repeat.first_repeat.Statement.{statement}

@@ -1,0 +1,78 @@
+// The copy of a LEB that counts.
+ghost use mathlib.Core.Path.{_≡_};
+ghost use mathlib.Core.Option.{some};
+ghost use Prim.Native.Nat.{_≤_, _<_};
+ghost use Rattle.report.specs.View.{viewsOf, copies};
+ghost use Rattle.report.specs.Choice.{chosen};
+ghost use Rattle.choice.specs.Keyed.{Keyed, Choosing, copyAt, volumeWord, lebWord, higherOf, Highest};
+use crate::copy::is_sound;
+use crate::copy::sequence;
+use crate::repeat::same_leb;
+use geometry::Geometry;
+
+// The PEB of the chosen copy of the LEB that PEB i holds. The copies are met from the highest sequence down; the lowest needs no
+// checksum, for it counts if no other does.
+pub fn chosen_peb(image: &[u8], g: Geometry, n: usize, map: &[u32], i: usize) -> usize
+    requires { ⌜ Choosing g (now image) n (now map) i ⌝ }
+    ensures { λ r. ⌜ (chosen n (copies (viewsOf g (now (image .entry)))) (volumeWord (now (map .entry)) i) (lebWord (now (map .entry)) i) ≡ some (r, copyAt g (now (image .entry)) r)) × (r < n) ⌝ }
+{
+    let mut at = highest_up_to(image, g, n, map, i, 0xFFFFFFFFFFFFFFFF);
+    loop {
+        let s = sequence(image, g, at);
+        if s == 0 {
+            return at;
+        }
+        let next = highest_up_to(image, g, n, map, i, s - 1);
+        if next == n {
+            return at;
+        }
+        if is_sound(image, g, at) {
+            return at;
+        }
+        at = next;
+    }
+}
+
+// Of the copies of PEB i's LEB with a sequence of at most `most`, the PEB of the highest; n if there is none.
+fn highest_up_to(image: &[u8], g: Geometry, n: usize, map: &[u32], i: usize, most: u64) -> usize
+    requires { ⌜ (Keyed g (now image) n (now map)) × (i < n) ⌝ }
+    ensures { λ r. ⌜ Highest g (now (image .entry)) n (now (map .entry)) i most n r ⌝ }
+{
+    let mut best = n;
+    let mut j: usize = 0;
+    while j < n {
+        best = higher(image, g, n, map, i, most, best, j);
+        j += 1;
+    }
+    best
+}
+
+// The better of `best`, if it is a PEB, and PEB j.
+fn higher(
+    image: &[u8],
+    g: Geometry,
+    n: usize,
+    map: &[u32],
+    i: usize,
+    most: u64,
+    best: usize,
+    j: usize,
+) -> usize
+    requires { ⌜ (Keyed g (now image) n (now map)) × ((i < n) × ((j < n) × (best ≤ n))) ⌝ }
+    ensures { λ r. ⌜ r ≡ higherOf g (now (image .entry)) n (now (map .entry)) i most best j ⌝ }
+{
+    if !same_leb(map, i, j) {
+        return best;
+    }
+    let s = sequence(image, g, j);
+    if most < s {
+        return best;
+    }
+    if best == n {
+        return j;
+    }
+    if sequence(image, g, best) < s {
+        return j;
+    }
+    best
+}
