@@ -27,17 +27,20 @@ beats-by : (c d : Copy) → (c .header .sequence < d .header .sequence → sound
     → (sound c ≡ true) ⊎ (c .header .sequence ≤ d .header .sequence) → beats (some c) d ≡ true
 beats-by c d up ne low = go (sound c) (sound d) refl refl (ltb (c .header .sequence) (d .header .sequence)) refl
   where
+    not-below : ltb (c .header .sequence) (d .header .sequence) ≡ false → d .header .sequence ≤ c .header .sequence
+    not-below e = ltb-false (c .header .sequence) (d .header .sequence) e
+
+    neither : {A : Type 0} → sound c ≡ false → ltb (c .header .sequence) (d .header .sequence) ≡ false → A
+    neither p e = ⊎-elim (λ s. clash p s) (λ h. absurd (ne (omega (arith, h, not-below e)))) low
+
     go : (a b : Bool) → sound c ≡ a → sound d ≡ b → (t : Bool) → ltb (c .header .sequence) (d .header .sequence) ≡ t
         → cond b (a && ltb (d .header .sequence) (c .header .sequence)) (a || ltb (c .header .sequence) (d .header .sequence)) ≡ true
     go a true p q true e = clash (up (ltb-true (c .header .sequence) (d .header .sequence) e)) q
-    go true true p q false e =
-        lt-ltb (d .header .sequence) (c .header .sequence) (let z = ltb-false (c .header .sequence) (d .header .sequence) e in omega (arith, ne))
-    go false true p q false e =
-        ⊎-elim (λ (s : sound c ≡ true). clash p s) (λ (h : c .header .sequence ≤ d .header .sequence). let z = ltb-false (c .header .sequence) (d .header .sequence) e in absurd (ne (omega arith))) low
+    go true true p q false e = lt-ltb (d .header .sequence) (c .header .sequence) (omega (arith, ne, not-below e))
+    go false true p q false e = neither p e
     go true false p q t e = refl
     go false false p q true e = e
-    go false false p q false e =
-        ⊎-elim (λ (s : sound c ≡ true). clash p s) (λ (h : c .header .sequence ≤ d .header .sequence). let z = ltb-false (c .header .sequence) (d .header .sequence) e in absurd (ne (omega arith))) low
+    go false false p q false e = neither p e
 
 module _ (n : ℕ) (f : ℕ → Option Copy) (i : ℕ) (c : Copy) (h : i < n) (e : f i ≡ some c)
     (best : (j : ℕ) → j < n → j ≢ i → (d : Copy) → f j ≡ some d → beats (some c) d ≡ true) where
@@ -75,7 +78,8 @@ module _ (g : Geometry) (image : List ℕ) (n : ℕ) (map : List ℕ) (i most : 
     unfolding Leads
     stays l = record { range = b .range; is = b .is; leads = more (Leads best) k (b .leads) l }
 
-    takes : sameLeb map i k ≡ true → sequenceAt g image k ≤ most → (best < n → sequenceAt g image best ≤ sequenceAt g image k) → Highest g image n map i most (k + 1) k
+    takes : sameLeb map i k ≡ true → sequenceAt g image k ≤ most → (best < n → sequenceAt g image best ≤ sequenceAt g image k)
+        → Highest g image n map i most (k + 1) k
     unfolding Leads
     takes s l up = record {
       range = omega arith;
@@ -94,9 +98,11 @@ module _ (g : Geometry) (image : List ℕ) (n : ℕ) (map : List ℕ) (i most : 
         go false l e t p q u w = stays (λ s _. clash p s)
         go true false e t p q u w = stays (λ _ m. absurd (let z = leb-false (sequenceAt g image k) most q in omega arith))
         go true true true t p q u w = takes p (leb-true (sequenceAt g image k) most q) (λ z. absurd (let y = eqb-true best n u in omega arith))
-        go true true false true p q u w = takes p (leb-true (sequenceAt g image k) most q) (λ z. let y = ltb-true (sequenceAt g image best) (sequenceAt g image k) w in omega arith)
+        go true true false true p q u w =
+            takes p (leb-true (sequenceAt g image k) most q) (λ z. let y = ltb-true (sequenceAt g image best) (sequenceAt g image k) w in omega arith)
         go true true false false p q u w =
-            stays (λ _ _. (let y = b .range in let z = eqb-false best n u in omega (arith, z), ltb-false (sequenceAt g image best) (sequenceAt g image k) w))
+            stays
+            (λ _ _. (let y = b .range in let z = eqb-false best n u in omega (arith, z), ltb-false (sequenceAt g image best) (sequenceAt g image k) w))
 
 -- ---- the copies of one LEB
 
@@ -106,12 +112,12 @@ pub record Down (g : Geometry) (image : List ℕ) (n : ℕ) (map : List ℕ) (i 
   pub same : sameLeb map i at ≡ true
   pub above : (k : ℕ) → k < n → sameLeb map i k ≡ true → sequenceAt g image at < sequenceAt g image k → sound (copyAt g image k) ≡ false
 
-module _ (g : Geometry) (image : List ℕ) (n : ℕ) (map : List ℕ) (i : ℕ) (v : Choosing g image n map i) where
+module _ {g : Geometry} {image : List ℕ} {n : ℕ} {map : List ℕ} {i : ℕ} (v : Choosing g image n map i) where
   abbrev of-leb : ℕ → Option Copy
   of-leb j = ofKey (volumeWord map i) (lebWord map i) (copies (viewsOf g image) j)
 
   same-held : (j : ℕ) → j < n → sameLeb map i j ≡ true → Held g image map j
-  same-held j k s = held g image n map (v .keyed) j k (λ (y : volumeWord map j ≡ noWord). v .holds (same-true map i j s .0 ∙ y))
+  same-held j k s = held (v .keyed) j k (λ (y : volumeWord map j ≡ noWord). v .holds (same-true map i j s .0 ∙ y))
 
   pub has-copy : (j : ℕ) → j < n → sameLeb map i j ≡ true → copies (viewsOf g image) j ≡ some (copyAt g image j)
   has-copy j k s = same-held j k s .is
@@ -125,20 +131,23 @@ module _ (g : Geometry) (image : List ℕ) (n : ℕ) (map : List ℕ) (i : ℕ) 
   is-same : (j : ℕ) → j < n → (c : Copy) → of-leb j ≡ some c → (sameLeb map i j ≡ true) × (c ≡ copyAt g image j)
   is-same j k c e =
       let o = ofKey-some (volumeWord map i) (lebWord map i) (copies (viewsOf g image) j) c e in
-      let a = held g image n map (v .keyed) i (v .below) (v .holds) in
-      let w = has-words g image n map (v .keyed) j k c (o .0) (rw (a .volume, ← (o .1)) at (a .mappable)) in
+      let a = held (v .keyed) i (v .below) (v .holds) in
+      let w = has-words (v .keyed) j k c (o .0) (rw (a .volume, ← (o .1)) at (a .mappable)) in
       (true-same map i j (sym (o .1) ∙ sym (w .0)) (sym (o .2) ∙ sym (w .1)), copy-is g image j c (o .0))
 
   -- no two copies share a sequence
-  apart : (j k : ℕ) → j < n → k < j → sameLeb map i j ≡ true → sameLeb map i k ≡ true → sequenceAt g image j ≡ sequenceAt g image k → ⊥
+  apart : (j k : ℕ) → j < n → k < j → sameLeb map i j ≡ true → sameLeb map i k ≡ true
+      → sequenceAt g image j ≡ sequenceAt g image k → ⊥
   apart j k p q s t =
       let a = same-true map i j s in
       let b = same-true map i k t in
       eqb-false (sequenceAt g image j) (sequenceAt g image k)
-      (sym (repeat-sequence g image n map (v .keyed) j k p (omega arith) (λ (y : volumeWord map j ≡ noWord). v .holds (a .0 ∙ y)) (true-same map j k (sym (a .0) ∙ b .0) (sym (a .1) ∙ b .1)))
+      (sym (repeat-sequence (v .keyed) j k p (omega arith) (λ (y : volumeWord map j ≡ noWord). v .holds (a .0 ∙ y))
+      (true-same map j k (sym (a .0) ∙ b .0) (sym (a .1) ∙ b .1)))
       ∙ all-fresh n (copies (viewsOf g image)) (v .no-repeat) j p k q)
 
-  distinct : (j k : ℕ) → j < n → k < n → j ≢ k → sameLeb map i j ≡ true → sameLeb map i k ≡ true → sequenceAt g image j ≡ sequenceAt g image k → ⊥
+  distinct : (j k : ℕ) → j < n → k < n → j ≢ k → sameLeb map i j ≡ true → sameLeb map i k ≡ true
+      → sequenceAt g image j ≡ sequenceAt g image k → ⊥
   distinct j k p q ne s t e = go (ltb k j) refl
     where
       go : (b : Bool) → ltb k j ≡ b → ⊥
@@ -146,11 +155,11 @@ module _ (g : Geometry) (image : List ℕ) (n : ℕ) (map : List ℕ) (i : ℕ) 
       go false y = let w = ltb-false k j y in apart k j q (omega (arith, ne)) t s (sym e)
 
   -- the copy is chosen if it is sound or the lowest
-  pub is-chosen : (at : ℕ) → Down g image n map i at
+  pub is-chosen : {at : ℕ} → Down g image n map i at
       → (sound (copyAt g image at) ≡ true) ⊎ ((k : ℕ) → k < n → sameLeb map i k ≡ true → sequenceAt g image at ≤ sequenceAt g image k)
       → chosen n (copies (viewsOf g image)) (volumeWord map i) (lebWord map i) ≡ some (at, copyAt g image at)
   unfolding chosen copyOf
-  is-chosen at w low =
+  is-chosen {at} w low =
       pick-best n of-leb at (copyAt g image at) (w .below) (hit at (w .below) (w .same))
       (λ j k ne c e. let m = is-same j k c e in
       rw (m .1)
@@ -158,8 +167,8 @@ module _ (g : Geometry) (image : List ℕ) (n : ℕ) (map : List ℕ) (i : ℕ) 
       (⊎-elim (λ s. inl s) (λ l. inr (l j k (m .0))) low)))
 
   -- the first copy met is the highest
-  pub down-first : (most at : ℕ) → Highest g image n map i most n at → ((j : ℕ) → j < n → sequenceAt g image j ≤ most) → Down g image n map i at
-  down-first most at t fits =
+  pub down-first : {most at : ℕ} → Highest g image n map i most n at → ((j : ℕ) → j < n → sequenceAt g image j ≤ most) → Down g image n map i at
+  down-first t fits =
       let y = t .leads i (v .below) (true-same map i i refl refl) (fits i (v .below)) in
       record {
         below = y .0;
@@ -168,13 +177,14 @@ module _ (g : Geometry) (image : List ℕ) (n : ℕ) (map : List ℕ) (i : ℕ) 
       }
 
   -- and then the next lower one
-  pub down-next : (at next s : ℕ) → Down g image n map i at → s ≡ sequenceAt g image at → (s ≡ 0 → ⊥) → sound (copyAt g image at) ≡ false
+  pub down-next : {at next s : ℕ} → Down g image n map i at → s ≡ sequenceAt g image at → (s ≡ 0 → ⊥) → sound (copyAt g image at) ≡ false
       → Highest g image n map i (s - 1) n next → (next ≡ n → ⊥) → Down g image n map i next
-  down-next at next s w e p u t q =
+  down-next {at} {next} {s} w e p u t q =
       let l : next < n = let y = t .range in omega (arith, q) in
       record { below = l; same = t .is l .0; above = λ k o m x. go k o m x (eq-or-ne k at) }
     where
-      go : (k : ℕ) → k < n → sameLeb map i k ≡ true → sequenceAt g image next < sequenceAt g image k → (k ≡ at) ⊎ (k ≢ at) → sound (copyAt g image k) ≡ false
+      go : (k : ℕ) → k < n → sameLeb map i k ≡ true → sequenceAt g image next < sequenceAt g image k → (k ≡ at) ⊎ (k ≢ at)
+          → sound (copyAt g image k) ≡ false
       go k o m x (inl y) = rw y u
       go k o m x (inr ne) = w .above k o m (over (leb (sequenceAt g image k) (s - 1)) refl)
         where
@@ -185,9 +195,9 @@ module _ (g : Geometry) (image : List ℕ) (n : ℕ) (map : List ℕ) (i : ℕ) 
               let a = distinct k at o (w .below) ne m (w .same) in omega (arith, a, p)
 
   -- a copy with no next lower one is the lowest
-  pub lowest : (at next s : ℕ) → s ≡ sequenceAt g image at → (s ≡ 0 → ⊥) → Highest g image n map i (s - 1) n next → next ≡ n
+  pub lowest : (at : ℕ) {next s : ℕ} → s ≡ sequenceAt g image at → (s ≡ 0 → ⊥) → Highest g image n map i (s - 1) n next → next ≡ n
       → (k : ℕ) → k < n → sameLeb map i k ≡ true → sequenceAt g image at ≤ sequenceAt g image k
-  lowest at next s e p t q k l m = go (leb (sequenceAt g image k) (s - 1)) refl
+  lowest at {next} {s} e p t q k l m = go (leb (sequenceAt g image k) (s - 1)) refl
     where
       go : (b : Bool) → leb (sequenceAt g image k) (s - 1) ≡ b → sequenceAt g image at ≤ sequenceAt g image k
       go true y = absurd (let x = t .leads k l m (leb-true (sequenceAt g image k) (s - 1) y) in omega arith)

@@ -41,7 +41,8 @@ part-part a n b m s h =
 
 -- ---- a header that was read is the one of the fields in its place
 
-judged-good : (one old b : Bool) {x h : VidHeader} → cond one (cond b (good x) bad) (cond old bad newer) ≡ good h → (x ≡ h) × (b ≡ true)
+judged-good : (one old b : Bool) {x h : VidHeader} → cond one (cond b (good x) bad) (cond old bad newer) ≡ good h
+    → (x ≡ h) × (b ≡ true)
 judged-good true old true e = (cc, refl)
 judged-good true old false e = absurd (let z : _≡_ {A = ℕ} 0 1 = cc in omega arith)
 judged-good false true b e = absurd (let z : _≡_ {A = ℕ} 0 1 = cc in omega arith)
@@ -94,10 +95,15 @@ module _ (g : Geometry) (image : List ℕ) (i : ℕ) (p : Placed g) where
   field-there at width h =
       let e : i * g .«peb_size» + g .«vid_start» + at ≡ i * g .«peb_size» + (g .«vid_start» + at) = omega arith in
       let k : g .«vid_start» + at + width ≤ g .«peb_size» = omega (arith, p .data-after-vid, p .leb-fills) in
-      rw (part-part at width (g .«vid_start») 64 (pebAt g image i) h, part-part (g .«vid_start» + at) width (i * g .«peb_size») (g .«peb_size») image k, e)
+      rw (
+        part-part at width (g .«vid_start») 64 (pebAt g image i) h,
+        part-part (g .«vid_start» + at) width (i * g .«peb_size») (g .«peb_size») image k,
+        e,
+      )
 
   -- the first bytes of PEB i's data
-  pub data-there : (size : ℕ) → size ≤ g .«leb_size» → part (i * g .«peb_size» + g .«data_start») size image ≡ part (g .«data_start») size (pebAt g image i)
+  pub data-there : (size : ℕ) → size ≤ g .«leb_size»
+      → part (i * g .«peb_size» + g .«data_start») size image ≡ part (g .«data_start») size (pebAt g image i)
   data-there size h = sym (part-part (g .«data_start») size (i * g .«peb_size») (g .«peb_size») image (omega (arith, p .leb-fills)))
 
 abbrev pub fieldIn : Geometry → List ℕ → ℕ → ℕ → ℕ → ℕ
@@ -139,7 +145,8 @@ module _ (g : Geometry) (image : List ℕ) (i : ℕ) where
         rw (z, t, r) (sound-data (λ (q : fieldIn g image i 6 1 ≡ 0). n (f ∙ q)))
 
 -- a sequence fits its 8 bytes
-pub sequence-fits : (g : Geometry) (image : List ℕ) (i : ℕ) → Placed g → (i + 1) * g .«peb_size» ≤ length image → Bytes image → sequenceAt g image i < 256 ^ 8
+pub sequence-fits : (g : Geometry) (image : List ℕ) (i : ℕ) → Placed g → (i + 1) * g .«peb_size» ≤ length image → Bytes image
+    → sequenceAt g image i < 256 ^ 8
 sequence-fits g image i p h b =
     rw (field-there g image i p 40 8 (omega arith), sequence-in g image i) at
     (field-lt (i * g .«peb_size» + g .«vid_start» + 40) 8 image (omega (arith, p .data-after-vid, p .leb-fills)) b)

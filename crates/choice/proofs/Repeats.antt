@@ -20,10 +20,14 @@ pub more : (P : ℕ → Type 0) (n : ℕ) → ((i : ℕ) → i < n → P i) → 
 more P n h z i k = step-below P n h z i (omega arith)
 
 -- the lowest answer is the first
-first-lowest : {A : Type 0} (n : ℕ) (f : ℕ → Option A) (i : ℕ) (a : A) → i < n → f i ≡ some a → ((j : ℕ) → j < i → f j ≡ none) → firstBelow n f ≡ some (i, a)
+first-lowest : {A : Type 0} (n : ℕ) (f : ℕ → Option A) (i : ℕ) (a : A) → i < n → f i ≡ some a
+    → ((j : ℕ) → j < i → f j ≡ none) → firstBelow n f ≡ some (i, a)
 first-lowest zero f i a h e u = absurd (omega arith)
 first-lowest (suc n) f i a h e u =
-    ⊎-elim (λ (k : i < n). rw (first-lowest n f i a k e u)) (λ (q : i ≡ n). rw (first-none n f (λ j l. u j (omega arith)), ← q, e)) (below-suc n i h)
+    ⊎-elim
+    (λ (k : i < n). rw (first-lowest n f i a k e u))
+    (λ (q : i ≡ n). rw (first-none n f (λ j l. u j (omega arith)), ← q, e))
+    (below-suc n i h)
 
 module _ (n : ℕ) (cs : ℕ → Option Copy) where
   -- PEB i repeats no lower one

@@ -90,7 +90,7 @@ pub record Held (g : Geometry) (image map : List ℕ) (i : ℕ) : Type 0 where
   pub volume : copyAt g image i .header .volume ≡ volumeWord map i
   pub leb : copyAt g image i .header .lnum ≡ lebWord map i
 
-module _ (g : Geometry) (image : List ℕ) (n : ℕ) (map : List ℕ) (d : Keyed g image n map) where
+module _ {g : Geometry} {image : List ℕ} {n : ℕ} {map : List ℕ} (d : Keyed g image n map) where
   row : ℕ → List ℕ
   row i = keyWords i (viewsOf g image i .vid)
 
@@ -185,26 +185,33 @@ same-true map i j e =
 pub true-same : (map : List ℕ) (i j : ℕ) → volumeWord map i ≡ volumeWord map j → lebWord map i ≡ lebWord map j → sameLeb map i j ≡ true
 true-same map i j p q = rw (eq-eqb (volumeWord map i) (volumeWord map j) p) (eq-eqb (lebWord map i) (lebWord map j) q)
 
-module _ (g : Geometry) (image : List ℕ) (n : ℕ) (map : List ℕ) (d : Keyed g image n map) (i j : ℕ) (h : i < n) (k : j < n) where
+module _ {g : Geometry} {image : List ℕ} {n : ℕ} {map : List ℕ} (d : Keyed g image n map) (i j : ℕ) (h : i < n) (k : j < n) where
   abbrev cs : ℕ → Option Copy
   cs = copies (viewsOf g image)
 
   repeat-words : repeats (cs i) (cs j) ≡ true → (volumeWord map i ≡ noWord → ⊥) × (sameLeb map i j ≡ true)
   repeat-words e =
       let r = repeat-of (cs i) (cs j) e in
-      let a = has-words g image n map d i h (r .c) (r .is) (r .mappable) in
-      let b = has-words g image n map d j k (r .d) (r .was) (rw (r .volume) at (r .mappable)) in (
+      let a = has-words d i h (r .c) (r .is) (r .mappable) in
+      let b = has-words d j k (r .d) (r .was) (rw (r .volume) at (r .mappable)) in (
         λ (z : volumeWord map i ≡ noWord). mappable-word (r .c .header .volume) (r .mappable) (sym (a .0) ∙ z),
         true-same map i j (a .0 ∙ r .volume ∙ sym (b .0)) (a .1 ∙ r .leb ∙ sym (b .1)),
       )
 
-  pub repeat-sequence : (volumeWord map i ≡ noWord → ⊥) → sameLeb map i j ≡ true → repeats (cs i) (cs j) ≡ eqb (sequenceAt g image i) (sequenceAt g image j)
+  pub repeat-sequence : (volumeWord map i ≡ noWord → ⊥) → sameLeb map i j ≡ true
+      → repeats (cs i) (cs j) ≡ eqb (sequenceAt g image i) (sequenceAt g image j)
   unfolding copyOf
   repeat-sequence z s =
       let e = same-true map i j s in
-      let a = held g image n map d i h z in
-      let b = held g image n map d j k (λ (y : volumeWord map j ≡ noWord). z (e .0 ∙ y)) in
-      rw (a .is, b .is, a .mappable, eq-eqb (copyAt g image i .header .volume) (copyAt g image j .header .volume) (a .volume ∙ e .0 ∙ sym (b .volume)), eq-eqb (copyAt g image i .header .lnum) (copyAt g image j .header .lnum) (a .leb ∙ e .1 ∙ sym (b .leb)))
+      let a = held d i h z in
+      let b = held d j k (λ (y : volumeWord map j ≡ noWord). z (e .0 ∙ y)) in
+      rw (
+        a .is,
+        b .is,
+        a .mappable,
+        eq-eqb (copyAt g image i .header .volume) (copyAt g image j .header .volume) (a .volume ∙ e .0 ∙ sym (b .volume)),
+        eq-eqb (copyAt g image i .header .lnum) (copyAt g image j .header .lnum) (a .leb ∙ e .1 ∙ sym (b .leb)),
+      )
 
   -- what is told from words and sequences is what the definition says of the copies
   repeats-at : repeatsAt g image map i j ≡ repeats (cs i) (cs j)

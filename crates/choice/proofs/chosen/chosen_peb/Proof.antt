@@ -26,20 +26,21 @@ highest-up-to-requires c κs = (c .before .before .pre .keyed, c .before .before
 loop-holds : tie.Need-loop-holds Inv-loop μ-loop
 loop-holds c =
     let d = c .before .before .before in
-    down-first (d .args .g) (d .args .image .now) (d .args .n) (d .args .map .now) (d .args .i) (d .pre) 0xFFFFFFFFFFFFFFFF (c .highest-up-to .result) (c .highest-up-to .ensures)
-    (λ j k. let w = within (d .args .g) (d .args .image .now) (d .args .n) (d .args .map .now) (d .pre .keyed) j k in omega (arith, sequence-fits (d .args .g) (d .args .image .now) j (w .placed) (w .bytes) (λ m. omega (arith, c .before .before .shared-slice-known .given m))))
+    down-first (d .pre) (c .highest-up-to .ensures)
+    (λ j k. let w = within (d .pre .keyed) j k in
+    omega (arith, sequence-fits (d .args .g) (d .args .image .now) j (w .placed) (w .bytes) (λ m. omega (arith, c .before .before .shared-slice-known .given m))))
 
 sequence-requires : tie.Need-sequence-requires Inv-loop μ-loop
 sequence-requires c κs =
     let d = c .before .before .before .before in
-    let w = within (d .args .g) (d .args .image .now) (d .args .n) (d .args .map .now) (d .pre .keyed) (c .loop .at) (c .loop .inv .below) in
+    let w = within (d .pre .keyed) (c .loop .at) (c .loop .inv .below) in
     (w .placed, w .bytes)
 
 returns : tie.Need-returns Inv-loop μ-loop
 returns c =
     let d = c .before .before .before .before .before .before in
     let e = c .before .sequence .ensures in
-    (is-chosen (d .args .g) (d .args .image .now) (d .args .n) (d .args .map .now) (d .args .i) (d .pre) (c .before .before .loop .at) (c .before .before .loop .inv) (inr (λ k l s. omega arith)), c .before .before .loop .inv .below)
+    (is-chosen (d .pre) (c .before .before .loop .inv) (inr (λ k l s. omega arith)), c .before .before .loop .inv .below)
 
 sub-highest-up-to : tie.Need-sub-highest-up-to Inv-loop μ-loop
 sub-highest-up-to c = omega (arith, c .if1 .left)
@@ -50,25 +51,28 @@ highest-up-to-requires-2 c κs = (c .before .before .before .before .before .bef
 returns-2 : tie.Need-returns-2 Inv-loop μ-loop
 returns-2 c =
     let d = c .before .before .before .before .before .before .before .before in
-    let l = c .before .before .before .before .loop in
-    (is-chosen (d .args .g) (d .args .image .now) (d .args .n) (d .args .map .now) (d .args .i) (d .pre) (l .at) (l .inv) (inr (lowest (d .args .g) (d .args .image .now) (d .args .n) (d .args .map .now) (d .args .i) (d .pre) (l .at) (c .before .highest-up-to2 .result) (c .before .before .before .sequence .result) (c .before .before .before .sequence .ensures) (c .before .before .if1 .left) (c .before .highest-up-to2 .ensures) (c .if2 .taken))), l .inv .below)
+    let l = c .before .before .before .before .loop in (
+      is-chosen (d .pre) (l .inv)
+          (inr (lowest (d .pre) (l .at) (c .before .before .before .sequence .ensures)
+          (c .before .before .if1 .left) (c .before .highest-up-to2 .ensures) (c .if2 .taken))),
+      l .inv .below,
+    )
 
 is-sound-requires : tie.Need-is-sound-requires Inv-loop μ-loop
 is-sound-requires c κs =
     let d = c .before .before .before .before .before .before .before .before in
     let l = c .before .before .before .before .loop in
-    let w = within (d .args .g) (d .args .image .now) (d .args .n) (d .args .map .now) (d .pre .keyed) (l .at) (l .inv .below) in
-    (w .placed, (w .bytes, has-copy (d .args .g) (d .args .image .now) (d .args .n) (d .args .map .now) (d .args .i) (d .pre) (l .at) (l .inv .below) (l .inv .same)))
+    let w = within (d .pre .keyed) (l .at) (l .inv .below) in
+    (w .placed, (w .bytes, has-copy (d .pre) (l .at) (l .inv .below) (l .inv .same)))
 
 returns-3 : tie.Need-returns-3 Inv-loop μ-loop
 returns-3 c =
     let d = c .before .before .before .before .before .before .before .before .before .before in
     let l = c .before .before .before .before .before .before .loop in
-    (is-chosen (d .args .g) (d .args .image .now) (d .args .n) (d .args .map .now) (d .args .i) (d .pre) (l .at) (l .inv) (inl (sym (c .before .is-sound .ensures) ∙ c .if3 .taken)), l .inv .below)
+    (is-chosen (d .pre) (l .inv) (inl (sym (c .before .is-sound .ensures) ∙ c .if3 .taken)), l .inv .below)
 
 loop-less : tie.Need-loop-less Inv-loop μ-loop
 loop-less c =
-    let d = c .before .before .before .before .before .before .before .before .before .before in
     let t = c .before .before .before .highest-up-to2 .ensures in
     let n = c .before .before .if2 .left in
     let y = t .is (let z = t .range in omega (arith, n)) .1 in
@@ -79,7 +83,8 @@ loop-again : tie.Need-loop-again Inv-loop μ-loop
 loop-again c =
     let d = c .before .before .before .before .before .before .before .before .before .before in
     let l = c .before .before .before .before .before .before .loop in
-    down-next (d .args .g) (d .args .image .now) (d .args .n) (d .args .map .now) (d .args .i) (d .pre) (l .at) (c .before .before .before .highest-up-to2 .result) (c .before .before .before .before .before .sequence .result) (l .inv) (c .before .before .before .before .before .sequence .ensures) (c .before .before .before .before .if1 .left) (sym (c .before .is-sound .ensures) ∙ c .if3 .left) (c .before .before .before .highest-up-to2 .ensures) (c .before .before .if2 .left)
+    down-next (d .pre) (l .inv) (c .before .before .before .before .before .sequence .ensures)
+    (c .before .before .before .before .if1 .left) (sym (c .before .is-sound .ensures) ∙ c .if3 .left) (c .before .before .before .highest-up-to2 .ensures) (c .before .before .if2 .left)
 
 pub chosen-peb-spec : {M : Type 1} → statement M
 chosen-peb-spec =

@@ -34,8 +34,10 @@ loop-less c = search needs
 loop-again : tie.Need-loop-again Inv-loop μ-loop
 loop-again c =
     let a = c .before .before .before .before .before .args in
-    let l = c .before .before .loop in
-    (omega arith, rw (c .higher .ensures) (highest-more (a .g) (a .image .now) (a .n) (a .map .now) (a .i) (a .most) (l .j) (l .best) (omega arith) (l .inv .1)))
+    let l = c .before .before .loop in (
+      omega arith,
+      rw (c .higher .ensures) (highest-more (a .g) (a .image .now) (a .n) (a .map .now) (a .i) (a .most) (l .j) (l .best) (omega arith) (l .inv .1)),
+    )
 
 returns : tie.Need-returns Inv-loop μ-loop
 returns c =

@@ -59,7 +59,9 @@ returns-2 : tie.Need-returns-2
 returns-2 c =
     let d = c .before .before .before .before .before .before .before .before .before in
     sound-run (d .args .g) (d .args .image .now) (d .args .i) (d .pre .0) (d .pre .1 .1)
-    (c .before .before .before .before .before .before .before .header-field .ensures .0) (c .before .before .before .before .before .before .if1 .left) (c .before .before .before .before .before .header-field2 .ensures .0) refl (c .before .crc32 .ensures) (c .header-field3 .ensures .0)
+    (c .before .before .before .before .before .before .before .header-field .ensures .0)
+    (c .before .before .before .before .before .before .if1 .left)
+    (c .before .before .before .before .before .header-field2 .ensures .0) refl (c .before .crc32 .ensures) (c .header-field3 .ensures .0)
 
 pub is-sound-spec : {M : Type 1} → statement M
 is-sound-spec =

@@ -35,7 +35,7 @@ loop-holds c = (omega arith, λ k h. absurd (omega arith))
 is-repeat-requires : tie.Need-is-repeat-requires Inv-loop μ-loop Inv-pebs μ-pebs
 is-repeat-requires c κs =
     let d = c .before .before .before .before .before .before in
-    (within (d .args .g) (d .args .image .now) (d .args .n) (d .args .map .now) (d .pre) (c .before .before .before .pebs .i) (omega arith), within (d .args .g) (d .args .image .now) (d .args .n) (d .args .map .now) (d .pre) (c .before .loop .j) (omega arith))
+    (within (d .pre) (c .before .before .before .pebs .i) (omega arith), within (d .pre) (c .before .loop .j) (omega arith))
 
 add-j : tie.Need-add-j Inv-loop μ-loop Inv-pebs μ-pebs
 add-j c = search needs
@@ -49,8 +49,10 @@ loop-again c =
     let i = c .before .before .before .before .before .pebs .i in
     let j = c .before .before .before .loop .j in
     let e : repeats (copies (viewsOf (d .args .g) (d .args .image .now)) i) (copies (viewsOf (d .args .g) (d .args .image .now)) j) ≡ false =
-    repeats-told (d .args .g) (d .args .image .now) (d .args .n) (d .args .map .now) (d .pre) i j (omega arith) (omega arith) (c .before .is-repeat .ensures) (c .if1 .left) in
-    (omega arith, more (λ (m : ℕ). repeats (copies (viewsOf (d .args .g) (d .args .image .now)) i) (copies (viewsOf (d .args .g) (d .args .image .now)) m) ≡ false) j (c .before .before .before .loop .inv .1) e)
+    repeats-told (d .pre) i j (omega arith) (omega arith) (c .before .is-repeat .ensures) (c .if1 .left) in (
+      omega arith,
+      more (λ (m : ℕ). repeats (copies (viewsOf (d .args .g) (d .args .image .now)) i) (copies (viewsOf (d .args .g) (d .args .image .now)) m) ≡ false) j (c .before .before .before .loop .inv .1) e,
+    )
 
 add-i : tie.Need-add-i Inv-loop μ-loop Inv-pebs μ-pebs
 add-i c = search needs
@@ -61,8 +63,10 @@ pebs-less c = search needs
 pebs-again : tie.Need-pebs-again Inv-loop μ-loop Inv-pebs μ-pebs
 pebs-again c =
     let d = c .before .before .before .before .before .before in
-    let e : c .before .loop .j ≡ c .before .before .before .pebs .i = omega arith in
-    (omega arith, more (Fresh (d .args .n) (copies (viewsOf (d .args .g) (d .args .image .now)))) (c .before .before .before .pebs .i) (c .before .before .before .pebs .inv .1) (rw e at (c .before .loop .inv .1)))
+    let e : c .before .loop .j ≡ c .before .before .before .pebs .i = omega arith in (
+      omega arith,
+      more (Fresh (d .args .n) (copies (viewsOf (d .args .g) (d .args .image .now)))) (c .before .before .before .pebs .i) (c .before .before .before .pebs .inv .1) (rw e at (c .before .loop .inv .1)),
+    )
 
 returns : tie.Need-returns Inv-loop μ-loop Inv-pebs μ-pebs
 returns c =
@@ -76,8 +80,11 @@ returns-2 c =
     let i = c .before .before .before .before .before .pebs .i in
     let j = c .before .before .before .loop .j in
     let e : repeats (copies (viewsOf (d .args .g) (d .args .image .now)) i) (copies (viewsOf (d .args .g) (d .args .image .now)) j) ≡ true =
-    repeats-told (d .args .g) (d .args .image .now) (d .args .n) (d .args .map .now) (d .pre) i j (omega arith) (omega arith) (c .before .is-repeat .ensures) (c .if1 .taken) in
-    (a-repeat (d .args .n) (copies (viewsOf (d .args .g) (d .args .image .now))) i j (omega arith) (omega arith) (c .before .before .before .before .before .pebs .inv .1) e, omega arith)
+    repeats-told (d .pre) i j (omega arith) (omega arith) (c .before .is-repeat .ensures) (c .if1 .taken) in (
+      a-repeat (d .args .n) (copies (viewsOf (d .args .g) (d .args .image .now))) i j (omega arith) (omega arith)
+          (c .before .before .before .before .before .pebs .inv .1) e,
+      omega arith,
+    )
 
 pub first-repeat-spec : {M : Type 1} → statement M
 first-repeat-spec =

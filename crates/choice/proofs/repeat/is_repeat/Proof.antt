@@ -34,7 +34,13 @@ sequence-requires-2 c κs = search needs
 
 returns-3 : tie.Need-returns-3
 returns-3 c =
-    rw (ne-eqb _ _ (c .before .before .before .before .if1 .left), ← (c .before .before .before .same-leb .ensures), not-false (c .before .before .before .same-leb .result) (c .before .before .if2 .left), ← (c .before .sequence .ensures), ← (c .sequence2 .ensures))
+    rw (
+      ne-eqb _ _ (c .before .before .before .before .if1 .left),
+      ← (c .before .before .before .same-leb .ensures),
+      not-false (c .before .before .before .same-leb .result) (c .before .before .if2 .left),
+      ← (c .before .sequence .ensures),
+      ← (c .sequence2 .ensures),
+    )
 
 pub is-repeat-spec : {M : Type 1} → statement M
 is-repeat-spec =
