@@ -105,7 +105,7 @@ slip-length s e = eqb-true (length s) 20 (each-holds (slipRules s) e 4)
 sub-multiple : (a b u : ℕ) → a % u ≡ 0 → b % u ≡ 0 → (a - b) % u ≡ 0
 sub-multiple a b u p q =
     let e : a - b ≡ u * (a / u - b / u) =
-        rw mul-sub (omega (arith, div-add-mod' a u, div-add-mod' b u, mul-comm u (a / u), mul-comm u (b / u))) in
+    rw mul-sub (omega (arith, div-add-mod' a u, div-add-mod' b u, mul-comm u (a / u), mul-comm u (b / u))) in
     rw e (mul-mod-right u (a / u - b / u))
 
 made : (peb unit sub : ℕ) → allOf (geometryRules peb unit sub) ≡ true → Placed (makeGeometry peb unit sub)
