@@ -58,7 +58,7 @@ read-good size l h e = go (eqs (part 0 4 l) vidMagic && crcMatches l) e
     go false e = absurd (let z : _≡_ {A = ℕ} 0 1 = cc in omega arith)
 
 -- a good VID view comes of a header that was read
-view-good : (g : Geometry) (p : List ℕ) (c : Copy) → goodVid (viewOf g p .vid) ≡ some c
+pub view-good : (g : Geometry) (p : List ℕ) (c : Copy) → goodVid (viewOf g p .vid) ≡ some c
     → (c ≡ copyOf g p (vidFields (vidPart g p))) × (allOf (vidRules (g .«leb_size») (vidFields (vidPart g p))) ≡ true)
 unfolding viewOf
 view-good g p c e = go (allFF (vidPart g p)) (readVid (g .«leb_size») (vidPart g p)) refl e

@@ -52,7 +52,7 @@ three-words i (vidGood c) = go (isMappable (c .header .volume))
     go false = refl
 
 -- no user or layout volume is the word that stands for nothing
-mappable-word : (v : ℕ) → isMappable v ≡ true → v ≡ noWord → ⊥
+pub mappable-word : (v : ℕ) → isMappable v ≡ true → v ≡ noWord → ⊥
 mappable-word v m e = false≢true (rw e at m)
 
 -- words that are there name a copy of a user or layout LEB

@@ -6,3 +6,4 @@ mod repeat;
 pub use chosen::chosen_peb;
 pub use copy::is_sound;
 pub use repeat::first_repeat;
+pub use repeat::same_leb;

@@ -137,15 +137,15 @@ triple-is t ps i e vidBad = refl
 
 -- ---- which PEBs are in the map
 
-place-is : (x : Option ℕ) (i : ℕ) → isPlace x i ≡ true → x ≡ some i
+pub place-is : (x : Option ℕ) (i : ℕ) → isPlace x i ≡ true → x ≡ some i
 place-is none i e = absurd (false≢true e)
 place-is (some p) i e = ap some (eqb-true p i e)
 
-place-chosen : (x : Option (ℕ × Copy)) (p : ℕ) → mapO (λ (y : ℕ × Copy). y .0) x ≡ some p → (c : Copy) × (x ≡ some (p, c))
+pub place-chosen : (x : Option (ℕ × Copy)) (p : ℕ) → mapO (λ (y : ℕ × Copy). y .0) x ≡ some p → (c : Copy) × (x ≡ some (p, c))
 place-chosen none p e = none-some e
 place-chosen (some y) p e = (y .1, ap (λ (q : ℕ). some (q, y .1)) (let z : y .0 ≡ p = cc in z))
 
-good-inv : (v : VidView) (c : Copy) → goodVid v ≡ some c → v ≡ vidGood c
+pub good-inv : (v : VidView) (c : Copy) → goodVid v ≡ some c → v ≡ vidGood c
 good-inv (vidGood d) c e = ap vidGood (let z : d ≡ c = cc in z)
 good-inv vidNewer c e = none-some e
 good-inv vidBlank c e = none-some e
@@ -310,16 +310,16 @@ module _ (g : Geometry) (n : ℕ) (vs : Views) (t pebs map₀ : List ℕ) (o : M
   keys-long i = key-length i (vs i .vid)
 
   module _ (i : ℕ) (h : i < n) where
-    class-word : firstAt 2 pebs i ≡ markedClass pl i (vs i .ec) (vs i .vid)
+    pub class-word : firstAt 2 pebs i ≡ markedClass pl i (vs i .ec) (vs i .vid)
     class-word = ap (λ (x : List ℕ). getD x (i * 2) 0) (o .pebs-are) ∙ row-first n 2 marked (drop (n * 2) pebs) (λ j. refl) i h (omega arith)
 
-    counter-word : secondAt 2 pebs i ≡ counterOr noWord (ecs vs i)
+    pub counter-word : secondAt 2 pebs i ≡ counterOr noWord (ecs vs i)
     counter-word = ap (λ (x : List ℕ). getD x (i * 2 + 1) 0) (o .pebs-are) ∙ row-at n 2 marked (drop (n * 2) pebs) (λ j. refl) i 1 h (omega arith)
 
-    key-first : firstAt 3 map₀ i ≡ getD (keys i) 0 0
+    pub key-first : firstAt 3 map₀ i ≡ getD (keys i) 0 0
     key-first = ap (λ (x : List ℕ). getD x (i * 3) 0) (o .map-is) ∙ row-first n 3 keys (drop (n * 3) map₀) keys-long i h (omega arith)
 
-    key-second : secondAt 3 map₀ i ≡ getD (keys i) 1 0
+    pub key-second : secondAt 3 map₀ i ≡ getD (keys i) 1 0
     key-second = ap (λ (x : List ℕ). getD x (i * 3 + 1) 0) (o .map-is) ∙ row-at n 3 keys (drop (n * 3) map₀) keys-long i 1 h (omega arith)
 
     key-third : thirdAt 3 map₀ i ≡ getD (keys i) 2 0
