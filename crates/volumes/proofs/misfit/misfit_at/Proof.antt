@@ -1,0 +1,89 @@
+-- `volumes::misfit::misfit_at` meets its contract. Assumes nothing.
+use Prim.Native.Nat.{_-_, _+_, _*_}
+use native.Mathlib.Omega.{arith}
+use borrow.Author.Needs.{needs}
+use Rattle.volumes.specs.Sorted.{headerAt, pebWord, misfitBy}
+use Rattle.volumes.proofs.Passes.{of-other, of-this}
+use Rattle.volumes.proofs.misfit.misfit_at.Statement.{statement}
+use Rattle.volumes.proofs.misfit.misfit_at.Tie as tie
+use Rattle.volumes.proofs.misfit.misfit_at.Reads as reads
+use Rattle.volumes.proofs.misfit.misfit_at.Lts as lts
+use Rattle.volumes.proofs.copy.used_lebs.Reads as used-lebs-reads
+use Rattle.volumes.proofs.misfit.misfits.Reads as misfits-reads
+
+mul-if1 : tie.Need-mul-if1
+mul-if1 c = search needs
+
+mul-if1-2 : tie.Need-mul-if1-2
+mul-if1-2 c = search needs
+
+shared-slice-read-if1 : tie.Need-shared-slice-read-if1
+shared-slice-read-if1 c = search needs
+
+returns : tie.Need-returns
+returns c =
+    let a = c .before .before .before .before .args in
+    of-other (a .map .now) (a .v) (a .k) (misfitBy (a .r) (headerAt (a .g) (a .image .now) (pebWord (a .map .now) (a .first)) .«used_lebs») (headerAt (a .g) (a .image .now) (pebWord (a .map .now) (a .k)))) (c .if1 .taken)
+
+mul-used-lebs : tie.Need-mul-used-lebs
+mul-used-lebs c = search needs
+
+add-used-lebs : tie.Need-add-used-lebs
+add-used-lebs c = search needs
+
+mul-used-lebs-2 : tie.Need-mul-used-lebs-2
+mul-used-lebs-2 c = search needs
+
+shared-slice-read-used-lebs : tie.Need-shared-slice-read-used-lebs
+shared-slice-read-used-lebs c = search needs
+
+cast-used-lebs : tie.Need-cast-used-lebs
+cast-used-lebs c = omega (arith, c .shared-slice-known4 .given (c .before .before .before .before .before .args .first * 3 + 2))
+
+used-lebs-requires : tie.Need-used-lebs-requires
+used-lebs-requires c κs = c .before .before .before .before .before .pre .0 .mapped (c .before .before .before .before .before .args .first) (c .before .before .before .before .before .pre .1 .0)
+
+mul-misfits : tie.Need-mul-misfits
+mul-misfits c = search needs
+
+add-misfits : tie.Need-add-misfits
+add-misfits c = search needs
+
+mul-misfits-2 : tie.Need-mul-misfits-2
+mul-misfits-2 c = search needs
+
+shared-slice-read-misfits : tie.Need-shared-slice-read-misfits
+shared-slice-read-misfits c = search needs
+
+cast-misfits : tie.Need-cast-misfits
+cast-misfits c = omega (arith, c .shared-slice-known5 .given (c .before .before .before .before .before .before .before .args .k * 3 + 2))
+
+misfits-requires : tie.Need-misfits-requires
+misfits-requires c κs = c .before .before .before .before .before .before .before .pre .0 .mapped (c .before .before .before .before .before .before .before .args .k) (c .before .before .before .before .before .before .before .pre .1 .1)
+
+returns-2 : tie.Need-returns-2
+returns-2 c =
+    let a = c .before .before .before .before .before .before .before .before .args in
+    of-this (a .map .now) (a .v) (a .k) (misfitBy (a .r) (headerAt (a .g) (a .image .now) (pebWord (a .map .now) (a .first)) .«used_lebs») (headerAt (a .g) (a .image .now) (pebWord (a .map .now) (a .k)))) (c .before .before .before .before .if1 .left) (rw (c .before .before .used-lebs .ensures) at (c .misfits .ensures))
+
+pub misfit-at-spec : {M : Type 1} → statement M
+misfit-at-spec =
+    tie.close
+    (tie.spec
+    mul-if1
+    mul-if1-2
+    shared-slice-read-if1
+    returns
+    mul-used-lebs
+    add-used-lebs
+    mul-used-lebs-2
+    shared-slice-read-used-lebs
+    cast-used-lebs
+    used-lebs-requires
+    mul-misfits
+    add-misfits
+    mul-misfits-2
+    shared-slice-read-misfits
+    cast-misfits
+    misfits-requires
+    returns-2)

@@ -1,0 +1,83 @@
+-- `volumes::misfit::misfit_in` meets its contract: no entry passed is one of the volume that refusal 12 names. Assumes nothing.
+use mathlib.Core.Path.{_≡_, sym, _∙_}
+use mathlib.Core.Bool.{false}
+use Prim.Native.Nat.{_≤_, _<_, _-_, ℕ}
+use native.Mathlib.Omega.{arith}
+use borrow.Author.Needs.{needs}
+use Rattle.volumes.specs.Sorted.{misfitWord}
+use Rattle.volumes.proofs.Passes.{more, before-first}
+use Rattle.volumes.proofs.misfit.misfit_in.Statement.{statement}
+use Rattle.volumes.proofs.misfit.misfit_in.Tie as tie
+use Rattle.volumes.proofs.misfit.misfit_in.Reads as reads
+use Rattle.volumes.proofs.misfit.misfit_in.Lts as lts
+use Rattle.volumes.proofs.entries.first_of.Reads as first-of-reads
+use Rattle.volumes.proofs.misfit.misfit_at.Reads as misfit-at-reads
+
+abbrev Inv-loop : tie.InvT-loop
+Inv-loop image g map count v r first k₀ k = (k ≤ count) × ((first ≤ k) × ((j : ℕ) → j < k → misfitWord g image map v r first j ≡ false))
+
+abbrev μ-loop : tie.MeasureT-loop
+μ-loop image g map count v r first k₀ k = count - k
+
+first-of-requires : tie.Need-first-of-requires Inv-loop μ-loop
+first-of-requires c κs = c .before .before .pre .words
+
+loop-holds : tie.Need-loop-holds Inv-loop μ-loop
+loop-holds c =
+    let a = c .before .before .before .args in
+    let f = c .first-of in
+    (f .ensures .within, (omega arith, before-first (a .g) (a .image .now) (a .map .now) (a .count) (a .v) (a .r) (f .result) (f .ensures)))
+
+misfit-at-requires : tie.Need-misfit-at-requires Inv-loop μ-loop
+misfit-at-requires c κs = search needs
+
+returns : tie.Need-returns Inv-loop μ-loop
+returns c =
+    let l = c .before .before .before .loop in
+    let m = c .before .misfit-at in
+    record {
+      first = c .before .before .before .before .first-of .result;
+      is-first = c .before .before .before .before .first-of .ensures;
+      within = l .inv .0;
+      before = l .inv .1 .1;
+      here = λ _. sym (m .ensures) ∙ c .if1 .taken;
+    }
+
+add-k : tie.Need-add-k Inv-loop μ-loop
+add-k c = search needs
+
+loop-less : tie.Need-loop-less Inv-loop μ-loop
+loop-less c = search needs
+
+loop-again : tie.Need-loop-again Inv-loop μ-loop
+loop-again c =
+    let a = c .before .before .before .before .before .before .before .args in
+    let l = c .before .before .before .loop in
+    let f = c .before .before .before .before .first-of .result in
+    (omega arith, (omega arith, more (λ (j : ℕ). misfitWord (a .g) (a .image .now) (a .map .now) (a .v) (a .r) f j ≡ false) (l .k) (l .inv .1 .1) (sym (c .before .misfit-at .ensures) ∙ c .if1 .left)))
+
+returns-2 : tie.Need-returns-2 Inv-loop μ-loop
+returns-2 c =
+    let l = c .before .loop in
+    record {
+      first = c .before .before .first-of .result;
+      is-first = c .before .before .first-of .ensures;
+      within = l .inv .0;
+      before = l .inv .1 .1;
+      here = λ h. absurd (omega arith);
+    }
+
+pub misfit-in-spec : {M : Type 1} → statement M
+misfit-in-spec =
+    tie.close
+    (tie.spec
+    Inv-loop
+    μ-loop
+    first-of-requires
+    loop-holds
+    misfit-at-requires
+    returns
+    add-k
+    loop-less
+    loop-again
+    returns-2)

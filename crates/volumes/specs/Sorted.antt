@@ -1,0 +1,137 @@
+-- What the contracts here cite beside the report's definitions: a PEB's copy, the sorted map and its table. Inner vocabulary. Assumes nothing.
+use mathlib.Core.Path.{_≡_}
+use mathlib.Core.Bool.{Bool, true, false, not, _&&_, _||_, cond}
+use mathlib.Core.Option.{Option, none, some}
+use mathlib.Core.List.{List}
+use Prim.Native.Nat.{ℕ, _+_, _*_, _≤_, _<_}
+use lib.Bits.{bitAnd}
+use lib.Dec.{eqb, ltb}
+use lib.ListN.{length, take, getD}
+use Rattle.base.specs.Answers.{given}
+use Rattle.base.specs.Below.{countBelow}
+use Rattle.geometry.specs.declared.Geometry.{Geometry}
+use Rattle.geometry.specs.Placed.{Placed}
+use Rattle.header.specs.declared.VidHeader.{VidHeader}
+use Rattle.header.specs.Vid.{vidFields}
+use Rattle.volume_table.specs.declared.VolumeRecord.{VolumeRecord}
+use Rattle.report.specs.View.{Copy, vidPart, pebAt, viewsOf, copies, copyOf}
+use Rattle.report.specs.Scan.{Refusal}
+use Rattle.report.specs.Volumes.{Face, faceOf, misfitIn, misfitAt}
+use Rattle.report.specs.Report.{faces, records, entries, taken}
+use Rattle.report.specs.Attach.{mapWords}
+use Rattle.volumes.specs.declared.Kept.{Kept}
+
+-- the fields in the place of PEB i's VID header, and the copy that they make if the header is good
+unfoldable pub headerAt : Geometry → List ℕ → ℕ → VidHeader
+headerAt g image i = vidFields (vidPart g (pebAt g image i))
+
+unfoldable pub copyAt : Geometry → List ℕ → ℕ → Copy
+copyAt g image i = copyOf g (pebAt g image i) (headerAt g image i)
+
+-- what is seen of it
+abbrev pub faceAt : Geometry → List ℕ → ℕ → Face
+faceAt g image i = faceOf g (copyAt g image i)
+
+-- PEB i lies within the image, and its VID header is good
+pub record Mapped (g : Geometry) (image : List ℕ) (i : ℕ) : Type 0 where
+  pub placed : Placed g
+  pub bytes : (i + 1) * g .«peb_size» ≤ length image
+  pub is : copies (viewsOf g image) i ≡ some (copyAt g image i)
+
+-- is an entry at fault, in a volume whose data CRCs are asked or not?
+abbrev pub faultyBy : Bool → Face → Bool
+faultyBy asks f = not (f .sound) || (asks && not (f .right))
+
+-- the numbers of a record that are compared with the entries of its volume
+unfoldable pub keptOf : VolumeRecord → Kept
+keptOf r = record {
+  reserved = r .reserved;
+  «data_pad» = r .«data_pad»;
+  «vol_type» = r .«vol_type»;
+  marker = r .«update_marker»;
+  flags = r .flags;
+}
+
+-- is a data CRC of this volume asked?
+abbrev pub keptAsks : Kept → Bool
+keptAsks k = eqb (k .«vol_type») 2 && not (eqb (bitAnd (k .flags) 2) 2)
+
+-- the words of entry k: volume, LEB, PEB
+abbrev pub volumeWord : List ℕ → ℕ → ℕ
+volumeWord map k = getD map (k * 3) 0
+
+abbrev pub lebWord : List ℕ → ℕ → ℕ
+lebWord map k = getD map (k * 3 + 1) 0
+
+abbrev pub pebWord : List ℕ → ℕ → ℕ
+pebWord map k = getD map (k * 3 + 2) 0
+
+-- the words of each entry are there, and each names a PEB with a copy
+pub record Entries (g : Geometry) (image map : List ℕ) (count : ℕ) : Type 0 where
+  pub words : count * 3 ≤ length map
+  pub mapped : (k : ℕ) → k < count → Mapped g image (pebWord map k)
+
+-- is entry k one of volume v?
+abbrev pub isOf : List ℕ → ℕ → ℕ → Bool
+isOf map v k = eqb (volumeWord map k) v
+
+-- .. and at fault?
+abbrev pub faultAt : Geometry → List ℕ → List ℕ → ℕ → Bool → ℕ → Bool
+faultAt g image map v asks k = isOf map v k && faultyBy asks (faceAt g image (pebWord map k))
+
+-- the number of the first entry of volume v, or count
+pub record FirstOf (map : List ℕ) (count v r : ℕ) : Type 0 where
+  pub within : r ≤ count
+  pub before : (k : ℕ) → k < r → volumeWord map k ≡ v → ⊥
+  pub here : r < count → volumeWord map r ≡ v
+
+-- has volume v an entry, and fewer than the used LEBs that its first entry has?
+pub record Lacking (g : Geometry) (image map : List ℕ) (count v : ℕ) (b : Bool) : Type 0 where
+  pub first : ℕ
+  pub is-first : FirstOf map count v first
+  pub is : b ≡ ltb first count && ltb (countBelow count (isOf map v)) (headerAt g image (pebWord map first) .«used_lebs»)
+
+-- does refusal 12 name a copy with the header h, where its volume's record is r and its volume's first entry has these used LEBs?
+unfoldable pub misfitBy : Kept → ℕ → VidHeader → Bool
+misfitBy r used h =
+    not (eqb (h .«vol_type») (r .«vol_type») && eqb (h .«data_pad») (r .«data_pad»))
+    || (eqb (h .«vol_type») 2 && (not (eqb (h .«used_lebs») used) || ltb (r .reserved) (h .«used_lebs»)))
+
+-- is entry k one of volume v, and named by refusal 12, where `first` is the volume's first entry?
+abbrev pub misfitWord : Geometry → List ℕ → List ℕ → ℕ → Kept → ℕ → ℕ → Bool
+misfitWord g image map v r first k =
+    isOf map v k && misfitBy r (headerAt g image (pebWord map first) .«used_lebs») (headerAt g image (pebWord map k))
+
+-- k is the first such entry, or count
+pub record FirstMisfit (g : Geometry) (image map : List ℕ) (count v : ℕ) (r : Kept) (k : ℕ) : Type 0 where
+  pub first : ℕ
+  pub is-first : FirstOf map count v first
+  pub within : k ≤ count
+  pub before : (j : ℕ) → j < k → misfitWord g image map v r first j ≡ false
+  pub here : k < count → misfitWord g image map v r first k ≡ true
+
+-- k is the number of the first entry of volume v that refusal 12 names, or count, by the report's definition
+pub record VolumeMisfit (g : Geometry) (n : ℕ) (image map : List ℕ) (count v k : ℕ) : Type 0 where
+  pub within : k ≤ count
+  pub none-in : count ≤ k → misfitIn (records g n (viewsOf g image)) (faces g n (viewsOf g image)) v ≡ none
+  pub volume : k < count → volumeWord map k ≡ v
+  pub some-in : k < count → misfitIn (records g n (viewsOf g image)) (faces g n (viewsOf g image)) v ≡ some (lebWord map k)
+
+-- the refusal that an entry k stands for, if it is one of them
+abbrev pub misfitRefusal : List ℕ → ℕ → ℕ → Option Refusal
+misfitRefusal map count k = cond (ltb k count) (some (record { number = 12; place = pebWord map k })) none
+
+-- an image of n PEBs, the words of its map, the number of its entries, and the records of the table taken
+pub record Sorted (g : Geometry) (n : ℕ) (image map t : List ℕ) (count : ℕ) : Type 0 where
+  pub placed : Placed g
+  pub whole : length image ≡ n * g .«peb_size»
+  pub words : take (n * 3) map ≡ mapWords n (entries g n (viewsOf g image))
+  pub count-is : count ≡ length (entries g n (viewsOf g image))
+  pub table-is : t ≡ records g n (viewsOf g image)
+  pub leb : ℕ
+  pub taken-is : taken g n (viewsOf g image) ≡ given leb
+
+-- no entry is one that refusal 12 names
+pub record Fitting (g : Geometry) (n : ℕ) (image map t : List ℕ) (count : ℕ) : Type 0 where
+  pub sorted : Sorted g n image map t count
+  pub none12 : misfitAt (records g n (viewsOf g image)) (faces g n (viewsOf g image)) ≡ none

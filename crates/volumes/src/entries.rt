@@ -1,0 +1,83 @@
+// Passes over the words of the sorted map.
+ghost use mathlib.Core.Path.{_≡_};
+ghost use mathlib.Core.Bool.{cond};
+ghost use Prim.Native.Nat.{_*_, _≤_, _<_};
+ghost use lib.Dec.{eqb};
+ghost use lib.ListN.{length};
+ghost use Rattle.base.specs.Below.{anyBelow, countBelow};
+ghost use Rattle.volumes.specs.Sorted.{Entries, isOf, faultAt, FirstOf};
+use crate::copy::entry_faulty;
+use geometry::Geometry;
+
+// Is entry k one of volume v, and at fault?
+fn fault_at(
+    image: &[u8],
+    g: Geometry,
+    map: &[u32],
+    count: usize,
+    v: u32,
+    asks: bool,
+    k: usize,
+) -> bool
+    requires { ⌜ (Entries g (now image) (now map) count) × (k < count) ⌝ }
+    ensures { λ r. ⌜ r ≡ faultAt g (now (image .entry)) (now (map .entry)) v asks k ⌝ }
+{
+    if map[k * 3] != v {
+        return false;
+    }
+    entry_faulty(image, g, map[k * 3 + 2] as usize, asks)
+}
+
+// Is any entry of volume v at fault?
+pub fn any_faulty(image: &[u8], g: Geometry, map: &[u32], count: usize, v: u32, asks: bool) -> bool
+    requires { ⌜ Entries g (now image) (now map) count ⌝ }
+    ensures { λ r. ⌜ r ≡ anyBelow count (faultAt g (now (image .entry)) (now (map .entry)) v asks) ⌝ }
+{
+    let mut k: usize = 0;
+    while k < count {
+        if fault_at(image, g, map, count, v, asks, k) {
+            return true;
+        }
+        k += 1;
+    }
+    false
+}
+
+// The number of the first entry of volume v, or `count`.
+pub fn first_of(map: &[u32], count: usize, v: u32) -> usize
+    requires { ⌜ count * 3 ≤ length (now map) ⌝ }
+    ensures { λ r. ⌜ FirstOf (now (map .entry)) count v r ⌝ }
+{
+    let mut k: usize = 0;
+    while k < count {
+        if map[k * 3] == v {
+            return k;
+        }
+        k += 1;
+    }
+    k
+}
+
+// 1 if the two are equal, else 0.
+fn one_if(a: u32, b: u32) -> usize
+    ensures { λ r. ⌜ (r ≡ cond (eqb a b) 1 0) × (r ≤ 1) ⌝ }
+{
+    if a == b {
+        return 1;
+    }
+    0
+}
+
+// How many entries volume v has.
+pub fn entries_of(map: &[u32], count: usize, v: u32) -> usize
+    requires { ⌜ count * 3 ≤ length (now map) ⌝ }
+    ensures { λ r. ⌜ r ≡ countBelow count (isOf (now (map .entry)) v) ⌝ }
+{
+    let mut found: usize = 0;
+    let mut k: usize = 0;
+    while k < count {
+        found += one_if(map[k * 3], v);
+        k += 1;
+    }
+    found
+}
