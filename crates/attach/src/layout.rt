@@ -2,7 +2,12 @@
 ghost use mathlib.Core.Path.{_≡_};
 ghost use Prim.Native.Nat.{_+_, _*_, _≤_, _<_};
 ghost use lib.ListN.{length};
-ghost use Rattle.attach.specs.Layout.{isChosen, Found};
+ghost use Rattle.header.specs.Vid.{layoutVolume};
+ghost use Rattle.report.specs.View.{viewsOf};
+ghost use Rattle.report.specs.Volumes.{layoutContent};
+ghost use Rattle.report.specs.Report.{faces};
+ghost use Rattle.attach.specs.Layout.{isChosen, Found, Chosen};
+use geometry::Geometry;
 
 // The PEB that is chosen for a volume's LEB; n if there is none.
 pub fn find_chosen(pebs: &[u32], map: &[u32], n: usize, volume: u32, lnum: u32) -> usize
@@ -30,4 +35,24 @@ fn is_chosen(pebs: &[u32], map: &[u32], i: usize, volume: u32, lnum: u32) -> boo
         return false;
     }
     map[i * 3 + 1] == lnum
+}
+
+// The content of a layout LEB: the data of its PEB; no bytes where it has none.
+pub fn layout_content<'a>(
+    image: &'a [u8],
+    g: Geometry,
+    n: usize,
+    pebs: &[u32],
+    map: &[u32],
+    lnum: u32,
+) -> &'a [u8]
+    requires { ⌜ (Chosen g (now image) n (now map) (now pebs)) × (lnum < 2) ⌝ }
+    ensures { λ r. ⌜ now r ≡ layoutContent (faces g n (viewsOf g (now (image .entry))) layoutVolume lnum) ⌝ }
+{
+    let i = find_chosen(pebs, map, n, 0x7FFFEFFF, lnum);
+    if i == n {
+        return &image[0..0];
+    }
+    let at = i * g.peb_size as usize;
+    &image[at + g.data_start as usize..at + g.peb_size as usize]
 }

@@ -1,0 +1,66 @@
+-- `grade::pebs_sound` meets its contract: the PEBs before i are sound. Assumes nothing.
+use mathlib.Core.Path.{_≡_, sym, _∙_}
+use Prim.Native.Nat.{_≤_, _<_, _-_, ℕ}
+use native.Mathlib.Omega.{arith}
+use borrow.Author.Needs.{needs}
+use mathlib.Core.Bool.{true}
+use borrow.Author.Tests.{not-true, not-false}
+use Rattle.base.proofs.Below.{all-intro}
+use Rattle.grade.specs.Words.{soundPeb}
+use Rattle.grade.proofs.Laws.{one-more, all-fails}
+use Rattle.grade.proofs.pebs_sound.Statement.{statement}
+use Rattle.grade.proofs.pebs_sound.Tie as tie
+use Rattle.grade.proofs.pebs_sound.Reads as reads
+use Rattle.grade.proofs.pebs_sound.Lts as lts
+use Rattle.grade.proofs.peb_sound.Reads as peb-sound-reads
+
+abbrev Inv-loop : tie.InvT-loop
+Inv-loop pebs n i₀ i = (i ≤ n) × ((j : ℕ) → j < i → soundPeb pebs j ≡ true)
+
+abbrev μ-loop : tie.MeasureT-loop
+μ-loop pebs n i₀ i = n - i
+
+loop-holds : tie.Need-loop-holds Inv-loop μ-loop
+loop-holds c = (omega arith, λ j h. absurd (omega arith))
+
+peb-sound-requires : tie.Need-peb-sound-requires Inv-loop μ-loop
+peb-sound-requires c κs = search needs
+
+returns : tie.Need-returns Inv-loop μ-loop
+returns c =
+    let l = c .before .before .before .loop in
+    let a = c .before .before .before .before .before .args in
+    all-fails (a .n) (soundPeb (a .pebs .now)) (l .i) (omega arith) (sym (c .before .peb-sound .ensures) ∙ not-true _ (c .if1 .taken))
+
+add-i : tie.Need-add-i Inv-loop μ-loop
+add-i c = search needs
+
+loop-less : tie.Need-loop-less Inv-loop μ-loop
+loop-less c = search needs
+
+loop-again : tie.Need-loop-again Inv-loop μ-loop
+loop-again c =
+    let l = c .before .before .before .loop in
+    let a = c .before .before .before .before .before .args in
+    (omega arith, one-more (λ (j : ℕ). soundPeb (a .pebs .now) j ≡ true) (l .i) (l .inv .1) (sym (c .before .peb-sound .ensures) ∙ not-false _ (c .if1 .left)))
+
+returns-2 : tie.Need-returns-2 Inv-loop μ-loop
+returns-2 c =
+    let l = c .before .loop in
+    let a = c .before .before .before .args in
+    let e : l .i ≡ a .n = omega arith in
+    sym (all-intro (a .n) (soundPeb (a .pebs .now)) (rw e at (l .inv .1)))
+
+pub pebs-sound-spec : {M : Type 1} → statement M
+pebs-sound-spec =
+    tie.close
+    (tie.spec
+    Inv-loop
+    μ-loop
+    loop-holds
+    peb-sound-requires
+    returns
+    add-i
+    loop-less
+    loop-again
+    returns-2)

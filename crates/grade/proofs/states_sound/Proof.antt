@@ -1,0 +1,84 @@
+-- `grade::states_sound` meets its contract: the states before v are neither 2 nor 3. Assumes nothing.
+use mathlib.Core.Path.{_≡_, sym}
+use Prim.Native.Nat.{_≤_, _<_, _-_, ℕ}
+use native.Mathlib.Omega.{arith}
+use borrow.Author.Needs.{needs}
+use mathlib.Core.Bool.{true}
+use borrow.Author.Tests.{eq-eqb, ne-eqb}
+use Rattle.base.proofs.Below.{all-intro}
+use Rattle.grade.specs.Words.{soundState}
+use Rattle.grade.proofs.Laws.{one-more, all-fails}
+use Rattle.grade.proofs.states_sound.Statement.{statement}
+use Rattle.grade.proofs.states_sound.Tie as tie
+use Rattle.grade.proofs.states_sound.Reads as reads
+use Rattle.grade.proofs.states_sound.Lts as lts
+
+abbrev Inv-loop : tie.InvT-loop
+Inv-loop states v₀ v = (v ≤ 128) × ((j : ℕ) → j < v → soundState states j ≡ true)
+
+abbrev μ-loop : tie.MeasureT-loop
+μ-loop states v₀ v = 128 - v
+
+loop-holds : tie.Need-loop-holds Inv-loop μ-loop
+loop-holds c = (omega arith, λ j h. absurd (omega arith))
+
+mul-if1 : tie.Need-mul-if1 Inv-loop μ-loop
+mul-if1 c = search needs
+
+shared-slice-read-if1 : tie.Need-shared-slice-read-if1 Inv-loop μ-loop
+shared-slice-read-if1 c = search needs
+
+returns : tie.Need-returns Inv-loop μ-loop
+returns c =
+    let l = c .before .before .before .loop in
+    let a = c .before .before .before .before .args in
+    all-fails 128 (soundState (a .states .now)) (l .v) (omega arith) (rw (eq-eqb _ _ (c .if1 .taken)))
+
+mul-if2 : tie.Need-mul-if2 Inv-loop μ-loop
+mul-if2 c = search needs
+
+shared-slice-read-if2 : tie.Need-shared-slice-read-if2 Inv-loop μ-loop
+shared-slice-read-if2 c = search needs
+
+returns-2 : tie.Need-returns-2 Inv-loop μ-loop
+returns-2 c =
+    let l = c .before .before .before .before .before .loop in
+    let a = c .before .before .before .before .before .before .args in
+    all-fails 128 (soundState (a .states .now)) (l .v) (omega arith) (rw (ne-eqb _ _ (c .before .before .if1 .left), eq-eqb _ _ (c .if2 .taken)))
+
+add-v : tie.Need-add-v Inv-loop μ-loop
+add-v c = search needs
+
+loop-less : tie.Need-loop-less Inv-loop μ-loop
+loop-less c = search needs
+
+loop-again : tie.Need-loop-again Inv-loop μ-loop
+loop-again c =
+    let l = c .before .before .before .before .before .loop in
+    let a = c .before .before .before .before .before .before .args in
+    (omega arith, one-more (λ (j : ℕ). soundState (a .states .now) j ≡ true) (l .v) (l .inv .1) (rw (ne-eqb _ _ (c .before .before .if1 .left), ne-eqb _ _ (c .if2 .left))))
+
+returns-3 : tie.Need-returns-3 Inv-loop μ-loop
+returns-3 c =
+    let l = c .before .loop in
+    let a = c .before .before .args in
+    let e : l .v ≡ 128 = omega arith in
+    sym (all-intro 128 (soundState (a .states .now)) (rw e at (l .inv .1)))
+
+pub states-sound-spec : {M : Type 1} → statement M
+states-sound-spec =
+    tie.close
+    (tie.spec
+    Inv-loop
+    μ-loop
+    loop-holds
+    mul-if1
+    shared-slice-read-if1
+    returns
+    mul-if2
+    shared-slice-read-if2
+    returns-2
+    add-v
+    loop-less
+    loop-again
+    returns-3)
