@@ -1,3 +1,6 @@
 pub mod Laws
+pub mod Ends
 pub mod Layouts
 pub mod Marks
+pub mod Reports
+pub mod Stages

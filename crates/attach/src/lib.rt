@@ -2,3 +2,156 @@
 mod layout;
 mod lent;
 mod marking;
+mod summary;
+
+ghost use mathlib.Core.Path.{_≡_};
+ghost use Prim.Native.Nat.{_≤_};
+ghost use Rattle.geometry.specs.Placed.{Placed};
+ghost use Rattle.base.specs.Answers.{given};
+ghost use Rattle.report.specs.Attach.{attaching, byGeometry, longEnough, attachedAnswer, answerOf, pebsAfter, mapAfter, statesAfter};
+ghost use Rattle.attach.specs.Stage.{Ended, Room, Past10, outcome};
+use geometry::Geometry;
+use geometry::GeometryRead;
+use report::Attached;
+use scan::Sums;
+use volume_table::Taken;
+
+// From the chosen copies on: refusal 11, and the rest with the table taken.
+fn attach_chosen(
+    image: &[u8],
+    g: Geometry,
+    n: usize,
+    sums: Sums,
+    pebs: &mut [u32],
+    map: &mut [u32],
+    states: &mut [u32],
+) -> Attached
+    requires { ⌜ Past10 g (now image) n sums (now pebs) (now map) (now states) ⌝ }
+    ensures { λ r. ⌜ Ended (outcome g (now (image .entry)) n) r (now (pebs .entry)) (now (pebs .exit)) (now (map .entry)) (now (map .exit)) (now (states .entry)) (now (states .exit)) ⌝ }
+{
+    let copy0 = layout::layout_content(image, g, n, pebs, map, 0);
+    let copy1 = layout::layout_content(image, g, n, pebs, map, 1);
+    let choice = volume_table::choose_table(copy0, copy1, g.leb_size, g.unit, n as u32);
+    let mark = choice.copies_mark;
+    let taken = choice.taken;
+    match taken {
+        Taken::First => {
+            let t = volume_table::records_part(copy0, g.leb_size);
+            return summary::report_on(image, g, n, sums, t, 0, mark, pebs, map, states);
+        }
+        Taken::Second => {
+            let t = volume_table::records_part(copy1, g.leb_size);
+            return summary::report_on(image, g, n, sums, t, 1, mark, pebs, map, states);
+        }
+        Taken::Neither => return lent::refuse(11, 0, n, pebs, map, states),
+    }
+}
+
+// An image of n PEBs with lent tables that are long enough: refusals 5 to 10, and the rest.
+fn attach_pebs(
+    image: &[u8],
+    g: Geometry,
+    n: usize,
+    pebs: &mut [u32],
+    map: &mut [u32],
+    states: &mut [u32],
+) -> Attached
+    requires { ⌜ Room g (now image) n (now pebs) (now map) (now states) ⌝ }
+    ensures { λ r. ⌜ Ended (outcome g (now (image .entry)) n) r (now (pebs .entry)) (now (pebs .exit)) (now (map .entry)) (now (map .exit)) (now (states .entry)) (now (states .exit)) ⌝ }
+{
+    let p = scan::pass(image, g, n, pebs, map);
+    if p.refusal != 0 {
+        return lent::refuse(p.refusal, p.place, n, pebs, map, states);
+    }
+    let again = choice::first_repeat(image, g, n, map);
+    if again < n {
+        return lent::refuse(9, again as u32, n, pebs, map, states);
+    }
+    if p.sums.unused {
+        return lent::refuse(10, 0, n, pebs, map, states);
+    }
+    marking::mark_chosen(image, g, n, map, pebs);
+    attach_chosen(image, g, n, p.sums, pebs, map, states)
+}
+
+// Are the lent tables long enough for n PEBs?
+fn long_enough(n: usize, pebs: &[u32], map: &[u32], states: &[u32]) -> bool
+    requires { ⌜ n ≤ 4096 ⌝ }
+    ensures { λ r. ⌜ r ≡ longEnough n (now (pebs .entry)) (now (map .entry)) (now (states .entry)) ⌝ }
+{
+    if pebs.len() < n * 2 {
+        return false;
+    }
+    if map.len() < n * 3 {
+        return false;
+    }
+    128 <= states.len()
+}
+
+// An image of a known geometry: refusals 3 and 4, and the rest.
+fn attach_image(
+    image: &[u8],
+    g: Geometry,
+    pebs: &mut [u32],
+    map: &mut [u32],
+    states: &mut [u32],
+) -> Attached
+    requires { ⌜ Placed g ⌝ }
+    ensures { λ r. ⌜ Ended (byGeometry (now (image .entry)) (now (pebs .entry)) (now (map .entry)) (now (states .entry)) (given g)) r
+        (now (pebs .entry)) (now (pebs .exit)) (now (map .entry)) (now (map .exit)) (now (states .entry)) (now (states .exit)) ⌝ }
+{
+    let size = g.peb_size as usize;
+    let n = image.len() / size;
+    if image.len() % size != 0 {
+        return Attached::Refused {
+            number: 3,
+            place: 0,
+        };
+    }
+    if n < 2 {
+        return Attached::Refused {
+            number: 3,
+            place: 0,
+        };
+    }
+    if 4096 < n {
+        return Attached::Refused {
+            number: 3,
+            place: 0,
+        };
+    }
+    if !long_enough(n, pebs, map, states) {
+        return Attached::Refused {
+            number: 4,
+            place: 0,
+        };
+    }
+    attach_pebs(image, g, n, pebs, map, states)
+}
+
+// The report of an image, or its refusal.
+pub fn attach(
+    slip: &[u8],
+    image: &[u8],
+    pebs: &mut [u32],
+    map: &mut [u32],
+    states: &mut [u32],
+) -> Attached
+    ensures answer { λ r. ⌜ attachedAnswer r ≡ answerOf (attaching (now (slip .entry)) (now (image .entry)) (now (pebs .entry)) (now (map .entry)) (now (states .entry))) ⌝ }
+    ensures pebs { λ _. ⌜ now (pebs .exit) ≡ pebsAfter (attaching (now (slip .entry)) (now (image .entry)) (now (pebs .entry)) (now (map .entry)) (now (states .entry))) (now (pebs .entry)) ⌝ }
+    ensures map { λ _. ⌜ now (map .exit) ≡ mapAfter (attaching (now (slip .entry)) (now (image .entry)) (now (pebs .entry)) (now (map .entry)) (now (states .entry))) (now (map .entry)) ⌝ }
+    ensures states { λ _. ⌜ now (states .exit) ≡ statesAfter (attaching (now (slip .entry)) (now (image .entry)) (now (pebs .entry)) (now (map .entry)) (now (states .entry))) (now (states .entry)) ⌝ }
+{
+    let r = geometry::read_slip(slip);
+    match r {
+        GeometryRead::Good(g) => return attach_image(image, g, pebs, map, states),
+        GeometryRead::Malformed => return Attached::Refused {
+            number: 1,
+            place: 0,
+        },
+        GeometryRead::Outside => return Attached::Refused {
+            number: 2,
+            place: 0,
+        },
+    }
+}
