@@ -1,0 +1,69 @@
+-- `test_attach::print_words` is safe and ends. Assumes nothing.
+use Prim.Native.Nat.{_≤_, _-_}
+use borrow.Author.Needs.{needs}
+use lib.ListN.{length}
+use Rattle.test_attach.proofs.print_words.Statement.{statement}
+use Rattle.test_attach.proofs.print_words.Tie as tie
+use Rattle.test_attach.proofs.print_words.Reads as reads
+use Rattle.test_attach.proofs.print_words.Lts as lts
+use Rattle.frames.proofs.line_end.Reads as line-end-reads
+use Rattle.frames.proofs.word.Reads as word-reads
+use Rattle.test_attach.proofs.print_run.Reads as print-run-reads
+use Rattle.test_attach.proofs.run.Reads as run-reads
+
+abbrev Inv-loop : tie.InvT-loop
+Inv-loop name words i₀ i = i ≤ length words
+
+abbrev μ-loop : tie.MeasureT-loop
+μ-loop name words i₀ i = length words - i
+
+word-requires : tie.Need-word-requires Inv-loop μ-loop
+word-requires c κs = search needs
+
+loop-holds : tie.Need-loop-holds Inv-loop μ-loop
+loop-holds c = search needs
+
+run-requires : tie.Need-run-requires Inv-loop μ-loop
+run-requires c κs = search needs
+
+mul-print-run : tie.Need-mul-print-run Inv-loop μ-loop
+mul-print-run c = search needs
+
+shared-slice-read-print-run : tie.Need-shared-slice-read-print-run Inv-loop μ-loop
+shared-slice-read-print-run c = search needs
+
+print-run-requires : tie.Need-print-run-requires Inv-loop μ-loop
+print-run-requires c κs = search needs
+
+add-i : tie.Need-add-i Inv-loop μ-loop
+add-i c = search needs
+
+loop-less : tie.Need-loop-less Inv-loop μ-loop
+loop-less c = search needs
+
+loop-again : tie.Need-loop-again Inv-loop μ-loop
+loop-again c = search needs
+
+line-end-requires : tie.Need-line-end-requires Inv-loop μ-loop
+line-end-requires c κs = search needs
+
+returns : tie.Need-returns Inv-loop μ-loop
+returns c = search needs
+
+pub print-words-spec : {M : Type 1} → statement M
+print-words-spec =
+    tie.close
+    (tie.spec
+    Inv-loop
+    μ-loop
+    word-requires
+    loop-holds
+    run-requires
+    mul-print-run
+    shared-slice-read-print-run
+    print-run-requires
+    add-i
+    loop-less
+    loop-again
+    line-end-requires
+    returns)

@@ -1,0 +1,69 @@
+-- `test_attach::run` meets its contract. Assumes nothing.
+use Prim.Native.Nat.{_≤_, _<_, _-_, _+_}
+use borrow.Author.Needs.{needs}
+use lib.ListN.{length}
+use Rattle.test_attach.proofs.run.Statement.{statement}
+use Rattle.test_attach.proofs.run.Tie as tie
+use Rattle.test_attach.proofs.run.Reads as reads
+use Rattle.test_attach.proofs.run.Lts as lts
+
+abbrev Inv-loop : tie.InvT-loop
+Inv-loop words i n₀ n = (0 < n) × (i + n ≤ length words)
+
+abbrev μ-loop : tie.MeasureT-loop
+μ-loop words i n₀ n = length words - n
+
+loop-holds : tie.Need-loop-holds Inv-loop μ-loop
+loop-holds c = search needs
+
+add-loop : tie.Need-add-loop Inv-loop μ-loop
+add-loop c = search needs
+
+add-if1 : tie.Need-add-if1 Inv-loop μ-loop
+add-if1 c = search needs
+
+mul-if1 : tie.Need-mul-if1 Inv-loop μ-loop
+mul-if1 c = search needs
+
+shared-slice-read-if1 : tie.Need-shared-slice-read-if1 Inv-loop μ-loop
+shared-slice-read-if1 c = search needs
+
+mul-if1-2 : tie.Need-mul-if1-2 Inv-loop μ-loop
+mul-if1-2 c = search needs
+
+shared-slice-read-if1-2 : tie.Need-shared-slice-read-if1-2 Inv-loop μ-loop
+shared-slice-read-if1-2 c = search needs
+
+returns : tie.Need-returns Inv-loop μ-loop
+returns c = search needs
+
+add-n : tie.Need-add-n Inv-loop μ-loop
+add-n c = search needs
+
+loop-less : tie.Need-loop-less Inv-loop μ-loop
+loop-less c = search needs
+
+loop-again : tie.Need-loop-again Inv-loop μ-loop
+loop-again c = search needs
+
+returns-2 : tie.Need-returns-2 Inv-loop μ-loop
+returns-2 c = search needs
+
+pub run-spec : {M : Type 1} → statement M
+run-spec =
+    tie.close
+    (tie.spec
+    Inv-loop
+    μ-loop
+    loop-holds
+    add-loop
+    add-if1
+    mul-if1
+    shared-slice-read-if1
+    mul-if1-2
+    shared-slice-read-if1-2
+    returns
+    add-n
+    loop-less
+    loop-again
+    returns-2)
