@@ -5,13 +5,12 @@ use mathlib.Core.Bool.{Bool, true, false, _&&_, cond, true≢false, false≢true
 use mathlib.Core.Option.{Option, none, some}
 use mathlib.Core.List.{List, [], _∷_, _++_}
 use Prim.Native.Nat.{ℕ, zero, suc, _+_, _*_, _-_, _≤_, _<_}
-use native.Mathlib.Numerals.{add-one}
 use native.Mathlib.Omega.{arith}
 use borrow.Author.Tests.{eq-eqb, ne-eqb, eqb-true, ltb-true, ltb-false}
 use lib.Dec.{eqb, ltb}
 use lib.ListN.{length, getD, drop}
 use Rattle.base.proofs.Answers.{and-left, and-right}
-use Rattle.base.proofs.Below.{step-below, below-suc}
+use Rattle.base.proofs.Below.{below-suc}
 use Rattle.geometry.specs.declared.Geometry.{Geometry}
 use Rattle.report.specs.View.{Copy, EcView, ecGood, ecNewer, ecBlank, ecLost, VidView, vidGood, vidNewer, vidBlank, vidBad, View, Views, copies, goodVid, isMappable}
 use Rattle.report.specs.Choice.{chosen}
@@ -29,10 +28,6 @@ less-or p r = go (ltb p r) refl
     go : (b : Bool) → ltb p r ≡ b → (p < r) ⊎ (r ≤ p)
     go true e = inl (ltb-true p r e)
     go false e = inr (ltb-false p r e)
-
--- one number more
-pub one-more : (P : ℕ → Type 0) (i : ℕ) → ((j : ℕ) → j < i → P j) → P i → (j : ℕ) → j < i + 1 → P j
-one-more P i h z j k = step-below P i h z j (rw add-one at k)
 
 -- ---- a chosen copy in the words is the place of its LEB
 

@@ -23,11 +23,11 @@ use Rattle.report.proofs.Choice.{pick-some, ofKey-hit, chosen-at}
 use Rattle.choice.specs.Keyed.{Keyed, copyAt, volumeWord, lebWord, sameLeb}
 use Rattle.choice.proofs.Words.{Held, held, has-words, same-true, mappable-word}
 use Rattle.mapping.specs.Settle.{firstAt, secondAt}
-use Rattle.mapping.proofs.Entries.{good-inv, row-at, row-first}
+use Rattle.mapping.proofs.Entries.{good-inv}
 use Rattle.mapping.proofs.Laws.{two-there, kept, kept-first}
 use Rattle.report.proofs.Map.{concat-cong}
 use Rattle.scan.specs.Pass.{firstWords}
-use Rattle.scan.proofs.Passes.{rows-length, rows-step, rows-tail}
+use Rattle.base.proofs.Rows.{rows-length, rows-step, rows-tail, row-word, row-first}
 use Rattle.attach.specs.Marking.{Lowest, WonTo, Next, Unmarked, placeOr0, wonClass, wonRow, markOf, markRow}
 
 module _ {g : Geometry} {image : List ℕ} {n : ℕ} {map : List ℕ} (d : Keyed g image n map) where
@@ -142,7 +142,7 @@ module _ {g : Geometry} {image : List ℕ} {n : ℕ} {map pebs₀ : List ℕ} (o
     class-is = ap (λ (x : List ℕ). getD x (i * 2) 0) e ∙ kept-first (i * 2) (concatBelow i won) pebs₀ (rows-length i 2 won (λ m. refl))
         ∙ ap (λ (x : List ℕ). getD x (i * 2) 0) (o .first-words) ∙ row-first n 2 first (drop (n * 2) pebs₀) (λ m. refl) i h (omega arith);
     counter-is = ap (λ (x : List ℕ). getD x (i * 2 + 1) 0) e ∙ kept (i * 2) (concatBelow i won) pebs₀ 1 (rows-length i 2 won (λ m. refl))
-        ∙ ap (λ (x : List ℕ). getD x (i * 2 + 1) 0) (o .first-words) ∙ row-at n 2 first (drop (n * 2) pebs₀) (λ m. refl) i 1 h (omega arith);
+        ∙ ap (λ (x : List ℕ). getD x (i * 2 + 1) 0) (o .first-words) ∙ row-word n 2 first (drop (n * 2) pebs₀) (λ m. refl) i 1 h (omega arith);
   }
 
   pub won-next : (i : ℕ) {pebs pebs′ : List ℕ} → pebs ≡ wonAt i → pebs′ ≡ put (i * 2) (won i) pebs → pebs′ ≡ wonAt (i + 1)
@@ -232,7 +232,7 @@ module _ {g : Geometry} {image : List ℕ} {n : ℕ} {map : List ℕ} (d : Keyed
       row : (i : ℕ) → i < n → markRow pebs₁ i ≡ markedRow i
       row i h =
           let a = ap (λ (x : List ℕ). getD x (i * 2) 0) p ∙ row-first n 2 (wonRow ps ms) (drop (n * 2) pebs) (λ m. refl) i h (omega arith) in
-          let b = ap (λ (x : List ℕ). getD x (i * 2 + 1) 0) p ∙ row-at n 2 (wonRow ps ms) (drop (n * 2) pebs) (λ m. refl) i 1 h (omega arith) in
+          let b = ap (λ (x : List ℕ). getD x (i * 2 + 1) 0) p ∙ row-word n 2 (wonRow ps ms) (drop (n * 2) pebs) (λ m. refl) i 1 h (omega arith) in
           rw (a, b, marked-is i h)
 
       tail : drop (n * 2) pebs₁ ≡ drop (n * 2) pebs

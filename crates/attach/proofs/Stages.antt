@@ -49,7 +49,7 @@ use Rattle.report.proofs.Tables.{entries-fit}
 use Rattle.scan.specs.declared.Sums.{Sums}
 use Rattle.scan.specs.declared.Passage.{Passage}
 use Rattle.scan.specs.Pass.{SumsOf, Passed, refusedAt, firstWords}
-use Rattle.scan.proofs.Passes.{rows-length}
+use Rattle.base.proofs.Rows.{rows-length}
 use Rattle.choice.specs.Keyed.{Keyed, repeatAt}
 use Rattle.attach.specs.Layout.{Chosen}
 use Rattle.attach.specs.Marking.{Unmarked}

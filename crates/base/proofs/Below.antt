@@ -25,9 +25,12 @@ eq-or-ne i j = go (ℕ-discrete i j)
     go (yes e) = inl e
     go (no ne) = inr ne
 
--- a fact of every number below suc n: of those below n, and of n
+-- a fact of every number below suc n, or n + 1: of those below n, and of n
 pub step-below : (P : ℕ → Type 0) (n : ℕ) → ((i : ℕ) → i < n → P i) → P n → (i : ℕ) → i < suc n → P i
 step-below P n h z i k = ⊎-elim (λ l. h i l) (λ q. subst P (sym q) z) (below-suc n i k)
+
+pub one-more : (P : ℕ → Type 0) (n : ℕ) → ((i : ℕ) → i < n → P i) → P n → (i : ℕ) → i < n + 1 → P i
+one-more P n h z i k = step-below P n h z i (omega arith)
 
 pub all-at : (n : ℕ) (p : ℕ → Bool) → allBelow n p ≡ true → (i : ℕ) → i < n → p i ≡ true
 all-at zero p e i h = absurd (omega arith)
@@ -97,3 +100,15 @@ module _ {A : Type 0} where
       (λ p. let h = first-hit n f i a p in (omega (arith, h .0), h .1))
       (λ p. let q = numbered-some n (f n) i a p in (omega (arith, q .0), rw (← (q .0)) (q .1)))
       (orElse-some (firstBelow n f) (numbered n (f n)) (i, a) e)
+
+  -- what is found stays found
+  pub first-keeps : (f : ℕ → Option A) (n k : ℕ) (x : ℕ × A) → firstBelow k f ≡ some x → k ≤ n → firstBelow n f ≡ some x
+  first-keeps f zero k x e h = let z : k ≡ 0 = omega arith in rw z at e
+  first-keeps f (suc n) k x e h =
+      ⊎-elim
+      (λ (l : k < suc n). rw (first-keeps f n k x e (omega arith)))
+      (λ (q : k ≡ suc n). rw q at e)
+      (below-suc (suc n) k (omega arith))
+
+  pub first-is : (f : ℕ → Option A) (n i : ℕ) (a : A) → i < n → firstBelow i f ≡ none → f i ≡ some a → firstBelow n f ≡ some (i, a)
+  first-is f n i a h e q = first-keeps f n (suc i) (i, a) (rw (e, q)) h

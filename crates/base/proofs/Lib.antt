@@ -1,3 +1,4 @@
 pub mod Lists
 pub mod Below
 pub mod Answers
+pub mod Rows

@@ -9,7 +9,7 @@ use native.Mathlib.Omega.{arith}
 use borrow.Author.Tests.{lt-ltb, ltb-true, ltb-false, leb-true, leb-false, eqb-true, eqb-false}
 use lib.Dec.{eqb, ltb, leb}
 use Rattle.base.proofs.Answers.{clash}
-use Rattle.base.proofs.Below.{eq-or-ne, none-intro, any-intro, first-only}
+use Rattle.base.proofs.Below.{eq-or-ne, none-intro, any-intro, first-only, one-more}
 use Rattle.geometry.specs.declared.Geometry.{Geometry}
 use Rattle.report.specs.Report.{noWord}
 use Rattle.report.specs.View.{Copy, copyOf, viewsOf, copies}
@@ -18,7 +18,7 @@ use Rattle.report.proofs.Choice.{beats-irreflexive, beats-trans, ofKey-hit, ofK
 use Rattle.choice.specs.Keyed.{Choosing, copyAt, sequenceAt, volumeWord, lebWord, sameLeb, higherOf, Highest}
 use Rattle.choice.proofs.Copies.{copy-is}
 use Rattle.choice.proofs.Words.{Held, held, has-words, same-true, true-same, repeat-sequence}
-use Rattle.choice.proofs.Repeats.{more, all-fresh}
+use Rattle.choice.proofs.Repeats.{all-fresh}
 
 -- ---- a copy that beats all others is picked
 
@@ -76,7 +76,7 @@ module _ (g : Geometry) (image : List ℕ) (n : ℕ) (map : List ℕ) (i most : 
   module _ (k best : ℕ) (h : k < n) (b : Highest g image n map i most k best) where
     stays : Leads best k → Highest g image n map i most (k + 1) best
     unfolding Leads
-    stays l = record { range = b .range; is = b .is; leads = more (Leads best) k (b .leads) l }
+    stays l = record { range = b .range; is = b .is; leads = one-more (Leads best) k (b .leads) l }
 
     takes : sameLeb map i k ≡ true → sequenceAt g image k ≤ most → (best < n → sequenceAt g image best ≤ sequenceAt g image k)
         → Highest g image n map i most (k + 1) k
@@ -84,7 +84,7 @@ module _ (g : Geometry) (image : List ℕ) (n : ℕ) (map : List ℕ) (i most : 
     takes s l up = record {
       range = omega arith;
       is = λ _. (s, l);
-      leads = more (Leads k) k (λ j q t m. let y = b .leads j q t m in (h, let z = up (y .0) in omega arith)) (λ _ _. (h, omega arith));
+      leads = one-more (Leads k) k (λ j q t m. let y = b .leads j q t m in (h, let z = up (y .0) in omega arith)) (λ _ _. (h, omega arith));
     }
 
     -- one PEB more

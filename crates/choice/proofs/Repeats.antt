@@ -15,10 +15,6 @@ use Rattle.report.specs.Choice.{repeats, refusal9}
 use Rattle.report.proofs.First.{none-some}
 use Rattle.choice.specs.Keyed.{repeatAt}
 
--- a fact of every number below n, and of n
-pub more : (P : ℕ → Type 0) (n : ℕ) → ((i : ℕ) → i < n → P i) → P n → (i : ℕ) → i < n + 1 → P i
-more P n h z i k = step-below P n h z i (omega arith)
-
 -- the lowest answer is the first
 first-lowest : {A : Type 0} (n : ℕ) (f : ℕ → Option A) (i : ℕ) (a : A) → i < n → f i ≡ some a
     → ((j : ℕ) → j < i → f j ≡ none) → firstBelow n f ≡ some (i, a)

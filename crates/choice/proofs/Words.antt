@@ -3,7 +3,7 @@ use mathlib.Core.Path.{_≡_, refl, sym, ap, _∙_}
 use mathlib.Core.Logic.{_⊎_, ⊎-elim}
 use mathlib.Core.Bool.{Bool, true, false, not, _&&_, cond, true≢false, false≢true}
 use mathlib.Core.Option.{Option, none, some}
-use mathlib.Core.List.{List, [], _∷_}
+use mathlib.Core.List.{List, [], _∷_, append-nil}
 use Prim.Native.Nat.{ℕ, zero, suc, _+_, _*_, _≤_, _<_}
 use native.Mathlib.Omega.{arith}
 use native.Mathlib.Nat.{mul-le-mul-right}
@@ -13,43 +13,18 @@ use lib.ListN.{length, take, getD, length-append, length-take, List·getD-append
 use lib.Seq.{getD-take, getD-append-add}
 use Rattle.base.specs.Below.{concatBelow}
 use Rattle.base.proofs.Answers.{and-left, and-right}
-use Rattle.base.proofs.Below.{below-suc}
+use Rattle.base.proofs.Rows.{rows-length, row-word}
 use Rattle.geometry.specs.declared.Geometry.{Geometry}
 use Rattle.report.specs.View.{Copy, VidView, vidGood, vidNewer, vidBlank, vidBad, copyOf, viewsOf, goodVid, copies, isMappable}
 use Rattle.report.specs.Report.{noWord}
 use Rattle.report.specs.Choice.{repeats}
 use Rattle.report.specs.Scratch.{keyWords}
 use Rattle.report.proofs.First.{none-some}
+use Rattle.report.proofs.Keys.{key-length}
 use Rattle.choice.specs.Keyed.{Keyed, Within, copyAt, sequenceAt, volumeWord, lebWord, sameLeb, repeatsAt}
 use Rattle.choice.proofs.Copies.{copy-is}
 
--- ---- rows of three
-
-module _ (f : ℕ → List ℕ) (three : (i : ℕ) → length (f i) ≡ 3) where
-  length-rows : (n : ℕ) → length (concatBelow n f) ≡ n * 3
-  length-rows zero = refl
-  length-rows (suc n) = simp length-append (omega (arith, length-rows n, three n))
-
-  row-word : (n i k : ℕ) → i < n → k < 3 → getD (concatBelow n f) (i * 3 + k) 0 ≡ getD (f i) k 0
-  row-word zero i k h l = absurd (omega arith)
-  row-word (suc n) i k h l =
-      ⊎-elim
-      (λ (p : i < n). List·getD-append (concatBelow n f) (f n) 0 (i * 3 + k) (omega (arith, length-rows n)) ∙ row-word n i k p l)
-      (λ (p : i ≡ n). let e : i * 3 + k ≡ length (concatBelow n f) + k = omega (arith, length-rows n) in
-      rw (e, p) (getD-append-add (concatBelow n f) (f n) k 0))
-      (below-suc n i h)
-
 -- ---- the words of one PEB
-
-three-words : (i : ℕ) (x : VidView) → length (keyWords i x) ≡ 3
-three-words i vidNewer = refl
-three-words i vidBlank = refl
-three-words i vidBad = refl
-three-words i (vidGood c) = go (isMappable (c .header .volume))
-  where
-    go : (b : Bool) → length (cond b (c .header .volume ∷ c .header .lnum ∷ i ∷ []) (noWord ∷ noWord ∷ noWord ∷ [])) ≡ 3
-    go true = refl
-    go false = refl
 
 -- no user or layout volume is the word that stands for nothing
 pub mappable-word : (v : ℕ) → isMappable v ≡ true → v ≡ noWord → ⊥
@@ -96,19 +71,19 @@ module _ {g : Geometry} {image : List ℕ} {n : ℕ} {map : List ℕ} (d : Keyed
 
   rows-three : (i : ℕ) → length (row i) ≡ 3
   unfolding row
-  rows-three i = three-words i (viewsOf g image i .vid)
+  rows-three i = key-length i (viewsOf g image i .vid)
 
   pub map-long : n * 3 ≤ length map
   unfolding row
   map-long =
-      let e : length (take (n * 3) map) ≡ n * 3 = ap length (d .keys) ∙ length-rows row rows-three n in
+      let e : length (take (n * 3) map) ≡ n * 3 = ap length (d .keys) ∙ rows-length n 3 row rows-three in
       omega (arith, simp length-take at e)
 
   map-word : (i k : ℕ) → i < n → k < 3 → getD map (i * 3 + k) 0 ≡ getD (row i) k 0
   unfolding row
   map-word i k h l =
       sym (getD-take (n * 3) map (i * 3 + k) 0 (omega arith)) ∙ ap (λ (s : List ℕ). getD s (i * 3 + k) 0) (d .keys)
-      ∙ row-word row rows-three n i k h l
+      ∙ ap (λ (s : List ℕ). getD s (i * 3 + k) 0) (sym (append-nil (concatBelow n row))) ∙ row-word n 3 row [] rows-three i k h l
 
   module _ (i : ℕ) (h : i < n) where
     pub within : Within g image map i

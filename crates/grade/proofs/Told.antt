@@ -17,7 +17,7 @@ use Rattle.report.specs.View.{Views, ecs}
 use Rattle.report.specs.Report.{noWord, counterOr, hasCounter, mayBeLost, classAt, counterAt, stateAt, mark, gradeOf}
 use Rattle.report.specs.Attach.{pebWords, stateWords}
 use Rattle.mapping.specs.Settle.{firstAt, secondAt}
-use Rattle.mapping.proofs.Entries.{row-at, row-first}
+use Rattle.base.proofs.Rows.{row-word, row-first}
 use Rattle.grade.specs.Words.{soundPeb, soundState, Read}
 use Rattle.grade.proofs.Laws.{all-cong, all-both}
 
@@ -55,7 +55,7 @@ module _ (g : Geometry) (n : ℕ) (vs : Views) (pebs states : List ℕ) (m : ℕ
     counter-word =
         sym (getD-take (n * 2) pebs (i * 2 + 1) 0 (omega arith))
         ∙ ap (λ (x : List ℕ). getD x (i * 2 + 1) 0) rows
-        ∙ row-at n 2 row [] (λ j. refl) i 1 h (omega arith)
+        ∙ row-word n 2 row [] (λ j. refl) i 1 h (omega arith)
 
     counter-is : not (eqb (counterAt g n vs i) noWord) ≡ hasCounter (ecs vs i)
     unfolding counterAt

@@ -45,31 +45,14 @@ use Rattle.report.proofs.Choice.{chosen-at}
 use Rattle.report.proofs.First.{none-some}
 use Rattle.report.proofs.Map.{Listed, in-map, map-has, map-ascends, concat-cong}
 use Rattle.report.proofs.Map as maps
-use Rattle.scan.proofs.Passes.{rows-length, rows-tail}
+use Rattle.base.proofs.Rows.{rows-tail, row-word, row-first}
+use Rattle.report.proofs.Keys.{key-length}
 use Rattle.triples.specs.Triples.{Triple, unused, tripleWords, tripleAt, triplesOf, sorted}
 use Rattle.triples.proofs.Laws.{length-triplesOf, triplesOf-at}
 use Rattle.triples.proofs.Sorted.{Used, Drawn, sorted-words}
 use Rattle.triples.proofs.Sorted as triples
 use Rattle.mapping.specs.Settle.{firstAt, secondAt, thirdAt, settledClass, settledTriple, pebRow, mapRow, Marked, Mapped}
 use Rattle.mapping.proofs.Laws.{map-row-length}
-
--- ---- the words of a row
-
-pub row-at : (n w : ℕ) (f : ℕ → List ℕ) (r : List ℕ) → ((i : ℕ) → length (f i) ≡ w) → (i j : ℕ) → i < n → j < w
-    → getD (concatBelow n f ++ r) (i * w + j) 0 ≡ getD (f i) j 0
-row-at zero w f r h i j k l = absurd (omega arith)
-row-at (suc n) w f r h i j k l =
-    rw (append-assoc (concatBelow n f) (f n) r)
-    (⊎-elim
-    (λ (q : i < n). row-at n w f (f n ++ r) h i j q l)
-    (λ (q : i ≡ n).
-    let e : length (concatBelow n f) ≡ n * w = rows-length n w f h in
-    rw (q, ← e) (getD-append-add (concatBelow n f) (f n ++ r) j 0 ∙ List·getD-append (f n) r 0 j (omega (arith, h n))))
-    (below-suc n i k))
-
-pub row-first : (n w : ℕ) (f : ℕ → List ℕ) (r : List ℕ) → ((i : ℕ) → length (f i) ≡ w) → (i : ℕ) → i < n → 0 < w
-    → getD (concatBelow n f ++ r) (i * w) 0 ≡ getD (f i) 0 0
-row-first n w f r h i k l = rw add-zero at (row-at n w f r h i 0 k l)
 
 -- ---- classes
 
@@ -284,16 +267,6 @@ entry-words : (l : List Entry) → tripleWords (map toTriple l) ≡ entryWords l
 entry-words [] = refl
 entry-words (e ∷ l) = rw (entry-words l)
 
-key-length : (i : ℕ) (v : VidView) → length (keyWords i v) ≡ 3
-key-length i (vidGood c) = go (isMappable (c .header .volume))
-  where
-    go : (b : Bool) → length (cond b (c .header .volume ∷ c .header .lnum ∷ i ∷ []) (noWord ∷ noWord ∷ noWord ∷ [])) ≡ 3
-    go true = refl
-    go false = refl
-key-length i vidNewer = refl
-key-length i vidBlank = refl
-key-length i vidBad = refl
-
 -- ---- both tables
 
 module _ (g : Geometry) (n : ℕ) (vs : Views) (t pebs map₀ : List ℕ) (o : Marked g n vs t pebs map₀) where
@@ -314,16 +287,16 @@ module _ (g : Geometry) (n : ℕ) (vs : Views) (t pebs map₀ : List ℕ) (o : M
     class-word = ap (λ (x : List ℕ). getD x (i * 2) 0) (o .pebs-are) ∙ row-first n 2 marked (drop (n * 2) pebs) (λ j. refl) i h (omega arith)
 
     pub counter-word : secondAt 2 pebs i ≡ counterOr noWord (ecs vs i)
-    counter-word = ap (λ (x : List ℕ). getD x (i * 2 + 1) 0) (o .pebs-are) ∙ row-at n 2 marked (drop (n * 2) pebs) (λ j. refl) i 1 h (omega arith)
+    counter-word = ap (λ (x : List ℕ). getD x (i * 2 + 1) 0) (o .pebs-are) ∙ row-word n 2 marked (drop (n * 2) pebs) (λ j. refl) i 1 h (omega arith)
 
     pub key-first : firstAt 3 map₀ i ≡ getD (keys i) 0 0
     key-first = ap (λ (x : List ℕ). getD x (i * 3) 0) (o .map-is) ∙ row-first n 3 keys (drop (n * 3) map₀) keys-long i h (omega arith)
 
     pub key-second : secondAt 3 map₀ i ≡ getD (keys i) 1 0
-    key-second = ap (λ (x : List ℕ). getD x (i * 3 + 1) 0) (o .map-is) ∙ row-at n 3 keys (drop (n * 3) map₀) keys-long i 1 h (omega arith)
+    key-second = ap (λ (x : List ℕ). getD x (i * 3 + 1) 0) (o .map-is) ∙ row-word n 3 keys (drop (n * 3) map₀) keys-long i 1 h (omega arith)
 
     key-third : thirdAt 3 map₀ i ≡ getD (keys i) 2 0
-    key-third = ap (λ (x : List ℕ). getD x (i * 3 + 2) 0) (o .map-is) ∙ row-at n 3 keys (drop (n * 3) map₀) keys-long i 2 h (omega arith)
+    key-third = ap (λ (x : List ℕ). getD x (i * 3 + 2) 0) (o .map-is) ∙ row-word n 3 keys (drop (n * 3) map₀) keys-long i 2 h (omega arith)
 
     peb-row : pebRow t pebs map₀ i ≡ classAt g n vs i ∷ counterAt g n vs i ∷ []
     unfolding classAt counterAt
@@ -346,8 +319,8 @@ module _ (g : Geometry) (n : ℕ) (vs : Views) (t pebs map₀ : List ℕ) (o : M
         triplesOf-at n rows i unused h
         ∙ (λ k. record {
           first = row-first n 3 (mapRow t pebs map₀) r (map-row-length t pebs map₀) i h (omega arith) k;
-          second = row-at n 3 (mapRow t pebs map₀) r (map-row-length t pebs map₀) i 1 h (omega arith) k;
-          third = row-at n 3 (mapRow t pebs map₀) r (map-row-length t pebs map₀) i 2 h (omega arith) k;
+          second = row-word n 3 (mapRow t pebs map₀) r (map-row-length t pebs map₀) i 1 h (omega arith) k;
+          third = row-word n 3 (mapRow t pebs map₀) r (map-row-length t pebs map₀) i 2 h (omega arith) k;
         })
         ∙ map-row i h
 

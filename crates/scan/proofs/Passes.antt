@@ -15,7 +15,8 @@ use lib.Seq.{take-at, drop-append-add, drop-drop}
 use Rattle.base.specs.Answers.{orElse, mapO}
 use Rattle.base.specs.Below.{firstBelow, numbered, concatBelow}
 use Rattle.base.specs.Lists.{put}
-use Rattle.base.proofs.Below.{below-suc}
+use Rattle.base.proofs.Below.{below-suc, first-keeps, first-is}
+use Rattle.base.proofs.Rows.{rows-step, rows-tail}
 use Rattle.base.proofs.Lists.{length-part}
 use Rattle.geometry.specs.declared.Geometry.{Geometry}
 use Rattle.header.specs.declared.EcHeader.{EcHeader}
@@ -44,25 +45,11 @@ use Rattle.report.specs.Scan.{Refusal, when, imageSeq, ecRefusal, vidRefusal, v
 use Rattle.report.specs.Report.{noWord, counterOr, hasCounter, sequenceOr0, isInternal, highestOf, readOnlyOf}
 use Rattle.report.specs.Volumes.{orZero}
 use Rattle.report.specs.Scratch.{firstClass, keyWords, keysOf}
+use Rattle.report.proofs.Keys.{key-length}
 use Rattle.scan.specs.Pass.{seqIn, withEc, withVid, smallCounter, SumsOf, Turned, firstWords, refusedAt, Passed}
 use Rattle.scan.specs.declared.Sums.{Sums}
 use Rattle.scan.specs.declared.Turn.{Turn}
 use Rattle.scan.specs.declared.Passage.{Passage}
-
--- ---- first hits
-
-module _ {A : Type 0} (f : ℕ → Option A) where
-  -- what is found stays found
-  pub first-keeps : (n k : ℕ) (x : ℕ × A) → firstBelow k f ≡ some x → k ≤ n → firstBelow n f ≡ some x
-  first-keeps zero k x e h = let z : k ≡ 0 = omega arith in rw z at e
-  first-keeps (suc n) k x e h =
-      ⊎-elim
-      (λ (l : k < suc n). rw (first-keeps n k x e (omega arith)))
-      (λ (q : k ≡ suc n). rw q at e)
-      (below-suc (suc n) k (omega arith))
-
-  pub first-is : (n i : ℕ) (a : A) → i < n → firstBelow i f ≡ none → f i ≡ some a → firstBelow n f ≡ some (i, a)
-  first-is n i a h e q = first-keeps n (suc i) (i, a) (rw (e, q)) h
 
 -- ---- the image sequence
 
@@ -202,45 +189,6 @@ module _ (i : ℕ) (vs : Views) (s : Sums) (o : SumsOf i vs s) (small : smallCou
     counters-small = omega (arith, counters-step, small-step, o .counters-small);
     good-few = omega (arith, good-step, one-step, o .good-few);
   }
-
--- ---- the words
-
--- a row stored behind the rows so far
-put-end : (k : ℕ) (a row d : List ℕ) → length a ≡ k → put k row (a ++ drop k d) ≡ (a ++ row) ++ drop (k + length row) d
-put-end k a row d e =
-    let t : take k (a ++ drop k d) ≡ a = take-at a (drop k d) k e in
-    let r : drop (k + length row) (a ++ drop k d) ≡ drop (k + length row) d =
-    subst (λ (m : ℕ). drop (m + length row) (a ++ drop k d) ≡ drop (k + length row) d) e (drop-append-add a (drop k d) (length row) ∙ drop-drop (length row) k d) in
-    rw (t, r) (sym (append-assoc a row (drop (k + length row) d)))
-
-pub rows-length : (n w : ℕ) (f : ℕ → List ℕ) → ((i : ℕ) → length (f i) ≡ w) → length (concatBelow n f) ≡ n * w
-rows-length zero w f h = omega arith
-rows-length (suc n) w f h = rw length-append (omega (arith, rows-length n w f h, h n))
-
--- one row of w words more
-pub rows-step : (i w : ℕ) (f : ℕ → List ℕ) (d : List ℕ) → ((j : ℕ) → length (f j) ≡ w)
-    → put (i * w) (f i) (concatBelow i f ++ drop (i * w) d) ≡ concatBelow (suc i) f ++ drop (suc i * w) d
-rows-step i w f d h =
-    let e : suc i * w ≡ i * w + length (f i) = omega (arith, h i) in
-    rw e (put-end (i * w) (concatBelow i f) (f i) d (rows-length i w f h))
-
--- words beyond the rows stay
-pub rows-tail : (i n w : ℕ) (f : ℕ → List ℕ) (d : List ℕ) → ((j : ℕ) → length (f j) ≡ w) → i ≤ n → drop (n * w) (concatBelow i f ++ drop (i * w) d) ≡ drop (n * w) d
-rows-tail i n w f d h l =
-    let q : i * w ≤ n * w = mul-le-mul-right w l in
-    let e : n * w ≡ length (concatBelow i f) + (n * w - i * w) = omega (arith, rows-length i w f h) in
-    let r : i * w + (n * w - i * w) ≡ n * w = omega arith in
-    rw e (drop-append-add (concatBelow i f) (drop (i * w) d) (n * w - i * w) ∙ rw (drop-drop (n * w - i * w) (i * w) d, rows-length i w f h))
-
-key-length : (i : ℕ) (v : VidView) → length (keyWords i v) ≡ 3
-key-length i (vidGood c) = go (isMappable (c .header .volume))
-  where
-    go : (b : Bool) → length (cond b (c .header .volume ∷ c .header .lnum ∷ i ∷ []) (noWord ∷ noWord ∷ noWord ∷ [])) ≡ 3
-    go true = refl
-    go false = refl
-key-length i vidNewer = refl
-key-length i vidBlank = refl
-key-length i vidBad = refl
 
 -- ---- refusals as numbers
 

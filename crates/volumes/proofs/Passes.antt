@@ -15,10 +15,6 @@ use Rattle.header.specs.declared.VidHeader.{VidHeader}
 use Rattle.volumes.specs.declared.Kept.{Kept}
 use Rattle.volumes.specs.Sorted.{headerAt, volumeWord, pebWord, isOf, FirstOf, Lacking, misfitBy, misfitWord}
 
--- a fact of every number below n, and of n
-pub more : (P : ℕ → Type 0) (n : ℕ) → ((i : ℕ) → i < n → P i) → P n → (i : ℕ) → i < n + 1 → P i
-more P n h z i k = step-below P n h z i (omega arith)
-
 -- what is at most n and not n is below it
 pub not-last : {x n : ℕ} → x ≤ n → (x ≡ n → ⊥) → x < n
 not-last {x} {n} h z = ⊎-elim (λ (k : x < n). k) (λ (k : x ≡ n). absurd (z k)) (below-suc n x (omega arith))

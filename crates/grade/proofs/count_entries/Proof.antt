@@ -6,7 +6,7 @@ use borrow.Author.Needs.{needs}
 use mathlib.Core.Logic.{_≢_}
 use Rattle.report.specs.Report.{noWord}
 use Rattle.mapping.specs.Settle.{firstAt}
-use Rattle.grade.proofs.Laws.{one-more}
+use Rattle.base.proofs.Below.{one-more}
 use Rattle.grade.proofs.Count.{ends}
 use Rattle.grade.proofs.count_entries.Statement.{statement}
 use Rattle.grade.proofs.count_entries.Tie as tie

@@ -7,7 +7,8 @@ use mathlib.Core.Bool.{true}
 use borrow.Author.Tests.{not-true, not-false}
 use Rattle.base.proofs.Below.{all-intro}
 use Rattle.grade.specs.Words.{soundPeb}
-use Rattle.grade.proofs.Laws.{one-more, all-fails}
+use Rattle.base.proofs.Below.{one-more}
+use Rattle.grade.proofs.Laws.{all-fails}
 use Rattle.grade.proofs.pebs_sound.Statement.{statement}
 use Rattle.grade.proofs.pebs_sound.Tie as tie
 use Rattle.grade.proofs.pebs_sound.Reads as reads

@@ -5,7 +5,7 @@ use native.Mathlib.Omega.{arith}
 use borrow.Author.Needs.{needs}
 use Prim.Native.Nat.{ℕ}
 use mathlib.Core.Bool.{false}
-use Rattle.attach.proofs.Laws.{one-more}
+use Rattle.base.proofs.Below.{one-more}
 use Rattle.attach.specs.Layout.{isChosen}
 use Rattle.attach.proofs.layout.find_chosen.Statement.{statement}
 use Rattle.attach.proofs.layout.find_chosen.Tie as tie

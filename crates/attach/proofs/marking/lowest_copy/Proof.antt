@@ -5,7 +5,7 @@ use native.Mathlib.Omega.{arith}
 use borrow.Author.Needs.{needs}
 use Prim.Native.Nat.{ℕ}
 use mathlib.Core.Bool.{false}
-use Rattle.attach.proofs.Laws.{one-more}
+use Rattle.base.proofs.Below.{one-more}
 use Rattle.choice.specs.Keyed.{sameLeb}
 use Rattle.attach.proofs.marking.lowest_copy.Statement.{statement}
 use Rattle.attach.proofs.marking.lowest_copy.Tie as tie

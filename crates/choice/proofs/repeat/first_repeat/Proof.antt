@@ -7,7 +7,8 @@ use mathlib.Core.Bool.{true, false}
 use Rattle.report.specs.View.{viewsOf, copies}
 use Rattle.report.specs.Choice.{repeats}
 use Rattle.choice.proofs.Words.{within, repeats-told}
-use Rattle.choice.proofs.Repeats.{more, Fresh, no-repeat, a-repeat}
+use Rattle.base.proofs.Below.{one-more}
+use Rattle.choice.proofs.Repeats.{Fresh, no-repeat, a-repeat}
 use Rattle.choice.proofs.repeat.first_repeat.Statement.{statement}
 use Rattle.choice.proofs.repeat.first_repeat.Tie as tie
 use Rattle.choice.proofs.repeat.first_repeat.Reads as reads
@@ -51,7 +52,7 @@ loop-again c =
     let e : repeats (copies (viewsOf (d .args .g) (d .args .image .now)) i) (copies (viewsOf (d .args .g) (d .args .image .now)) j) ≡ false =
     repeats-told (d .pre) i j (omega arith) (omega arith) (c .before .is-repeat .ensures) (c .if1 .left) in (
       omega arith,
-      more (λ (m : ℕ). repeats (copies (viewsOf (d .args .g) (d .args .image .now)) i) (copies (viewsOf (d .args .g) (d .args .image .now)) m) ≡ false) j (c .before .before .before .loop .inv .1) e,
+      one-more (λ (m : ℕ). repeats (copies (viewsOf (d .args .g) (d .args .image .now)) i) (copies (viewsOf (d .args .g) (d .args .image .now)) m) ≡ false) j (c .before .before .before .loop .inv .1) e,
     )
 
 add-i : tie.Need-add-i Inv-loop μ-loop Inv-pebs μ-pebs
@@ -65,7 +66,7 @@ pebs-again c =
     let d = c .before .before .before .before .before .before in
     let e : c .before .loop .j ≡ c .before .before .before .pebs .i = omega arith in (
       omega arith,
-      more (Fresh (d .args .n) (copies (viewsOf (d .args .g) (d .args .image .now)))) (c .before .before .before .pebs .i) (c .before .before .before .pebs .inv .1) (rw e at (c .before .loop .inv .1)),
+      one-more (Fresh (d .args .n) (copies (viewsOf (d .args .g) (d .args .image .now)))) (c .before .before .before .pebs .i) (c .before .before .before .pebs .inv .1) (rw e at (c .before .loop .inv .1)),
     )
 
 returns : tie.Need-returns Inv-loop μ-loop Inv-pebs μ-pebs

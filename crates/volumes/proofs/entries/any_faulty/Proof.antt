@@ -6,7 +6,7 @@ use native.Mathlib.Omega.{arith}
 use borrow.Author.Needs.{needs}
 use Rattle.base.proofs.Below.{any-intro, none-intro}
 use Rattle.volumes.specs.Sorted.{faultAt}
-use Rattle.volumes.proofs.Passes.{more}
+use Rattle.base.proofs.Below.{one-more}
 use Rattle.volumes.proofs.entries.any_faulty.Statement.{statement}
 use Rattle.volumes.proofs.entries.any_faulty.Tie as tie
 use Rattle.volumes.proofs.entries.any_faulty.Reads as reads
@@ -41,7 +41,7 @@ loop-again : tie.Need-loop-again Inv-loop μ-loop
 loop-again c =
     let a = c .before .before .before .before .before .before .args in
     let k = c .before .before .before .loop .k in
-    (omega arith, more (λ (j : ℕ). faultAt (a .g) (a .image .now) (a .map .now) (a .v) (a .asks) j ≡ false) k (c .before .before .before .loop .inv .1) (sym (c .before .fault-at .ensures) ∙ c .if1 .left))
+    (omega arith, one-more (λ (j : ℕ). faultAt (a .g) (a .image .now) (a .map .now) (a .v) (a .asks) j ≡ false) k (c .before .before .before .loop .inv .1) (sym (c .before .fault-at .ensures) ∙ c .if1 .left))
 
 returns-2 : tie.Need-returns-2 Inv-loop μ-loop
 returns-2 c =

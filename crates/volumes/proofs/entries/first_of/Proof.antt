@@ -4,7 +4,7 @@ use Prim.Native.Nat.{_≤_, _<_, _-_, ℕ}
 use native.Mathlib.Omega.{arith}
 use borrow.Author.Needs.{needs}
 use Rattle.volumes.specs.Sorted.{volumeWord}
-use Rattle.volumes.proofs.Passes.{more}
+use Rattle.base.proofs.Below.{one-more}
 use Rattle.volumes.proofs.entries.first_of.Statement.{statement}
 use Rattle.volumes.proofs.entries.first_of.Tie as tie
 use Rattle.volumes.proofs.entries.first_of.Reads as reads
@@ -43,7 +43,7 @@ loop-again : tie.Need-loop-again Inv-loop μ-loop
 loop-again c =
     let a = c .before .before .before .before .args in
     let l = c .before .before .before .loop in
-    (omega arith, more (λ (j : ℕ). volumeWord (a .map .now) j ≡ a .v → ⊥) (l .k) (l .inv .1) (c .if1 .left))
+    (omega arith, one-more (λ (j : ℕ). volumeWord (a .map .now) j ≡ a .v → ⊥) (l .k) (l .inv .1) (c .if1 .left))
 
 returns-2 : tie.Need-returns-2 Inv-loop μ-loop
 returns-2 c =

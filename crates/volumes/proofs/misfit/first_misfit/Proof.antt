@@ -7,7 +7,7 @@ use borrow.Author.Needs.{needs}
 use Rattle.report.specs.View.{viewsOf}
 use Rattle.report.specs.Volumes.{misfitIn}
 use Rattle.report.specs.Report.{faces, records}
-use Rattle.volumes.proofs.Passes.{more}
+use Rattle.base.proofs.Below.{one-more}
 use Rattle.volumes.proofs.Misfits.{refused-here, not-refused}
 use Rattle.volumes.proofs.misfit.first_misfit.Statement.{statement}
 use Rattle.volumes.proofs.misfit.first_misfit.Tie as tie
@@ -46,7 +46,7 @@ loop-again c =
     let l = c .before .before .before .loop in
     let vs = viewsOf (d .args .g) (d .args .image .now) in (
       omega arith,
-      more (λ (w : ℕ). misfitIn (records (d .args .g) (d .args .n) vs) (faces (d .args .g) (d .args .n) vs) w ≡ none) (l .v) (l .inv .1)
+      one-more (λ (w : ℕ). misfitIn (records (d .args .g) (d .args .n) vs) (faces (d .args .g) (d .args .n) vs) w ≡ none) (l .v) (l .inv .1)
           (c .before .misfit-of .ensures .none-in (c .if1 .left)),
     )
 

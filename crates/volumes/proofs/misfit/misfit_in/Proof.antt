@@ -5,7 +5,8 @@ use Prim.Native.Nat.{_≤_, _<_, _-_, ℕ}
 use native.Mathlib.Omega.{arith}
 use borrow.Author.Needs.{needs}
 use Rattle.volumes.specs.Sorted.{misfitWord}
-use Rattle.volumes.proofs.Passes.{more, before-first}
+use Rattle.base.proofs.Below.{one-more}
+use Rattle.volumes.proofs.Passes.{before-first}
 use Rattle.volumes.proofs.misfit.misfit_in.Statement.{statement}
 use Rattle.volumes.proofs.misfit.misfit_in.Tie as tie
 use Rattle.volumes.proofs.misfit.misfit_in.Reads as reads
@@ -54,7 +55,7 @@ loop-again c =
     let a = c .before .before .before .before .before .before .before .args in
     let l = c .before .before .before .loop in
     let f = c .before .before .before .before .first-of .result in
-    (omega arith, (omega arith, more (λ (j : ℕ). misfitWord (a .g) (a .image .now) (a .map .now) (a .v) (a .r) f j ≡ false) (l .k) (l .inv .1 .1) (sym (c .before .misfit-at .ensures) ∙ c .if1 .left)))
+    (omega arith, (omega arith, one-more (λ (j : ℕ). misfitWord (a .g) (a .image .now) (a .map .now) (a .v) (a .r) f j ≡ false) (l .k) (l .inv .1 .1) (sym (c .before .misfit-at .ensures) ∙ c .if1 .left)))
 
 returns-2 : tie.Need-returns-2 Inv-loop μ-loop
 returns-2 c =

@@ -1,0 +1,951 @@
+/* Time of the proved attach on two synthetic chips, beside the CRC of the bytes that attaching must checksum alone, and
+   beside a plain C attach with zlib that fills the same tables. */
+#include <stdint.h>
+#include <stdio.h>
+#include <stdlib.h>
+#include <string.h>
+#include <time.h>
+#include <zlib.h>
+
+/* crates/bench_attach: a slice is a pointer and then a length; attaching answers a report's grade, or 16 and the
+   refusal's number */
+uint64_t bench_attach(const uint8_t *slip, size_t slip_len, const uint8_t *image, size_t image_len, uint32_t *pebs,
+                      size_t pebs_len, uint32_t *map, size_t map_len, uint32_t *states, size_t states_len);
+uint32_t bench_attach_crc(uint32_t state, const uint8_t *bytes, size_t len);
+
+enum { ROUNDS = 15, SPARE = 4, SLIP = 20, HEADER = 64, HEADER_CRC = 60, RECORD = 172, RECORD_CRC = 168 };
+enum { VOLUMES = 128, CHIP_VOLUMES = 4, FEWEST_PEBS = 2, MOST_PEBS = 4096, REFUSED = 16 };
+enum { DYNAMIC = 1, STATIC = 2 };
+enum { DELETE = 1, READ_ONLY = 2, PRESERVE = 4, REJECT = 5 };
+enum { AUTORESIZE = 1, SKIP_CRC = 2 };
+enum { FREE, CHOSEN, PASSED_OVER, BLANK, UNREADABLE, TO_DELETE, KEPT_ASIDE };
+enum { NO_RECORD, FINE, UPDATING, DAMAGED };
+enum { GOOD, NOT_GOOD, NEWER };
+
+#define LAYOUT 0x7FFFEFFFu
+#define LAST_INTERNAL 0x7FFFFFFFu
+#define MOST_NUMBER 0x7FFFFFFFu
+#define NONE 0xFFFFFFFFu
+#define BEFORE 0xDEADBEEFu
+
+static void stop(const char *why)
+{
+    printf("%s\n", why);
+    exit(1);
+}
+
+static void *memory(size_t size)
+{
+    void *p = malloc(size);
+    if (!p)
+        stop("no memory");
+    return p;
+}
+
+/* ---- The checksum, with a list of the runs it was asked for ---- */
+
+struct run {
+    const uint8_t *bytes;
+    size_t len;
+};
+
+struct runs {
+    struct run *list;
+    size_t count, room;
+};
+
+static struct runs *noting; /* where the runs are noted; mostly nowhere */
+
+static void note(struct runs *r, const uint8_t *bytes, size_t len)
+{
+    if (r->count == r->room) {
+        r->room = r->room ? 2 * r->room : 1024;
+        r->list = realloc(r->list, r->room * sizeof *r->list);
+        if (!r->list)
+            stop("no memory");
+    }
+    r->list[r->count++] = (struct run){ bytes, len };
+}
+
+/* zlib complements the result: undone, so that it is the CRC without the final complement */
+static uint32_t zlib(const uint8_t *bytes, size_t len)
+{
+    return ~(uint32_t)crc32_z(0, bytes, len);
+}
+
+static uint32_t checksum(const uint8_t *bytes, size_t len)
+{
+    if (noting)
+        note(noting, bytes, len);
+    return zlib(bytes, len);
+}
+
+/* ---- Big-endian numbers ---- */
+
+static uint32_t be16(const uint8_t *p)
+{
+    return (uint32_t)p[0] << 8 | p[1];
+}
+
+static uint32_t be32(const uint8_t *p)
+{
+    return (uint32_t)p[0] << 24 | (uint32_t)p[1] << 16 | (uint32_t)p[2] << 8 | p[3];
+}
+
+static uint64_t be64(const uint8_t *p)
+{
+    return (uint64_t)be32(p) << 32 | be32(p + 4);
+}
+
+static void put(uint8_t *at, int width, uint64_t value)
+{
+    while (width--) {
+        at[width] = (uint8_t)value;
+        value >>= 8;
+    }
+}
+
+/* ---- Plain C: slip and geometry ---- */
+
+struct geometry {
+    uint32_t peb_size, unit, sub_unit, vid_start, data_start, leb_size;
+};
+
+static int is_unit(uint32_t unit)
+{
+    return unit != 0 && unit <= 4096 && (unit & (unit - 1)) == 0;
+}
+
+static uint32_t round_up(uint32_t least, uint32_t step)
+{
+    return (least + step - 1) / step * step;
+}
+
+/* refusal 1 or 2, or 0 */
+static uint32_t read_slip(const uint8_t *slip, size_t len, struct geometry *g)
+{
+    if (len != SLIP || memcmp(slip, "\1\0\4", 3) != 0 || memcmp(slip + 7, "\2\0\2", 3) != 0 ||
+        memcmp(slip + 12, "\3\0\2", 3) != 0 || memcmp(slip + 17, "\0\0\0", 3) != 0)
+        return 1;
+    g->peb_size = be32(slip + 3);
+    g->unit = be16(slip + 10);
+    g->sub_unit = be16(slip + 15);
+    if (!is_unit(g->unit) || !is_unit(g->sub_unit) || g->sub_unit > g->unit)
+        return 2;
+    if (g->peb_size < 1024 || g->peb_size > 262144 || g->peb_size % g->unit != 0)
+        return 2;
+    g->vid_start = round_up(HEADER, g->sub_unit);
+    g->data_start = round_up(g->vid_start + HEADER, g->unit);
+    if (g->peb_size < g->data_start + RECORD)
+        return 2;
+    g->leb_size = g->peb_size - g->data_start;
+    return 0;
+}
+
+/* ---- Plain C: the pass over the headers ---- */
+
+/* a good VID header of a user or layout LEB */
+struct copy {
+    uint32_t volume, leb, peb, data_size, used_lebs, data_pad, data_crc;
+    uint8_t type, flag, compatibility;
+    uint64_t sequence;
+};
+
+struct report {
+    uint32_t refusal, place, peb_count, entries, mean, read_only, table, copies_mark, grade;
+    uint64_t highest;
+};
+
+struct attaching {
+    struct geometry g;
+    const uint8_t *image;
+    uint32_t n;
+    uint32_t *pebs, *map, *states;
+    uint32_t count;       /* of copies; later of entries */
+    uint32_t good;        /* EC headers */
+    uint32_t image_seq;   /* of the first of them */
+    uint64_t counters;    /* their sum */
+    int used;             /* some PEB is neither free nor blank */
+    const uint8_t *table; /* the records taken */
+    struct report report;
+};
+
+static struct copy copies[MOST_PEBS];
+
+static int all_ff(const uint8_t *header)
+{
+    for (int i = 0; i < HEADER; i++)
+        if (header[i] != 0xFF)
+            return 0;
+    return 1;
+}
+
+static int is_header(const uint8_t *header, const char *magic)
+{
+    return memcmp(header, magic, 4) == 0 && checksum(header, HEADER_CRC) == be32(header + HEADER_CRC);
+}
+
+static int judge_ec(const uint8_t *ec)
+{
+    if (!is_header(ec, "UBI#") || ec[4] == 0)
+        return NOT_GOOD;
+    if (ec[4] > 1)
+        return NEWER;
+    return be64(ec + 8) > MOST_NUMBER ? NOT_GOOD : GOOD;
+}
+
+static struct copy vid_fields(const uint8_t *vid)
+{
+    return (struct copy){
+        .type = vid[5],
+        .flag = vid[6],
+        .compatibility = vid[7],
+        .volume = be32(vid + 8),
+        .leb = be32(vid + 12),
+        .data_size = be32(vid + 20),
+        .used_lebs = be32(vid + 24),
+        .data_pad = be32(vid + 28),
+        .data_crc = be32(vid + 32),
+        .sequence = be64(vid + 40),
+    };
+}
+
+static int is_mappable(uint32_t volume)
+{
+    return volume < VOLUMES || volume == LAYOUT;
+}
+
+static int volume_fits(const struct copy *c)
+{
+    if (c->volume < VOLUMES)
+        return c->compatibility == 0;
+    if (c->volume < LAYOUT || c->volume > LAST_INTERNAL)
+        return 0;
+    if (c->volume == LAYOUT)
+        return c->type == DYNAMIC && c->compatibility == REJECT && c->data_pad == 0 && c->leb <= 1;
+    return c->compatibility == DELETE || c->compatibility == READ_ONLY || c->compatibility == PRESERVE ||
+           c->compatibility == REJECT;
+}
+
+static int data_fit(const struct copy *c, uint32_t leb_size)
+{
+    if (2 * (uint64_t)c->data_pad >= leb_size || c->data_size > leb_size - c->data_pad)
+        return 0;
+    if (c->type == STATIC)
+        return c->leb < c->used_lebs && c->data_size > 0 &&
+               (c->data_size == leb_size - c->data_pad || c->leb + 1 == c->used_lebs);
+    if (c->used_lebs != 0)
+        return 0;
+    return c->flag ? c->data_size > 0 : c->data_size == 0 && c->data_crc == 0;
+}
+
+static int judge_vid(const uint8_t *vid, uint32_t leb_size, struct copy *c)
+{
+    if (!is_header(vid, "UBI!") || vid[4] == 0)
+        return NOT_GOOD;
+    if (vid[4] > 1)
+        return NEWER;
+    *c = vid_fields(vid);
+    if (c->flag > 1 || (c->type != DYNAMIC && c->type != STATIC))
+        return NOT_GOOD;
+    if (c->leb > MOST_NUMBER || c->used_lebs > MOST_NUMBER)
+        return NOT_GOOD;
+    return volume_fits(c) && data_fit(c, leb_size) ? GOOD : NOT_GOOD;
+}
+
+/* refusal 5, 6 or 7, or 0 with the counter */
+static uint32_t pass_ec(struct attaching *a, const uint8_t *ec, uint32_t *counter)
+{
+    int verdict = judge_ec(ec);
+    *counter = NONE;
+    if (verdict == NEWER)
+        return 5;
+    if (verdict == NOT_GOOD)
+        return 0;
+    if (be32(ec + 16) != a->g.vid_start || be32(ec + 20) != a->g.data_start)
+        return 6;
+    if (a->good == 0)
+        a->image_seq = be32(ec + 24);
+    if (be32(ec + 24) != a->image_seq)
+        return 7;
+    *counter = (uint32_t)be64(ec + 8);
+    a->counters += *counter;
+    a->good++;
+    return 0;
+}
+
+/* a good VID header: its class, and a place among the copies; until the map is made its words are their keys */
+static uint32_t pass_copy(struct attaching *a, struct copy *c, uint32_t peb)
+{
+    if (c->sequence > a->report.highest)
+        a->report.highest = c->sequence;
+    if (!is_mappable(c->volume)) {
+        a->report.read_only |= c->compatibility == READ_ONLY;
+        return c->compatibility == DELETE ? TO_DELETE : KEPT_ASIDE;
+    }
+    c->peb = peb;
+    a->map[3 * a->count] = c->volume;
+    a->map[3 * a->count + 1] = c->leb;
+    copies[a->count++] = *c;
+    return PASSED_OVER;
+}
+
+static uint32_t erased_class(const uint8_t *ec, const uint8_t *vid, uint32_t counter)
+{
+    if (!all_ff(vid))
+        return UNREADABLE;
+    if (counter != NONE)
+        return FREE;
+    return all_ff(ec) ? BLANK : UNREADABLE;
+}
+
+/* refusals 5 to 8, or 0 with the PEB's words; what may be chosen is passed over for now */
+static uint32_t pass_peb(struct attaching *a, uint32_t peb)
+{
+    const uint8_t *ec = a->image + (size_t)peb * a->g.peb_size;
+    const uint8_t *vid = ec + a->g.vid_start;
+    struct copy c;
+    uint32_t counter, class;
+    uint32_t refusal = pass_ec(a, ec, &counter);
+    if (refusal != 0)
+        return refusal;
+    int verdict = judge_vid(vid, a->g.leb_size, &c);
+    if (verdict == NEWER)
+        return 5;
+    if (verdict == GOOD && !is_mappable(c.volume) && c.compatibility == REJECT)
+        return 8;
+    class = verdict == GOOD ? pass_copy(a, &c, peb) : erased_class(ec, vid, counter);
+    a->used |= class != FREE && class != BLANK;
+    a->pebs[2 * peb] = class;
+    a->pebs[2 * peb + 1] = counter;
+    return 0;
+}
+
+/* ---- Plain C: which copy counts ---- */
+
+/* the first copy that repeats an earlier one, or the count */
+static uint32_t first_repeat(const struct attaching *a)
+{
+    const uint32_t *map = a->map;
+    for (uint32_t i = 0; i < a->count; i++)
+        for (uint32_t j = 0; j < i; j++)
+            if (map[3 * i + 1] == map[3 * j + 1] && map[3 * i] == map[3 * j] &&
+                copies[i].sequence == copies[j].sequence)
+                return i;
+    return a->count;
+}
+
+static int crc_right(const struct attaching *a, const struct copy *c)
+{
+    const uint8_t *data = a->image + (size_t)c->peb * a->g.peb_size + a->g.data_start;
+    return checksum(data, c->data_size) == c->data_crc;
+}
+
+/* by volume and LEB, and the newest first */
+static int compare(const void *left, const void *right)
+{
+    const struct copy *a = left, *b = right;
+    if (a->volume != b->volume)
+        return a->volume < b->volume ? -1 : 1;
+    if (a->leb != b->leb)
+        return a->leb < b->leb ? -1 : 1;
+    return a->sequence > b->sequence ? -1 : a->sequence < b->sequence;
+}
+
+static int same_leb(const struct copy *a, const struct copy *b)
+{
+    return a->volume == b->volume && a->leb == b->leb;
+}
+
+/* of a LEB's copies, the newest first, the one that counts; the last does if no other does, so it is not checksummed */
+static const struct copy *best(const struct attaching *a, const struct copy *c, const struct copy *end)
+{
+    while (c + 1 < end && c->flag && !crc_right(a, c))
+        c++;
+    return c;
+}
+
+/* from all copies to the chosen ones */
+static void choose(struct attaching *a)
+{
+    uint32_t chosen = 0, end;
+    qsort(copies, a->count, sizeof *copies, compare);
+    for (uint32_t first = 0; first < a->count; first = end) {
+        end = first + 1;
+        while (end < a->count && same_leb(&copies[end], &copies[first]))
+            end++;
+        copies[chosen] = *best(a, &copies[first], &copies[end]);
+        a->pebs[2 * copies[chosen].peb] = CHOSEN;
+        chosen++;
+    }
+    a->count = chosen;
+}
+
+/* ---- Plain C: the volume table ---- */
+
+static uint32_t record_count(uint32_t leb_size)
+{
+    return leb_size / RECORD < VOLUMES ? leb_size / RECORD : VOLUMES;
+}
+
+static int name_good(const uint8_t *record)
+{
+    uint32_t len = be16(record + 14);
+    return len >= 1 && len <= 127 && memchr(record + 16, 0, len + 1) == record + 16 + len;
+}
+
+/* of a record that is not empty */
+static int record_good(const uint8_t *record, const struct geometry *g)
+{
+    uint32_t alignment = be32(record + 4);
+    if (checksum(record, RECORD_CRC) != be32(record + RECORD_CRC))
+        return 0;
+    if (be32(record) == 0 || alignment == 0 || alignment > g->leb_size)
+        return 0;
+    if ((alignment != 1 && alignment % g->unit != 0) || be32(record + 8) != g->leb_size % alignment)
+        return 0;
+    if ((record[12] != DYNAMIC && record[12] != STATIC) || record[13] > 1)
+        return 0;
+    return name_good(record) && (record[144] & ~(AUTORESIZE | SKIP_CRC)) == 0;
+}
+
+static int same_name(const uint8_t *a, const uint8_t *b)
+{
+    return memcmp(a + 14, b + 14, 2) == 0 && memcmp(a + 16, b + 16, be16(a + 14)) == 0;
+}
+
+/* does a record's name stand in one before it? all are good or empty */
+static int name_repeats(const uint8_t *table, const uint8_t *record)
+{
+    for (const uint8_t *r = table; r < record; r += RECORD)
+        if (be32(r) != 0 && same_name(r, record))
+            return 1;
+    return 0;
+}
+
+static int table_good(const struct attaching *a, const uint8_t *table, const uint8_t *empty)
+{
+    uint64_t reserved = 0;
+    uint32_t autoresize = 0;
+    const uint8_t *end = table + record_count(a->g.leb_size) * RECORD;
+    for (const uint8_t *r = table; r < end; r += RECORD) {
+        if (memcmp(r, empty, RECORD) == 0)
+            continue;
+        if (!record_good(r, &a->g) || name_repeats(table, r))
+            return 0;
+        reserved += be32(r);
+        autoresize += r[144] & AUTORESIZE;
+    }
+    return autoresize <= 1 && reserved <= a->n - 2;
+}
+
+/* the content of a layout LEB, if it has a copy and the copy's table is good */
+static const uint8_t *layout_table(const struct attaching *a, uint32_t leb, const uint8_t *empty)
+{
+    for (uint32_t k = 0; k < a->count; k++)
+        if (copies[k].volume == LAYOUT && copies[k].leb == leb) {
+            const uint8_t *table = a->image + (size_t)copies[k].peb * a->g.peb_size + a->g.data_start;
+            return table_good(a, table, empty) ? table : NULL;
+        }
+    return NULL;
+}
+
+/* refusal 11, or 0 with the table */
+static uint32_t take_table(struct attaching *a)
+{
+    uint8_t empty[RECORD] = { 0 };
+    put(empty + RECORD_CRC, 4, zlib(empty, RECORD_CRC)); /* no bytes of the image, so not noted */
+    const uint8_t *first = layout_table(a, 0, empty), *second = layout_table(a, 1, empty);
+    if (!first && !second)
+        return 11;
+    a->table = first ? first : second;
+    a->report.table = !first;
+    if (!first || !second)
+        a->report.copies_mark = 1;
+    else if (memcmp(first, second, record_count(a->g.leb_size) * RECORD) != 0)
+        a->report.copies_mark = 2;
+    return 0;
+}
+
+/* ---- Plain C: map, states and grade ---- */
+
+/* the record of a volume; NULL if it is empty or absent */
+static const uint8_t *record_of(const struct attaching *a, uint32_t volume)
+{
+    const uint8_t *record = a->table + volume * RECORD;
+    return volume < record_count(a->g.leb_size) && be32(record) != 0 ? record : NULL;
+}
+
+static int stays(const struct attaching *a, const struct copy *c)
+{
+    if (c->volume == LAYOUT)
+        return 1;
+    const uint8_t *record = record_of(a, c->volume);
+    return record && c->leb < be32(record);
+}
+
+/* from the chosen copies to the entries of the map */
+static void leave_map(struct attaching *a)
+{
+    uint32_t entries = 0;
+    for (uint32_t k = 0; k < a->count; k++)
+        if (stays(a, &copies[k]))
+            copies[entries++] = copies[k];
+        else
+            a->pebs[2 * copies[k].peb] = TO_DELETE;
+    a->count = entries;
+}
+
+/* the first entry that refusal 12 names, or the count */
+static uint32_t first_misfit(const struct attaching *a)
+{
+    const struct copy *first = copies;
+    for (uint32_t k = 0; k < a->count && copies[k].volume != LAYOUT; k++) {
+        const struct copy *c = &copies[k];
+        const uint8_t *record = record_of(a, c->volume);
+        if (c->volume != first->volume)
+            first = c;
+        if (c->type != record[12] || c->data_pad != be32(record + 8))
+            return k;
+        if (c->type == STATIC && (c->used_lebs != first->used_lebs || c->used_lebs > be32(record)))
+            return k;
+    }
+    return a->count;
+}
+
+/* the state of a volume with these entries; those of a static one are different LEBs below its used LEBs */
+static uint32_t state_of(const struct attaching *a, const uint8_t *record, const struct copy *entries, uint32_t count)
+{
+    if (!record)
+        return NO_RECORD;
+    if (record[13] == 1)
+        return UPDATING;
+    int is_static = record[12] == STATIC;
+    if (is_static && count > 0 && count < entries[0].used_lebs)
+        return DAMAGED;
+    int all = is_static && (record[144] & SKIP_CRC) == 0;
+    for (uint32_t k = 0; k < count; k++)
+        if ((all || entries[k].flag) && !crc_right(a, &entries[k]))
+            return DAMAGED;
+    return FINE;
+}
+
+static void fill_states(struct attaching *a)
+{
+    uint32_t k = 0;
+    for (uint32_t volume = 0; volume < VOLUMES; volume++) {
+        uint32_t first = k;
+        while (k < a->count && copies[k].volume == volume)
+            k++;
+        a->states[volume] = state_of(a, record_of(a, volume), &copies[first], k - first);
+    }
+}
+
+static void fill_map(struct attaching *a)
+{
+    uint32_t *map = a->map;
+    for (uint32_t k = 0; k < a->count; k++) {
+        *map++ = copies[k].volume;
+        *map++ = copies[k].leb;
+        *map++ = copies[k].peb;
+    }
+    while (map < a->map + 3 * a->n)
+        *map++ = NONE;
+}
+
+static uint32_t grade(const struct attaching *a)
+{
+    for (uint32_t i = 0; i < a->n; i++) {
+        uint32_t class = a->pebs[2 * i], counter = a->pebs[2 * i + 1];
+        if (class == UNREADABLE || (counter == NONE && class != BLANK))
+            return 1;
+    }
+    for (uint32_t volume = 0; volume < VOLUMES; volume++)
+        if (a->states[volume] == UPDATING || a->states[volume] == DAMAGED)
+            return 1;
+    return a->report.copies_mark != 0;
+}
+
+/* ---- Plain C: the whole ---- */
+
+struct tables {
+    uint32_t *pebs, *map, *states;
+    size_t pebs_len, map_len, states_len;
+};
+
+static void fill(uint32_t *words, size_t count, uint32_t word)
+{
+    while (count--)
+        *words++ = word;
+}
+
+/* refusals 5 to 12 and their place, or 0 with the report and the lent words */
+static uint32_t attach_pebs(struct attaching *a, uint32_t *place)
+{
+    for (*place = 0; *place < a->n; ++*place) {
+        uint32_t refusal = pass_peb(a, *place);
+        if (refusal != 0)
+            return refusal;
+    }
+    uint32_t at = first_repeat(a);
+    *place = at < a->count ? copies[at].peb : 0;
+    if (at < a->count)
+        return 9;
+    if (!a->used)
+        return 10;
+    choose(a);
+    if (take_table(a) != 0)
+        return 11;
+    leave_map(a);
+    at = first_misfit(a);
+    *place = at < a->count ? copies[at].peb : 0;
+    if (at < a->count)
+        return 12;
+    fill_map(a);
+    fill_states(a);
+    return 0;
+}
+
+static struct report refused(uint32_t number, uint32_t place)
+{
+    return (struct report){ .refusal = number, .place = place };
+}
+
+static struct report plain_attach(const uint8_t *slip, size_t slip_len, const uint8_t *image, size_t image_len,
+                                  const struct tables *lent)
+{
+    struct attaching a = { .image = image, .pebs = lent->pebs, .map = lent->map, .states = lent->states };
+    uint32_t place, refusal = read_slip(slip, slip_len, &a.g);
+    if (refusal != 0)
+        return refused(refusal, 0);
+    size_t n = image_len / a.g.peb_size;
+    if (image_len % a.g.peb_size != 0 || n < FEWEST_PEBS || n > MOST_PEBS)
+        return refused(3, 0);
+    if (lent->pebs_len < 2 * n || lent->map_len < 3 * n || lent->states_len < VOLUMES)
+        return refused(4, 0);
+    a.n = (uint32_t)n;
+    refusal = attach_pebs(&a, &place);
+    if (refusal != 0) {
+        fill(lent->pebs, 2 * n, NONE);
+        fill(lent->map, 3 * n, NONE);
+        fill(lent->states, VOLUMES, NONE);
+        return refused(refusal, place);
+    }
+    a.report.peb_count = a.n;
+    a.report.entries = a.count;
+    a.report.mean = a.good ? (uint32_t)(a.counters / a.good) : 0;
+    a.report.grade = grade(&a);
+    return a.report;
+}
+
+/* ---- The chips ---- */
+
+struct volume {
+    const char *name;
+    uint8_t type;
+    uint32_t reserved, lebs;
+};
+
+struct chip {
+    const char *name;
+    uint32_t peb_size, unit, sub_unit, vid_start, data_start, peb_count;
+    int crowded;    /* most LEBs have more than one copy */
+    uint32_t blank; /* PEBs that stay blank; what is left is free */
+    struct volume volumes[CHIP_VOLUMES];
+    uint8_t slip[SLIP];
+    uint8_t *image;
+    uint32_t order[MOST_PEBS]; /* of the PEBs, by chance */
+    uint32_t taken;            /* of them */
+    uint64_t sequence, chance;
+};
+
+static struct chip large = {
+    .name = "large", .peb_size = 131072, .unit = 2048, .sub_unit = 512, .vid_start = 512, .data_start = 2048,
+    .peb_count = 1024, .chance = 88172645463325252u,
+    .volumes = { { "boot", STATIC, 256, 256 }, { "root", STATIC, 256, 256 }, { "data", DYNAMIC, 400, 390 },
+                 { "log", DYNAMIC, 100, 90 } },
+};
+
+static struct chip small = {
+    .name = "small", .peb_size = 2048, .unit = 512, .sub_unit = 512, .vid_start = 512, .data_start = 1024,
+    .peb_count = 4096, .chance = 88172645463325252u, .crowded = 1, .blank = 100,
+    .volumes = { { "data", DYNAMIC, 2400, 1200 }, { "log", DYNAMIC, 800, 400 }, { "boot", STATIC, 300, 300 } },
+};
+
+static uint64_t by_chance(struct chip *c)
+{
+    c->chance ^= c->chance << 13;
+    c->chance ^= c->chance >> 7;
+    c->chance ^= c->chance << 17;
+    return c->chance;
+}
+
+static void put_slip(struct chip *c)
+{
+    memcpy(c->slip, "\1\0\4....\2\0\2..\3\0\2..\0\0\0", SLIP);
+    put(c->slip + 3, 4, c->peb_size);
+    put(c->slip + 10, 2, c->unit);
+    put(c->slip + 15, 2, c->sub_unit);
+}
+
+/* the next PEB, with an EC header */
+static uint8_t *put_ec(struct chip *c)
+{
+    if (c->taken == c->peb_count)
+        stop("the chip is too small for its volumes");
+    uint8_t *ec = c->image + (size_t)c->order[c->taken++] * c->peb_size;
+    memset(ec, 0, HEADER);
+    memcpy(ec, "UBI#\1", 5);
+    put(ec + 8, 8, by_chance(c) % 5000);
+    put(ec + 16, 4, c->vid_start);
+    put(ec + 20, 4, c->data_start);
+    put(ec + 24, 4, 0x5EED0001);
+    put(ec + HEADER_CRC, 4, zlib(ec, HEADER_CRC));
+    return ec;
+}
+
+/* each header has a sequence of its own */
+static void put_vid(struct chip *c, uint8_t *vid, const struct copy *h)
+{
+    memset(vid, 0, HEADER);
+    memcpy(vid, "UBI!\1", 5);
+    vid[5] = h->type;
+    vid[6] = h->flag;
+    vid[7] = h->compatibility;
+    put(vid + 8, 4, h->volume);
+    put(vid + 12, 4, h->leb);
+    put(vid + 20, 4, h->data_size);
+    put(vid + 24, 4, h->used_lebs);
+    put(vid + 32, 4, h->data_crc);
+    put(vid + 40, 8, ++c->sequence);
+    put(vid + HEADER_CRC, 4, zlib(vid, HEADER_CRC));
+}
+
+/* 168 zeroes if the volume is none */
+static void put_record(uint8_t *record, const struct volume *v)
+{
+    memset(record, 0, RECORD);
+    if (v) {
+        put(record, 4, v->reserved);
+        put(record + 4, 4, 1);
+        record[12] = v->type;
+        put(record + 14, 2, strlen(v->name));
+        memcpy(record + 16, v->name, strlen(v->name));
+    }
+    put(record + RECORD_CRC, 4, zlib(record, RECORD_CRC));
+}
+
+static void put_layout(struct chip *c, uint32_t leb)
+{
+    struct copy h = { .volume = LAYOUT, .leb = leb, .type = DYNAMIC, .compatibility = REJECT };
+    uint8_t *peb = put_ec(c);
+    uint32_t count = record_count(c->peb_size - c->data_start);
+    for (uint32_t i = 0; i < count; i++)
+        put_record(peb + c->data_start + i * RECORD, i < CHIP_VOLUMES && c->volumes[i].name ? &c->volumes[i] : NULL);
+    put_vid(c, peb + c->vid_start, &h);
+}
+
+/* a LEB full of data by chance; its CRC is right if nothing is spoilt */
+static void put_copy(struct chip *c, struct copy h, uint32_t spoilt)
+{
+    uint8_t *peb = put_ec(c), *data = peb + c->data_start;
+    for (uint32_t i = 0; i < c->peb_size - c->data_start; i += 8)
+        put(data + i, 8, by_chance(c));
+    if (h.data_size > 0)
+        h.data_crc = zlib(data, h.data_size) ^ spoilt;
+    put_vid(c, peb + c->vid_start, &h);
+}
+
+/* a LEB as first written; on a crowded chip mostly with one or two newer copies, one in eight of them spoilt */
+static void put_leb(struct chip *c, uint32_t volume, const struct volume *v, uint32_t leb)
+{
+    uint32_t leb_size = c->peb_size - c->data_start;
+    uint32_t count = !c->crowded || leb % 8 == 1 ? 1 : leb % 32 == 0 ? 3 : 2;
+    for (uint32_t k = 0; k < count; k++) {
+        struct copy h = { .volume = volume, .leb = leb, .type = v->type, .flag = k > 0 };
+        if (v->type == STATIC) {
+            h.used_lebs = v->lebs;
+            h.data_size = leb_size;
+        } else if (h.flag)
+            h.data_size = c->unit * (1 + by_chance(c) % (leb_size / c->unit));
+        put_copy(c, h, h.flag && by_chance(c) % 8 == 0);
+    }
+}
+
+static void shuffle(struct chip *c)
+{
+    for (uint32_t i = 0; i < c->peb_count; i++) {
+        uint32_t j = by_chance(c) % (i + 1);
+        c->order[i] = c->order[j];
+        c->order[j] = i;
+    }
+}
+
+static void make_chip(struct chip *c)
+{
+    size_t size = (size_t)c->peb_count * c->peb_size;
+    c->image = memory(size);
+    memset(c->image, 0xFF, size);
+    put_slip(c);
+    shuffle(c);
+    put_layout(c, 0);
+    put_layout(c, 1);
+    for (uint32_t i = 0; i < CHIP_VOLUMES && c->volumes[i].name; i++)
+        for (uint32_t leb = 0; leb < c->volumes[i].lebs; leb++)
+            put_leb(c, i, &c->volumes[i], leb);
+    while (c->taken + c->blank < c->peb_count)
+        put_ec(c);
+}
+
+/* ---- What is timed ---- */
+
+struct bench {
+    struct chip *chip;
+    struct tables proved, plain;
+    struct runs runs;
+    struct report report; /* the last one of plain C */
+};
+
+static struct tables lend(uint32_t n)
+{
+    struct tables t = { .pebs_len = 2 * n + SPARE, .map_len = 3 * n + SPARE, .states_len = VOLUMES + SPARE };
+    t.pebs = memory(t.pebs_len * sizeof *t.pebs);
+    t.map = memory(t.map_len * sizeof *t.map);
+    t.states = memory(t.states_len * sizeof *t.states);
+    fill(t.pebs, t.pebs_len, BEFORE);
+    fill(t.map, t.map_len, BEFORE);
+    fill(t.states, t.states_len, BEFORE);
+    return t;
+}
+
+static void take_back(struct tables *t)
+{
+    free(t->pebs);
+    free(t->map);
+    free(t->states);
+}
+
+static uint32_t proved_attach_job(struct bench *b)
+{
+    const struct chip *c = b->chip;
+    const struct tables *t = &b->proved;
+    return (uint32_t)bench_attach(c->slip, SLIP, c->image, (size_t)c->peb_count * c->peb_size, t->pebs, t->pebs_len,
+                                  t->map, t->map_len, t->states, t->states_len);
+}
+
+static uint32_t plain_attach_job(struct bench *b)
+{
+    const struct chip *c = b->chip;
+    b->report = plain_attach(c->slip, SLIP, c->image, (size_t)c->peb_count * c->peb_size, &b->plain);
+    return b->report.refusal ? REFUSED + b->report.refusal : b->report.grade;
+}
+
+/* all checksums in one word, so that none can be left out */
+static uint32_t proved_crc_job(struct bench *b)
+{
+    uint32_t all = 0;
+    for (size_t i = 0; i < b->runs.count; i++)
+        all = all * 31 + bench_attach_crc(0xFFFFFFFF, b->runs.list[i].bytes, b->runs.list[i].len);
+    return all;
+}
+
+static uint32_t zlib_job(struct bench *b)
+{
+    uint32_t all = 0;
+    for (size_t i = 0; i < b->runs.count; i++)
+        all = all * 31 + zlib(b->runs.list[i].bytes, b->runs.list[i].len);
+    return all;
+}
+
+static double seconds(void)
+{
+    struct timespec t;
+    clock_gettime(CLOCK_MONOTONIC, &t);
+    return t.tv_sec + t.tv_nsec * 1e-9;
+}
+
+/* the least time so far: the runs that were disturbed do not count */
+static void timed(uint32_t (*job)(struct bench *), struct bench *b, double *least, uint32_t *answer)
+{
+    double start = seconds();
+    *answer = job(b);
+    double took = seconds() - start;
+    if (took < *least)
+        *least = took;
+}
+
+static int same_words(const char *name, const uint32_t *ours, const uint32_t *theirs, size_t count)
+{
+    for (size_t i = 0; i < count; i++)
+        if (ours[i] != theirs[i]) {
+            printf("differ: %s word %zu, proved %u, plain C %u\n", name, i, ours[i], theirs[i]);
+            return 0;
+        }
+    return 1;
+}
+
+/* both attach, with the same answer and the same words, and the checksums of all runs are the same */
+static int agree(struct bench *b)
+{
+    uint32_t ours = proved_attach_job(b);
+    noting = &b->runs;
+    uint32_t theirs = plain_attach_job(b);
+    noting = NULL;
+    if (ours != theirs || ours >= REFUSED) {
+        printf("%s: proved answers %u, plain C %u\n", ours != theirs ? "differ" : "refused", ours, theirs);
+        return 0;
+    }
+    if (proved_crc_job(b) != zlib_job(b)) {
+        printf("differ: checksums\n");
+        return 0;
+    }
+    return same_words("pebs", b->proved.pebs, b->plain.pebs, b->plain.pebs_len) &&
+           same_words("map", b->proved.map, b->plain.map, b->plain.map_len) &&
+           same_words("states", b->proved.states, b->plain.states, b->plain.states_len);
+}
+
+static void measure(struct bench *b)
+{
+    double proved = 1e9, proved_crc = 1e9, plain = 1e9, zlib_alone = 1e9;
+    uint32_t grade_proved, grade_plain, sum_proved, sum_zlib;
+    size_t bytes = 0;
+    for (size_t i = 0; i < b->runs.count; i++)
+        bytes += b->runs.list[i].len;
+    for (int i = 0; i < ROUNDS; i++) {
+        timed(proved_attach_job, b, &proved, &grade_proved);
+        timed(proved_crc_job, b, &proved_crc, &sum_proved);
+        timed(plain_attach_job, b, &plain, &grade_plain);
+        timed(zlib_job, b, &zlib_alone, &sum_zlib);
+    }
+    if (grade_proved != grade_plain || sum_proved != sum_zlib)
+        stop("differ: answers of the last round");
+    printf("%s: %u PEBs, entries %u mean %u highest %llu grade %u\n", b->chip->name, b->report.peb_count,
+           b->report.entries, b->report.mean, (unsigned long long)b->report.highest, grade_proved);
+    printf("  checksummed         %9zu bytes in %zu runs\n", bytes, b->runs.count);
+    printf("  proved attach       %9.3f ms\n", proved * 1e3);
+    printf("  proved CRC alone    %9.3f ms\n", proved_crc * 1e3);
+    printf("  plain C attach      %9.3f ms\n", plain * 1e3);
+    printf("  zlib alone          %9.3f ms\n", zlib_alone * 1e3);
+    printf("  proved attach / proved CRC alone  %6.2f\n", proved / proved_crc);
+    printf("  proved attach / plain C attach    %6.2f\n", proved / plain);
+}
+
+static int bench_chip(struct chip *c)
+{
+    make_chip(c);
+    struct bench b = { .chip = c, .proved = lend(c->peb_count), .plain = lend(c->peb_count) };
+    int same = agree(&b);
+    if (same)
+        measure(&b);
+    take_back(&b.proved);
+    take_back(&b.plain);
+    free(b.runs.list);
+    free(c->image);
+    return same;
+}
+
+int main(void)
+{
+    int same = bench_chip(&large) && bench_chip(&small);
+    return !same;
+}

@@ -1,0 +1,40 @@
+// Attaching and its checksum as C calls them: what bench/ links and times. C passes a slice as a pointer and then a length.
+ghost use mathlib.Core.Path.{_≡_};
+ghost use Rattle.crc32.specs.Crc.{crcFrom};
+ghost use Rattle.report.specs.Attach.{attaching, attachedAnswer, answerOf, pebsAfter, mapAfter, statesAfter};
+ghost use Rattle.bench_attach.specs.Code.{codeOf};
+use report::Attached;
+
+fn code(a: Attached) -> u64
+    ensures { λ r. ⌜ r ≡ codeOf (attachedAnswer a) ⌝ }
+{
+    match a {
+        Attached::Given(report) => return report.grade as u64,
+        Attached::Refused { number, place } => return number as u64 + 16,
+    }
+}
+
+// The report's grade, or 16 and the refusal's number.
+#[no_mangle]
+pub extern "C" fn bench_attach(
+    slip: &[u8],
+    image: &[u8],
+    pebs: &mut [u32],
+    map: &mut [u32],
+    states: &mut [u32],
+) -> u64
+    ensures answer { λ r. ⌜ r ≡ codeOf (answerOf (attaching (now (slip .entry)) (now (image .entry)) (now (pebs .entry)) (now (map .entry)) (now (states .entry)))) ⌝ }
+    ensures pebs { λ _. ⌜ now (pebs .exit) ≡ pebsAfter (attaching (now (slip .entry)) (now (image .entry)) (now (pebs .entry)) (now (map .entry)) (now (states .entry))) (now (pebs .entry)) ⌝ }
+    ensures map { λ _. ⌜ now (map .exit) ≡ mapAfter (attaching (now (slip .entry)) (now (image .entry)) (now (pebs .entry)) (now (map .entry)) (now (states .entry))) (now (map .entry)) ⌝ }
+    ensures states { λ _. ⌜ now (states .exit) ≡ statesAfter (attaching (now (slip .entry)) (now (image .entry)) (now (pebs .entry)) (now (map .entry)) (now (states .entry))) (now (states .entry)) ⌝ }
+{
+    let a = attach::attach(slip, image, pebs, map, states);
+    code(a)
+}
+
+#[no_mangle]
+pub extern "C" fn bench_attach_crc(state: u32, bytes: &[u8]) -> u32
+    ensures { λ r. ⌜ r ≡ crcFrom state (now (bytes .entry)) ⌝ }
+{
+    crc32::update(state, bytes)
+}
