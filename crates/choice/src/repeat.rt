@@ -41,13 +41,13 @@ fn is_repeat(image: &[u8], g: Geometry, map: &[u32], i: usize, j: usize) -> bool
     sequence(image, g, i) == sequence(image, g, j)
 }
 
-// Do the words of two PEBs name one volume and LEB?
+// Do the words of two PEBs name one volume and LEB? Few LEB words agree, so that the first test nearly always decides.
 pub fn same_leb(map: &[u32], i: usize, j: usize) -> bool
     requires { ⌜ (i * 3 + 3 ≤ length (now map)) × (j * 3 + 3 ≤ length (now map)) ⌝ }
     ensures { λ r. ⌜ r ≡ sameLeb (now (map .entry)) i j ⌝ }
 {
-    if map[i * 3] != map[j * 3] {
+    if map[i * 3 + 1] != map[j * 3 + 1] {
         return false;
     }
-    map[i * 3 + 1] == map[j * 3 + 1]
+    map[i * 3] == map[j * 3]
 }

@@ -1,6 +1,7 @@
 -- `choice::repeat::same_leb` meets its contract. Assumes nothing.
-use borrow.Author.Needs.{needs}
+use mathlib.Core.Bool.{and-true, and-false}
 use borrow.Author.Tests.{eq-eqb, ne-eqb}
+use borrow.Author.Needs.{needs}
 use Rattle.choice.proofs.repeat.same_leb.Statement.{statement}
 use Rattle.choice.proofs.repeat.same_leb.Tie as tie
 use Rattle.choice.proofs.repeat.same_leb.Reads as reads
@@ -8,6 +9,9 @@ use Rattle.choice.proofs.repeat.same_leb.Lts as lts
 
 mul-if1 : tie.Need-mul-if1
 mul-if1 c = search needs
+
+add-if1 : tie.Need-add-if1
+add-if1 c = search needs
 
 mul-if1-2 : tie.Need-mul-if1-2
 mul-if1-2 c = search needs
@@ -18,6 +22,9 @@ shared-slice-read-if1 c = search needs
 mul-if1-3 : tie.Need-mul-if1-3
 mul-if1-3 c = search needs
 
+add-if1-2 : tie.Need-add-if1-2
+add-if1-2 c = search needs
+
 mul-if1-4 : tie.Need-mul-if1-4
 mul-if1-4 c = search needs
 
@@ -25,13 +32,10 @@ shared-slice-read-if1-2 : tie.Need-shared-slice-read-if1-2
 shared-slice-read-if1-2 c = search needs
 
 returns : tie.Need-returns
-returns c = rw (ne-eqb _ _ (c .if1 .taken))
+returns c = rw (ne-eqb _ _ (c .if1 .taken), and-false)
 
 mul-result : tie.Need-mul-result
 mul-result c = search needs
-
-add-result : tie.Need-add-result
-add-result c = search needs
 
 mul-result-2 : tie.Need-mul-result-2
 mul-result-2 c = search needs
@@ -42,9 +46,6 @@ shared-slice-read-result c = search needs
 mul-result-3 : tie.Need-mul-result-3
 mul-result-3 c = search needs
 
-add-result-2 : tie.Need-add-result-2
-add-result-2 c = search needs
-
 mul-result-4 : tie.Need-mul-result-4
 mul-result-4 c = search needs
 
@@ -52,25 +53,25 @@ shared-slice-read-result-2 : tie.Need-shared-slice-read-result-2
 shared-slice-read-result-2 c = search needs
 
 returns-2 : tie.Need-returns-2
-returns-2 c = rw (eq-eqb _ _ (c .before .before .if1 .left))
+returns-2 c = rw (eq-eqb _ _ (c .before .before .if1 .left), and-true)
 
 pub same-leb-spec : {M : Type 1} → statement M
 same-leb-spec =
     tie.close
     (tie.spec
     mul-if1
+    add-if1
     mul-if1-2
     shared-slice-read-if1
     mul-if1-3
+    add-if1-2
     mul-if1-4
     shared-slice-read-if1-2
     returns
     mul-result
-    add-result
     mul-result-2
     shared-slice-read-result
     mul-result-3
-    add-result-2
     mul-result-4
     shared-slice-read-result-2
     returns-2)
