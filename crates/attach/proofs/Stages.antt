@@ -49,7 +49,7 @@ use Rattle.report.proofs.Tables.{entries-fit}
 use Rattle.scan.specs.declared.Sums.{Sums}
 use Rattle.scan.specs.declared.Passage.{Passage}
 use Rattle.scan.specs.Pass.{SumsOf, Passed, refusedAt, firstWords}
-use Rattle.base.proofs.Rows.{rows-length}
+use Rattle.report.proofs.Words.{entry-words-length, peb-words-length}
 use Rattle.choice.specs.Keyed.{Keyed, repeatAt}
 use Rattle.attach.specs.Layout.{Chosen}
 use Rattle.attach.specs.Marking.{Unmarked}
@@ -117,21 +117,13 @@ module _ {g : Geometry} {image : List ℕ} {n : ℕ} {s : Sums} {pebs map states
 
 -- ---- words before and after a stage
 
-entry-words : (es : List Entry) → length (entryWords es) ≡ length es * 3
-entry-words [] = omega arith
-entry-words (e ∷ es) = omega (arith, entry-words es)
-
 module _ (g : Geometry) (image : List ℕ) (n : ℕ) where
-  peb-words-long : length (pebWords g n (viewsOf g image)) ≡ n * 2
-  unfolding pebWords
-  peb-words-long = rows-length n 2 (λ (i : ℕ). classAt g n (viewsOf g image) i ∷ counterAt g n (viewsOf g image) i ∷ []) (λ i. refl)
-
   map-words-long : 2 ≤ n → refusal g n (viewsOf g image) ≡ none → length (mapWords n (entries g n (viewsOf g image))) ≡ n * 3
   unfolding mapWords
   map-words-long h e =
       let es = entries g n (viewsOf g image) in
       let f = entries-fit g n (viewsOf g image) e h in
-      let w = entry-words es in
+      let w = entry-words-length es in
       let r = length-replicate (n * 3 - length (entryWords es)) noWord in
       length-append (entryWords es) (replicate (n * 3 - length (entryWords es)) noWord) ∙ omega (arith, f, w, r)
 
@@ -140,7 +132,7 @@ module _ (g : Geometry) (image : List ℕ) (n : ℕ) where
     pebs-from a b t = go (refusal g n (viewsOf g image)) refl
       where
         go : (x : Option Refusal) → refusal g n (viewsOf g image) ≡ x → pebsAfter (byViews g n (viewsOf g image) x) a ≡ pebsAfter (byViews g n (viewsOf g image) x) b
-        go none q = ap (λ (z : List ℕ). pebWords g n (viewsOf g image) ++ z) (rw peb-words-long t)
+        go none q = ap (λ (z : List ℕ). pebWords g n (viewsOf g image) ++ z) (rw (peb-words-length g n (viewsOf g image)) t)
         go (some r) q = ap (λ (z : List ℕ). replicate (n * 2) noWord ++ z) (rw (length-replicate (n * 2) noWord) t)
 
     map-from : (a b : List ℕ) → drop (n * 3) a ≡ drop (n * 3) b → mapAfter (outcome g image n) a ≡ mapAfter (outcome g image n) b

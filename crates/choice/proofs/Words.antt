@@ -20,7 +20,7 @@ use Rattle.report.specs.Report.{noWord}
 use Rattle.report.specs.Choice.{repeats}
 use Rattle.report.specs.Scratch.{keyWords}
 use Rattle.report.proofs.First.{none-some}
-use Rattle.report.proofs.Keys.{key-length}
+use Rattle.report.proofs.Words.{key-length}
 use Rattle.choice.specs.Keyed.{Keyed, Within, copyAt, sequenceAt, volumeWord, lebWord, sameLeb, repeatsAt}
 use Rattle.choice.proofs.Copies.{copy-is}
 

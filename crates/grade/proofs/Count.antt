@@ -11,6 +11,7 @@ use borrow.Author.Tests.{ltb-true, ltb-false}
 use lib.Dec.{ltb}
 use Rattle.geometry.specs.declared.Geometry.{Geometry}
 use Rattle.header.specs.Vid.{layoutVolume}
+use Rattle.report.proofs.Words.{entry-words-length}
 use Rattle.report.specs.View.{Views}
 use Rattle.report.specs.Volumes.{Entry, mapOf, recordFor, reservedOf}
 use Rattle.report.specs.Report.{noWord, places, records, entries}
@@ -25,10 +26,6 @@ nth-mem : (es : List Entry) (k : ℕ) → k < length es → List·Memᴰ (nth es
 nth-mem [] k h = absurd (omega arith)
 nth-mem (e ∷ es) zero h = List·Memᴰ·head refl
 nth-mem (e ∷ es) (suc k) h = List·Memᴰ·tail (nth-mem es k (omega arith))
-
-length-words : (es : List Entry) → length (entryWords es) ≡ length es * 3
-length-words [] = refl
-length-words (e ∷ es) = omega (arith, length-words es)
 
 volume-at : (es : List Entry) (k : ℕ) → k < length es → getD (entryWords es) (k * 3) 0 ≡ nth es k .volume
 volume-at [] k h = absurd (omega arith)
@@ -46,7 +43,7 @@ module _ (g : Geometry) (n : ℕ) (vs : Views) (map : List ℕ) (long : n * 3 �
   unfolding mapWords
   fits =
       let q = simp (length-take, length-append) at (ap length e) in
-      omega (arith, q, length-words es)
+      omega (arith, q, entry-words-length es)
 
   volume-used : (k : ℕ) → k < length es → nth es k .volume < noWord
   unfolding entries mapOf
@@ -64,7 +61,7 @@ module _ (g : Geometry) (n : ℕ) (vs : Views) (map : List ℕ) (long : n * 3 �
       let q : firstAt 3 map k ≡ nth es k .volume =
       sym (getD-take (n * 3) map (k * 3) 0 (omega (arith, fits)))
       ∙ ap (λ (w : List ℕ). getD w (k * 3) 0) e
-      ∙ List·getD-append (entryWords es) _ 0 (k * 3) (omega (arith, length-words es))
+      ∙ List·getD-append (entryWords es) _ 0 (k * 3) (omega (arith, entry-words-length es))
       ∙ volume-at es k h in
       omega (arith, q, volume-used k h)
 
@@ -72,12 +69,12 @@ module _ (g : Geometry) (n : ℕ) (vs : Views) (map : List ℕ) (long : n * 3 �
   past : length es < n → firstAt 3 map (length es) ≡ noWord
   unfolding mapWords
   past h =
-      let z : length es * 3 ≡ length (entryWords es) + 0 = omega (arith, length-words es) in
+      let z : length es * 3 ≡ length (entryWords es) + 0 = omega (arith, entry-words-length es) in
       sym (getD-take (n * 3) map (length es * 3) 0 (omega arith))
       ∙ ap (λ (w : List ℕ). getD w (length es * 3) 0) e
       ∙ ap (λ (k : ℕ). getD (entryWords es ++ replicate (n * 3 - length (entryWords es)) noWord) k 0) z
       ∙ getD-append-add (entryWords es) (replicate (n * 3 - length (entryWords es)) noWord) 0 0
-      ∙ getD-replicate (n * 3 - length (entryWords es)) 0 noWord 0 (omega (arith, length-words es))
+      ∙ getD-replicate (n * 3 - length (entryWords es)) 0 noWord 0 (omega (arith, entry-words-length es))
 
   -- so the first unused word ends them
   pub ends : (r : ℕ) → r ≤ n → ((j : ℕ) → j < r → firstAt 3 map j ≢ noWord) → (r < n → firstAt 3 map r ≡ noWord) → r ≡ length es

@@ -13,7 +13,7 @@ use Rattle.base.specs.Answers.{mapO}
 use Rattle.base.specs.Below.{firstBelow, concatBelow}
 use Rattle.base.proofs.Answers.{and-left, and-right}
 use Rattle.base.proofs.Below.{first-none-at, first-hit}
-use Rattle.base.proofs.Rows.{rows-length, row-word, row-first}
+use Rattle.base.proofs.Rows.{row-word, row-first}
 use Rattle.geometry.specs.declared.Geometry.{Geometry}
 use Rattle.report.specs.View.{Views}
 use Rattle.report.specs.Volumes.{Entry, mapOf}
@@ -21,6 +21,7 @@ use Rattle.report.specs.Report.{noWord, records, places, entries, classAt, coun
 use Rattle.report.specs.Attach.{Outcome, whole, over, pebWords, entryWords, mapWordsNeeded, mapWords, pebsAfter, mapAfter}
 use Rattle.report.proofs.First.{none-some}
 use Rattle.report.proofs.Map.{Listed, in-map}
+use Rattle.report.proofs.Words.{entry-words-length, peb-words-length}
 use Rattle.lookup.specs.Lookup.{pebIn, volumeWord, lebWord, pebWord, placeAt, placeIn}
 use Rattle.lookup.proofs.Laws.{peb-there}
 
@@ -35,7 +36,7 @@ module _ (g : Geometry) (n : ℕ) (vs : Views) (lent : List ℕ) where
   unfolding pebWords
   peb-reported i h =
       let t : List ℕ = drop (length (concatBelow n row)) lent in
-      sym (peb-there (concatBelow n row ++ t) n i h (simp length-append (omega (arith, rows-length n 2 row (λ j. refl)))))
+      sym (peb-there (concatBelow n row ++ t) n i h (simp length-append (omega (arith, peb-words-length g n vs))))
       ∙ ap₂ (λ (x y : ℕ). some (x, y)) (row-first n 2 row t (λ j. refl) i h (omega arith)) (row-word n 2 row t (λ j. refl) i 1 h (omega arith))
 
 -- ---- one LEB
@@ -71,10 +72,6 @@ entry-of (x ∷ es) r (suc i) h =
     let w = entry-of es r i (omega arith) in
     (w .0, List·Memᴰ·tail (w .1), moved (x .volume) (x .lnum) (x .peb) (entryWords es ++ r) i (w .0) (w .2))
 
-entry-words-long : (es : List Entry) → length (entryWords es) ≡ length es * 3
-entry-words-long [] = refl
-entry-words-long (e ∷ es) = omega (arith, entry-words-long es)
-
 -- what a place that is found says of its entry
 found-words : (map : List ℕ) (v l i p : ℕ) → placeAt map v l i ≡ some p → (volumeWord map i ≡ v) × (lebWord map i ≡ l) × (pebWord map i ≡ p)
 found-words map v l i p = go (eqb (volumeWord map i) v && eqb (lebWord map i) l) refl
@@ -102,7 +99,7 @@ module _ (g : Geometry) (n : ℕ) (vs : Views) (lent : List ℕ) where
 
   place-is : (v l : ℕ) → placeIn (entryWords es ++ rest) (length es) v l ≡ mapO (λ x. x .1) (firstBelow (length es) (placeAt (entryWords es ++ rest) v l))
   unfolding placeIn
-  place-is v l = rw (le-leb (length es * 3) (length (entryWords es ++ rest)) (simp length-append (omega (arith, entry-words-long es))))
+  place-is v l = rw (le-leb (length es * 3) (length (entryWords es ++ rest)) (simp length-append (omega (arith, entry-words-length es))))
 
   -- what is found is in the map
   pub found-in-map : (v l p : ℕ) → placeIn (mapAfter (whole g n vs) lent) (length es) v l ≡ some p

@@ -46,7 +46,7 @@ use Rattle.report.proofs.First.{none-some}
 use Rattle.report.proofs.Map.{Listed, in-map, map-has, map-ascends, concat-cong}
 use Rattle.report.proofs.Map as maps
 use Rattle.base.proofs.Rows.{rows-tail, row-word, row-first}
-use Rattle.report.proofs.Keys.{key-length}
+use Rattle.report.proofs.Words.{key-length}
 use Rattle.triples.specs.Triples.{Triple, unused, tripleWords, tripleAt, triplesOf, sorted}
 use Rattle.triples.proofs.Laws.{length-triplesOf, triplesOf-at}
 use Rattle.triples.proofs.Sorted.{Used, Drawn, sorted-words}

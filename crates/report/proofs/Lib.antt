@@ -5,4 +5,4 @@ pub mod Mean
 pub mod Bench
 pub mod Facts
 pub mod Tables
-pub mod Keys
+pub mod Words

@@ -45,7 +45,7 @@ use Rattle.report.specs.Scan.{Refusal, when, imageSeq, ecRefusal, vidRefusal, v
 use Rattle.report.specs.Report.{noWord, counterOr, hasCounter, sequenceOr0, isInternal, highestOf, readOnlyOf}
 use Rattle.report.specs.Volumes.{orZero}
 use Rattle.report.specs.Scratch.{firstClass, keyWords, keysOf}
-use Rattle.report.proofs.Keys.{key-length}
+use Rattle.report.proofs.Words.{key-length}
 use Rattle.scan.specs.Pass.{seqIn, withEc, withVid, smallCounter, SumsOf, Turned, firstWords, refusedAt, Passed}
 use Rattle.scan.specs.declared.Sums.{Sums}
 use Rattle.scan.specs.declared.Turn.{Turn}

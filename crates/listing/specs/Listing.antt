@@ -1,0 +1,58 @@
+-- The listing program's whole job: from the bytes read to the bytes printed. Assumes nothing.
+use Prim.Native.Nat.{ℕ}
+use mathlib.Core.Bool.{Bool, _||_, cond}
+use mathlib.Core.List.{List}
+use lib.Dec.{ltb, leb}
+use lib.ListN.{length, take, drop, replicate}
+use Rattle.base.specs.Answers.{Answer, given, refused}
+use Rattle.geometry.specs.declared.Geometry.{Geometry}
+use Rattle.geometry.specs.Slip.{slipGeometry}
+use Rattle.report.specs.Attach.{Outcome, early, attaching, over, answerOf, pebsAfter, mapAfter, statesAfter}
+use Rattle.listing.specs.Text.{textOf}
+
+-- "The slip precedes the image": the slip's fields take 20 bytes
+abbrev pub slipPart : List ℕ → List ℕ
+slipPart input = take 20 input
+
+abbrev pub imagePart : List ℕ → List ℕ
+imagePart input = drop 20 input
+
+-- "The program holds slip and image in at most 60 KiB": was there more input than that?
+abbrev pub tooMuch : List ℕ → Bool → Bool
+tooMuch input more = more || ltb 61440 (length input)
+
+-- "and more input is refusal 3", after refusals 1 and 2
+abbrev pub afterSlip : Answer Geometry → Outcome
+afterSlip (refused k p) = early k
+afterSlip (given g) = early 3
+
+-- the tables that the program lends: 61,420 bytes are 59 PEBs at the most
+unfoldable pub pebTable : List ℕ
+pebTable = replicate 118 0
+
+unfoldable pub mapTable : List ℕ
+mapTable = replicate 177 0
+
+unfoldable pub stateTable : List ℕ
+stateTable = replicate 128 0
+
+-- what the input comes to
+unfoldable pub judging : List ℕ → Bool → Outcome
+judging input more =
+    cond (tooMuch input more) (afterSlip (slipGeometry (slipPart input)))
+    (attaching (slipPart input) (imagePart input) pebTable mapTable stateTable)
+
+abbrev pub textFor : Outcome → List ℕ
+textFor o = textOf (answerOf o) (pebsAfter o pebTable) (mapAfter o mapTable) (statesAfter o stateTable)
+
+-- what is printed
+unfoldable pub listingOf : List ℕ → Bool → List ℕ
+listingOf input more = textFor (judging input more)
+
+-- the text's length, or refusal 4: the "buffer is too short"
+unfoldable pub listed : List ℕ → Bool → List ℕ → Answer ℕ
+listed input more out = cond (leb (length (listingOf input more)) (length out)) (given (length (listingOf input more))) (refused 4 0)
+
+-- the buffer then: the text at its start, or as it was
+unfoldable pub listedOut : List ℕ → Bool → List ℕ → List ℕ
+listedOut input more out = cond (leb (length (listingOf input more)) (length out)) (over (listingOf input more) out) out

@@ -1,0 +1,34 @@
+-- Writing a listing's text into a lent buffer. Assumes nothing.
+use Prim.Native.Nat.{ℕ, _*_}
+use mathlib.Core.Bool.{Bool, true, _&&_, cond}
+use mathlib.Core.List.{List, [], _∷_, _++_}
+use lib.Dec.{leb}
+use lib.ListN.{length}
+use Rattle.base.specs.Answers.{Answer, given, refused, allOf}
+use Rattle.report.specs.declared.Report.{Report}
+use Rattle.report.specs.Attach.{over}
+use Rattle.listing.specs.Text.{textOf}
+use Rattle.listing.specs.declared.Rendered.{Rendered}
+use Rattle.listing.specs.declared.Rendered.the-variants.{Text, Short}
+
+-- the words of which a listing's lines are made stand in the tables
+abbrev pub tablesHold : Answer Report → List ℕ → List ℕ → List ℕ → Bool
+tablesHold (given r) pebs map states = allOf (leb (r .«peb_count» * 2) (length pebs) ∷ leb (r .entries * 3) (length map) ∷ leb 128 (length states) ∷ [])
+tablesHold (refused k p) pebs map states = true
+
+module _ (a : Answer Report) (pebs map states out : List ℕ) where
+  -- refusal 4: "a lent table or header buffer is too short"
+  unfoldable pub hasRoom : Bool
+  hasRoom = tablesHold a pebs map states && leb (length (textOf a pebs map states)) (length out)
+
+  -- the text's length, or refusal 4
+  unfoldable pub rendering : Answer ℕ
+  rendering = cond hasRoom (given (length (textOf a pebs map states))) (refused 4 0)
+
+  -- "Refusals 1 to 4 .. change nothing lent"; "lent .. bytes beyond an answer .. never change"
+  unfoldable pub outAfter : List ℕ
+  outAfter = cond hasRoom (over (textOf a pebs map states) out) out
+
+abbrev pub renderedAnswer : Rendered → Answer ℕ
+renderedAnswer (Text n) = given n
+renderedAnswer Short = refused 4 0

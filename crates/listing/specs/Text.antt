@@ -1,0 +1,84 @@
+-- 01 'Bench values': the text of a listing, "from a report and its three tables". Assumes nothing.
+use Prim.Native.Nat.{ℕ, zero, suc, _+_, _*_, _/_, _%_}
+use Prim.Native.Char.{code}
+use Prim.Native.String.{String, [] as empty, _∷_ as _then_}
+use mathlib.Core.Bool.{Bool, cond}
+use mathlib.Core.List.{List, [], _∷_, _++_}
+use lib.Dec.{eqb, ltb}
+use lib.ListN.{getD}
+use Rattle.base.specs.Answers.{Answer, given, refused}
+use Rattle.base.specs.Below.{concatBelow}
+use Rattle.report.specs.declared.Report.{Report}
+use Rattle.report.specs.Report.{noWord}
+
+-- the bytes of a text of ASCII characters
+abbrev pub ascii : String → List ℕ
+ascii empty = []
+ascii (c then s) = code c ∷ ascii s
+
+-- a number in decimal: below ten it is its digit, from ten on its tenth part and then its last digit
+abbrev pub digitsUpTo : ℕ → ℕ → List ℕ
+digitsUpTo zero n = []
+digitsUpTo (suc k) n = cond (ltb n 10) ((48 + n) ∷ []) (digitsUpTo k (n / 10) ++ ((48 + n % 10) ∷ []))
+
+-- no number of a report, all are below 2^64, has more than 20 digits
+unfoldable pub decimal : ℕ → List ℕ
+decimal n = digitsUpTo 20 n
+
+-- a word, or a blank, and a number
+unfoldable pub labelled : String → ℕ → List ℕ
+labelled s n = ascii s ++ decimal n
+
+abbrev pub lineEnd : List ℕ
+lineEnd = ascii "\n"
+
+-- "The first line names its numbers (after attached, the PEB count)"
+unfoldable pub numbersPart : Report → List ℕ
+numbersPart r =
+    labelled "attached " (r .«peb_count»)
+    ++ (labelled " entries " (r .entries) ++ (labelled " mean " (r .mean) ++ labelled " highest " (r .highest)))
+
+unfoldable pub marksPart : Report → List ℕ
+marksPart r =
+    labelled " readonly " (cond (r .«read_only») 1 0)
+    ++ (labelled " table " (r .table) ++ (labelled " copies " (r .«copies_mark») ++ (labelled " grade " (r .grade) ++ lineEnd)))
+
+abbrev pub attachedLine : Report → List ℕ
+attachedLine r = numbersPart r ++ marksPart r
+
+-- "peb: number, class, counter or `lost`"
+unfoldable pub counterWord : ℕ → List ℕ
+counterWord k = cond (eqb k noWord) (ascii " lost") (labelled " " k)
+
+unfoldable pub pebLine : ℕ → ℕ → ℕ → List ℕ
+pebLine i c k = labelled "peb " i ++ (labelled " " c ++ (counterWord k ++ lineEnd))
+
+-- "map: volume, LEB, PEB"
+unfoldable pub mapLine : ℕ → ℕ → ℕ → List ℕ
+mapLine v l p = labelled "map " v ++ (labelled " " l ++ (labelled " " p ++ lineEnd))
+
+-- "vol: volume, state, nonzero only"
+unfoldable pub volLine : ℕ → ℕ → List ℕ
+volLine v s = cond (eqb s 0) [] (labelled "vol " v ++ (labelled " " s ++ lineEnd))
+
+-- the lines of each table
+unfoldable pub pebLines : ℕ → List ℕ → List ℕ
+pebLines n pebs = concatBelow n (λ (i : ℕ). pebLine i (getD pebs (i * 2) 0) (getD pebs (i * 2 + 1) 0))
+
+unfoldable pub mapLines : ℕ → List ℕ → List ℕ
+mapLines k map = concatBelow k (λ (i : ℕ). mapLine (getD map (i * 3) 0) (getD map (i * 3 + 1) 0) (getD map (i * 3 + 2) 0))
+
+unfoldable pub volLines : ℕ → List ℕ → List ℕ
+volLines k states = concatBelow k (λ (v : ℕ). volLine v (getD states v 0))
+
+-- "prints in full"
+unfoldable pub reportText : Report → List ℕ → List ℕ → List ℕ → List ℕ
+reportText r pebs map states = attachedLine r ++ (pebLines (r .«peb_count») pebs ++ (mapLines (r .entries) map ++ volLines 128 states))
+
+-- "A refusal prints only `refused N at P`."
+unfoldable pub refusedText : ℕ → ℕ → List ℕ
+refusedText k p = labelled "refused " k ++ (labelled " at " p ++ lineEnd)
+
+abbrev pub textOf : Answer Report → List ℕ → List ℕ → List ℕ → List ℕ
+textOf (given r) pebs map states = reportText r pebs map states
+textOf (refused k p) pebs map states = refusedText k p

@@ -1,0 +1,69 @@
+// The listing program's whole job.
+ghost use mathlib.Core.Path.{_≡_};
+ghost use Rattle.geometry.specs.Slip.{slipGeometry};
+ghost use Rattle.report.specs.Attach.{attachedAnswer, answerOf};
+ghost use Rattle.listing.specs.Listing.{tooMuch, afterSlip, listed, listedOut};
+ghost use Rattle.listing.specs.Render.{renderedAnswer};
+ghost use Rattle.listing.specs.Written.{SplitAt};
+use crate::Rendered;
+use crate::text::render;
+use geometry::GeometryRead;
+use report::Attached;
+
+// Where the slip ends: after 20 bytes, or with the input.
+fn slip_end(input: &[u8]) -> usize
+    ensures { λ r. ⌜ SplitAt (now (input .entry)) r ⌝ }
+{
+    if input.len() < 20 {
+        return input.len();
+    }
+    20
+}
+
+// Is there more input than the program holds?
+fn too_much(input: &[u8], more: bool) -> bool
+    ensures { λ r. ⌜ r ≡ tooMuch (now (input .entry)) more ⌝ }
+{
+    if more {
+        return true;
+    }
+    61440 < input.len()
+}
+
+// More input than is held: refusal 1, 2 or 3.
+fn refuse_long(slip: &[u8]) -> Attached
+    ensures { λ r. ⌜ attachedAnswer r ≡ answerOf (afterSlip (slipGeometry (now (slip .entry)))) ⌝ }
+{
+    let r = geometry::read_slip(slip);
+    match r {
+        GeometryRead::Good(g) => return Attached::Refused {
+            number: 3,
+            place: 0,
+        },
+        GeometryRead::Malformed => return Attached::Refused {
+            number: 1,
+            place: 0,
+        },
+        GeometryRead::Outside => return Attached::Refused {
+            number: 2,
+            place: 0,
+        },
+    }
+}
+
+// The text that is printed for the bytes read, at the start of the buffer; `more` says whether there was more input than they are.
+pub fn list(input: &[u8], more: bool, out: &mut [u8]) -> Rendered
+    ensures answer { λ r. ⌜ renderedAnswer r ≡ listed (now (input .entry)) more (now (out .entry)) ⌝ }
+    ensures out { λ _. ⌜ now (out .exit) ≡ listedOut (now (input .entry)) more (now (out .entry)) ⌝ }
+{
+    let mut pebs = [0u32; 118];
+    let mut map = [0u32; 177];
+    let mut states = [0u32; 128];
+    let at = slip_end(input);
+    if too_much(input, more) {
+        let a = refuse_long(&input[..at]);
+        return render(a, &pebs, &map, &states, out);
+    }
+    let a = attach::attach(&input[..at], &input[at..], &mut pebs, &mut map, &mut states);
+    render(a, &pebs, &map, &states, out)
+}
