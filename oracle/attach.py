@@ -331,11 +331,7 @@ def grade_of(classes, counters, copies_mark, states):
     return 0
 
 
-# ------------------------------------------------ the listing: 'Bench values'
-
-SLIP_SIZE = 20
-MOST_INPUT = 60 * 1024
-
+# ------------------------------------------ lines that test_attach prints too
 
 def first_line(report):
     return ("attached %d entries %d mean %d highest %d readonly %d table %d "
@@ -346,54 +342,7 @@ def refusal_line(refused):
     return "refused %d at %d" % (refused.number, refused.place)
 
 
-def list_report(report):
-    """The lines of the listing program for an image that attaches."""
-    lines = [first_line(report)]
-    for number, klass in enumerate(report.classes):
-        counter = report.counters[number]
-        lines.append("peb %d %d %s" % (
-            number, klass, "lost" if counter == NONE else counter))
-    for entry in report.entries:
-        lines.append("map %d %d %d" % entry)
-    for volume, state in enumerate(report.states):
-        if state != NO_RECORD:
-            lines.append("vol %d %d" % (volume, state))
-    return lines
-
-
-def listing(given):
-    """All that the listing program prints for these bytes of input.
-
-    Decided: the first 20 bytes, or all if fewer, are the slip and the rest
-    the image; more input than the program holds is judged after 1 and 2.
-    """
-    slip, image = given[:SLIP_SIZE], given[SLIP_SIZE:]
-    try:
-        ubi.geometry_from_slip(slip)
-        if len(given) > MOST_INPUT:
-            raise Refused(IMAGE_NOT_WHOLE_PEBS)
-        most = 3 * MAX_PEB_COUNT
-        lent = Lent([0] * most, [0] * most, [0] * ubi.USER_VOLUMES)
-        lines = list_report(attach(slip, image, lent))
-    except Refused as refused:
-        lines = [refusal_line(refused)]
-    return "".join(line + "\n" for line in lines)
-
-
 # --------------------------------------------------------------- self test
-
-BENCH_LISTING = """\
-attached 4 entries 3 mean 5 highest 3 readonly 0 table 0 copies 0 grade 0
-peb 0 1 3
-peb 1 1 5
-peb 2 1 9
-peb 3 0 4
-map 0 0 2
-map 2147479551 0 0
-map 2147479551 1 1
-vol 0 1
-"""
-
 
 def bench_input():
     """Slip and image of 01's listing, byte by byte as it describes them."""
@@ -421,24 +370,14 @@ def bench_input():
 
 
 def self_test():
-    """01's listing in full, its values for which copy counts, and limits."""
+    """01's bench image, its values for which copy counts, and limits."""
     slip, image = bench_input()
-    assert listing(slip + image) == BENCH_LISTING
+    report = report_of(image, ubi.geometry_from_slip(slip))
+    assert report[:8] == (4, 3, 5, 3, 0, 0, 0, 0)
+    assert report.classes == [1, 1, 1, 0]
     # With the last PEB blank the mean of 3, 5 and 9 is 5 still.
-    assert listing(slip + image[:3072] + b"\xff" * 1024) == (
-        BENCH_LISTING.replace("peb 3 0 4", "peb 3 3 lost"))
-    assert listing(slip + image[:-1]) == "refused 3 at 0\n"
-    assert listing(slip[:-1]) == "refused 1 at 0\n"
-    # The most input: 20 PEBs of 3,071 bytes; one more byte is too much,
-    # though it be 17 whole PEBs of 3,613.
-    for peb_size, peb_count, wanted in ((3071, 20, "refused 10 at 0\n"),
-                                        (3613, 17, "refused 3 at 0\n")):
-        blank = b"\xff" * (peb_size * peb_count)
-        other = slip[:3] + peb_size.to_bytes(4, "big") + slip[7:]
-        assert listing(other + blank) == wanted
-        assert listing(other[:-1] + b"\x01" + blank) == "refused 1 at 0\n"
-        assert listing(other[:10] + b"\x00\x03" + other[12:] + blank) == (
-            "refused 2 at 0\n")
+    blank = image[:3072] + b"\xff" * 1024
+    assert report_of(blank, ubi.geometry_from_slip(slip)).mean == 5
 
     for size, whole in ((1024, False), (2048, True), (2049, False),
                         (4096 * 1024, True), (4097 * 1024, False)):

@@ -33,14 +33,16 @@ def add_random_cases(probes):
 
 # ------------------------------------------------------------ random images
 
-def random_blocks(flash, chance):
-    """Two to twelve PEBs, mostly such that the image attaches."""
-    count = chance.pick([3, 4, 5, 6, 6, 7, 8, 9, 10, 12])
+def random_blocks(flash, chance, count=None, sequences=None):
+    """Two to twelve PEBs, mostly such that the image attaches.
+
+    Or as many as asked for; then `sequences` gives enough of them.
+    """
+    if count is None:
+        count = chance.pick([3, 4, 5, 6, 6, 7, 8, 9, 10, 12])
     records = random_records(flash, chance, count - 2)
-    sequences = iter(chance.shuffled(
-        [chance.pick([number, number, 2 ** 32 - 6 + number,
-                      2 ** 63 - 6 + number, U64 - 12 + number])
-         for number in range(12)]))
+    if sequences is None:
+        sequences = random_sequences(chance)
     table = flash.table(*records)
     blocks = [random_layout(flash, chance, 0, table, next(sequences))]
     if chance.below(4):
@@ -58,6 +60,13 @@ def random_blocks(flash, chance):
             blocks[number] = blocks[number]._replace(
                 ec=ways[chance.pick(sorted(ways))])
     return chance.shuffled(blocks)
+
+
+def random_sequences(chance):
+    return iter(chance.shuffled(
+        [chance.pick([number, number, 2 ** 32 - 6 + number,
+                      2 ** 63 - 6 + number, U64 - 12 + number])
+         for number in range(12)]))
 
 
 def random_records(flash, chance, most):

@@ -9,6 +9,7 @@ them.
 import re
 
 import attach
+import listing
 import ubi
 
 
@@ -154,30 +155,47 @@ def table_answer(payload):
     raise AssertionError("no such operation")
 
 
+# --------------------------------------------------------------- patches
+# Images are mostly 0xFF: stored are their length and what is not erased.
+
+NOT_ERASED = re.compile(b"[^\xff]+(?:\xff{1,6}[^\xff]+)*")
+
+
+def as_patches(data):
+    """The length of the bytes, and their runs of other bytes than 0xFF.
+
+    A few bytes of 0xFF within a run are fewer than a patch's own numbers.
+    """
+    return len(data).to_bytes(4, "big") + b"".join(
+        patch(run.start(), run.group()) for run in NOT_ERASED.finditer(data))
+
+
+def patch(offset, data):
+    return offset.to_bytes(4, "big") + len(data).to_bytes(2, "big") + data
+
+
+def patched(fields, most):
+    """The bytes again, from the rest of a payload."""
+    size = fields.number(4)
+    assert size <= most
+    data = bytearray(b"\xff" * size)
+    while not fields.at_end():
+        offset, length = fields.number(4), fields.number(2)
+        assert offset + length <= size, "patch beyond the image"
+        data[offset:offset + length] = fields.bytes(length)
+    return bytes(data)
+
+
 # ---------------------------------------------------------------- attach
 
 LENT_BEFORE = 0xDEADBEEF
 MAX_IMAGE = 262144
 MAX_LENT_WORDS = 16384
 
-NOT_ERASED = re.compile(b"[^\xff]+(?:\xff{1,6}[^\xff]+)*")
-
-
 def attach_payload(slip, lent_lengths, image):
-    """The image as patches: its runs of other bytes than 0xFF.
-
-    A few bytes of 0xFF within a run are fewer than a patch's own numbers.
-    """
     parts = [len(slip).to_bytes(2, "big"), slip]
     parts += [length.to_bytes(2, "big") for length in lent_lengths]
-    parts.append(len(image).to_bytes(4, "big"))
-    for run in NOT_ERASED.finditer(image):
-        parts.append(patch(run.start(), run.group()))
-    return b"".join(parts)
-
-
-def patch(offset, data):
-    return offset.to_bytes(4, "big") + len(data).to_bytes(2, "big") + data
+    return b"".join(parts) + as_patches(image)
 
 
 def attach_parts(payload):
@@ -186,15 +204,9 @@ def attach_parts(payload):
     slip = fields.bytes(fields.number(2))
     lengths = [fields.number(2) for _ in attach.Lent._fields]
     assert max(lengths) <= MAX_LENT_WORDS
-    size = fields.number(4)
-    assert size <= MAX_IMAGE
-    image = bytearray(b"\xff" * size)
-    while not fields.at_end():
-        offset, length = fields.number(4), fields.number(2)
-        assert offset + length <= size, "patch beyond the image"
-        image[offset:offset + length] = fields.bytes(length)
+    image = patched(fields, MAX_IMAGE)
     lent = attach.Lent(*([LENT_BEFORE] * length for length in lengths))
-    return slip, lent, bytes(image)
+    return slip, lent, image
 
 
 def words_in_runs(words):
@@ -265,6 +277,47 @@ class AttachAnswer:
         return {volume: state for volume, state in states if state != 0}
 
 
+# --------------------------------------------------------------- listing
+
+MAX_ROOM = 65536
+
+
+def listing_payload(data, room):
+    """All input of one run; `room` is the length of the lent output buffer.
+
+    Of more input than the program holds only the first bytes are stored.
+    """
+    more = len(data) > listing.MOST_INPUT
+    return (bytes([more]) + room.to_bytes(4, "big")
+            + as_patches(data[:listing.MOST_INPUT]))
+
+
+def listing_parts(payload):
+    """The bytes held, whether there were more, and the buffer's length."""
+    fields = Fields(payload)
+    more, room = fields.number(1), fields.number(4)
+    held = patched(fields, listing.MOST_INPUT)
+    assert room <= MAX_ROOM
+    assert more == 0 or more == 1 and len(held) == listing.MOST_INPUT
+    return held, more, room
+
+
+def listing_answer(payload):
+    """The text if it fits, whatever it says; a line ends it either way."""
+    held, more, room = listing_parts(payload)
+    # Of more input no byte counts but that it is there.
+    text = listing.listing(held + bytes(more)).decode("ascii")
+    if len(text) > room:
+        return line("refused", ubi.LENT_TOO_SHORT) + "\nend"
+    return line("listed", len(text)) + "\n" + text + "end"
+
+
+def listed_text(answer):
+    """The text of an answer, or None if it did not fit."""
+    first, _, rest = answer.partition("\n")
+    return rest[:-len("end")] if first.startswith("listed ") else None
+
+
 # ----------------------------------------------------------------- kinds
 
 def first_words(answer):
@@ -305,3 +358,25 @@ def attach_kinds(payload, answer):
     states = set(answer.lent.states[:ubi.USER_VOLUMES])
     kinds += ["state %d" % state for state in states]
     return kinds
+
+
+def listing_kinds(payload, answer):
+    """What the text shows at least once, or that it did not fit."""
+    held, more, room = listing_parts(payload)
+    kinds = ["more input"] if more else []
+    text = listed_text(answer)
+    if text is None:
+        return kinds + ["text too long" if room else "no buffer"]
+    if len(text) == room:
+        kinds.append("text just fits")
+    lines = [words.split(" ") for words in text.splitlines()]
+    first = lines[0]
+    if first[0] == "refused":
+        kinds.append(" ".join(first[:2]))
+        return kinds + ([kinds[-1] + " above 0"] if first[3] != "0" else [])
+    kinds.append("attached")
+    kinds += ["%s %s" % pair for pair in zip(first[8::2], first[9::2])]
+    shown = set("class " + words[2] for words in lines if words[0] == "peb")
+    shown |= set("counter lost" for words in lines if words[-1] == "lost")
+    shown |= set("state " + words[2] for words in lines if words[0] == "vol")
+    return kinds + sorted(shown)

@@ -1,4 +1,5 @@
-"""Writes the stored inputs and expected outputs of the test programs.
+"""Writes the stored inputs and expected outputs of the test programs, the
+listing program's example and the sample dump.
 
     python3 oracle/generate.py           write them
     python3 oracle/generate.py --check   compare them, and write nothing
@@ -13,19 +14,23 @@ HERE = os.path.dirname(os.path.abspath(__file__))
 sys.path.insert(0, HERE)
 
 import attach  # noqa: E402
+import listing  # noqa: E402
+import samples  # noqa: E402
 import ubi  # noqa: E402
 from cases_attach import attach_cases  # noqa: E402
 from cases_crc import crc_cases  # noqa: E402
 from cases_header import header_cases  # noqa: E402
+from cases_listing import listing_cases  # noqa: E402
 from cases_slip import slip_cases  # noqa: E402
 from cases_table import table_cases  # noqa: E402
 
 ROOT = os.path.dirname(HERE)
 
 # For each test program: its cases, the bytes its input stays below, and how
-# many cases there are of each kind of answer; an answer of test_attach is of
-# several kinds. The numbers stand here so that a generator that loses a case
-# does not go unseen; who adds cases counts them again.
+# many cases there are of each kind of answer; an answer of test_attach or
+# test_listing is of several kinds. The numbers stand here so that a
+# generator that loses a case does not go unseen; who adds cases counts them
+# again.
 PROGRAMS = (
     ("test_crc", crc_cases, 500000, {
         "bytes": 814,
@@ -104,6 +109,50 @@ PROGRAMS = (
         "refused 12": 123,
         "refused 12 above 0": 101,
     }),
+    ("test_listing", listing_cases, 3000000, {
+        "attached": 388,
+        "class 0": 86,
+        "class 1": 388,
+        "class 2": 80,
+        "class 3": 267,
+        "class 4": 59,
+        "class 5": 78,
+        "class 6": 34,
+        "copies 0": 249,
+        "copies 1": 124,
+        "copies 2": 15,
+        "counter lost": 339,
+        "grade 0": 132,
+        "grade 1": 256,
+        "more input": 74,
+        "no buffer": 12,
+        "readonly 0": 369,
+        "readonly 1": 19,
+        "refused 1": 129,
+        "refused 10": 17,
+        "refused 11": 22,
+        "refused 12": 30,
+        "refused 12 above 0": 27,
+        "refused 2": 73,
+        "refused 3": 88,
+        "refused 5": 26,
+        "refused 5 above 0": 23,
+        "refused 6": 20,
+        "refused 6 above 0": 17,
+        "refused 7": 11,
+        "refused 7 above 0": 11,
+        "refused 8": 12,
+        "refused 8 above 0": 10,
+        "refused 9": 19,
+        "refused 9 above 0": 19,
+        "state 1": 324,
+        "state 2": 30,
+        "state 3": 29,
+        "table 0": 375,
+        "table 1": 13,
+        "text just fits": 79,
+        "text too long": 151,
+    }),
 )
 
 
@@ -118,8 +167,12 @@ def self_check(name, cases, limit, expected):
     assert len(stdin) < limit, "%s: %d bytes" % (name, len(stdin))
     assert len(stdout) < STDOUT_LIMIT, "%s: %d bytes" % (name, len(stdout))
     assert len(cases.payloads) == len(unframe(stdin))
-    lines = LINES_OF_ANSWER.get(name, 1)
-    assert stdout.count(b"\n") == lines * len(cases.payloads)
+    if name == "test_listing":
+        # As many lines as the text has, and then one of its own.
+        assert stdout.count(b"\nend\n") == len(cases.payloads)
+    else:
+        lines = LINES_OF_ANSWER.get(name, 1)
+        assert stdout.count(b"\n") == lines * len(cases.payloads)
     assert b" \n" not in stdout and b"  " not in stdout
     kinds = cases.kinds()
     for kind in sorted(set(kinds) | set(expected)):
@@ -144,7 +197,9 @@ def generate():
     """Path and content of each file, checked."""
     ubi.self_test()
     attach.self_test()
-    files = []
+    listing.self_test()
+    samples.self_test()
+    files = samples.sample_files()
     for name, make_cases, limit, expected in PROGRAMS:
         cases = make_cases()
         self_check(name, cases, limit, expected)

@@ -76,6 +76,30 @@ pub fn rest<'a>(payload: &'a [u8], at: usize) -> &'a [u8] {
     &payload[at..]
 }
 
+// Each patch: an offset, a length, and so many bytes that are written there.
+pub fn patch(image: &mut [u8], patches: &[u8]) {
+    let mut at: usize = 0;
+    while at < patches.len() {
+        if patches.len() - at < 6 {
+            return;
+        }
+        let from = number_at(patches, at, 4) as usize;
+        let n = number_at(patches, at + 4, 2) as usize;
+        at += 6;
+        if patches.len() - at < n {
+            return;
+        }
+        if image.len() < n {
+            return;
+        }
+        if image.len() - n < from {
+            return;
+        }
+        base::store(image, from, &patches[at..at + n]);
+        at += n;
+    }
+}
+
 // Two digits for each byte.
 pub fn hex(bytes: &[u8]) {
     let mut i: usize = 0;

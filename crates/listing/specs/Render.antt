@@ -1,5 +1,5 @@
 -- Writing a listing's text into a lent buffer. Assumes nothing.
-use Prim.Native.Nat.{ℕ, _*_}
+use Prim.Native.Nat.{ℕ, _*_, _≤_}
 use mathlib.Core.Bool.{Bool, true, _&&_, cond}
 use mathlib.Core.List.{List, [], _∷_, _++_}
 use lib.Dec.{leb}
@@ -32,3 +32,8 @@ module _ (a : Answer Report) (pebs map states out : List ℕ) where
 abbrev pub renderedAnswer : Rendered → Answer ℕ
 renderedAnswer (Text n) = given n
 renderedAnswer Short = refused 4 0
+
+-- the text lies within the buffer
+abbrev pub within : Rendered → List ℕ → Type 0
+within (Text n) out = n ≤ length out
+within Short out = Unit {0}

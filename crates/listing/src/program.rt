@@ -3,7 +3,7 @@ ghost use mathlib.Core.Path.{_≡_};
 ghost use Rattle.geometry.specs.Slip.{slipGeometry};
 ghost use Rattle.report.specs.Attach.{attachedAnswer, answerOf};
 ghost use Rattle.listing.specs.Listing.{tooMuch, afterSlip, listed, listedOut};
-ghost use Rattle.listing.specs.Render.{renderedAnswer};
+ghost use Rattle.listing.specs.Render.{renderedAnswer, within};
 ghost use Rattle.listing.specs.Written.{SplitAt};
 use crate::Rendered;
 use crate::text::render;
@@ -55,6 +55,7 @@ fn refuse_long(slip: &[u8]) -> Attached
 pub fn list(input: &[u8], more: bool, out: &mut [u8]) -> Rendered
     ensures answer { λ r. ⌜ renderedAnswer r ≡ listed (now (input .entry)) more (now (out .entry)) ⌝ }
     ensures out { λ _. ⌜ now (out .exit) ≡ listedOut (now (input .entry)) more (now (out .entry)) ⌝ }
+    ensures room { λ r. ⌜ within r (now (out .exit)) ⌝ }
 {
     let mut pebs = [0u32; 118];
     let mut map = [0u32; 177];

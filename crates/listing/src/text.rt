@@ -5,7 +5,7 @@ ghost use Prim.Native.Nat.{_+_, _*_, _≤_};
 ghost use lib.ListN.{length};
 ghost use Rattle.report.specs.Attach.{attachedAnswer};
 ghost use Rattle.listing.specs.Text.{textOf, reportText};
-ghost use Rattle.listing.specs.Render.{tablesHold, rendering, outAfter, renderedAnswer};
+ghost use Rattle.listing.specs.Render.{tablesHold, rendering, outAfter, renderedAnswer, within};
 ghost use Rattle.listing.specs.Written.{Written};
 use crate::Rendered;
 use crate::lines;
@@ -61,6 +61,7 @@ fn write_text(out: &mut [u8], a: Attached, pebs: &[u32], map: &[u32], states: &[
 pub fn render(a: Attached, pebs: &[u32], map: &[u32], states: &[u32], out: &mut [u8]) -> Rendered
     ensures answer { λ r. ⌜ renderedAnswer r ≡ rendering (attachedAnswer a) (now (pebs .entry)) (now (map .entry)) (now (states .entry)) (now (out .entry)) ⌝ }
     ensures out { λ _. ⌜ now (out .exit) ≡ outAfter (attachedAnswer a) (now (pebs .entry)) (now (map .entry)) (now (states .entry)) (now (out .entry)) ⌝ }
+    ensures room { λ r. ⌜ within r (now (out .exit)) ⌝ }
 {
     if !tables_hold(a, pebs, map, states) {
         return Rendered::Short;

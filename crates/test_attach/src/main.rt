@@ -47,7 +47,7 @@ fn answer(payload: &[u8], image: &mut [u8], pebs: &mut [u32], map: &mut [u32], s
     }
     let lent = &mut image[0..size];
     base::fill(lent, size, 0xFF);
-    patch(lent, frames::rest(rest, 10));
+    frames::patch(lent, frames::rest(rest, 10));
     let p = frames::number_at(rest, 0, 2) as usize;
     let m = frames::number_at(rest, 2, 2) as usize;
     let s = frames::number_at(rest, 4, 2) as usize;
@@ -67,30 +67,6 @@ fn answer(payload: &[u8], image: &mut [u8], pebs: &mut [u32], map: &mut [u32], s
         &mut map[0..m],
         &mut states[0..s],
     );
-}
-
-// Each patch: an offset, a length, and so many bytes that are written there.
-fn patch(image: &mut [u8], patches: &[u8]) {
-    let mut at: usize = 0;
-    while at < patches.len() {
-        if patches.len() - at < 6 {
-            return;
-        }
-        let from = frames::number_at(patches, at, 4) as usize;
-        let n = frames::number_at(patches, at + 4, 2) as usize;
-        at += 6;
-        if patches.len() - at < n {
-            return;
-        }
-        if image.len() < n {
-            return;
-        }
-        if image.len() - n < from {
-            return;
-        }
-        base::store(image, from, &patches[at..at + n]);
-        at += n;
-    }
 }
 
 fn show(slip: &[u8], image: &[u8], pebs: &mut [u32], map: &mut [u32], states: &mut [u32]) {

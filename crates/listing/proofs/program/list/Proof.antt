@@ -53,10 +53,13 @@ unfolding pebTable mapTable stateTable
 returns c = let a = c .before .before .before .before .before .before .before .before .before .before .before .before .before .before .args in
     let x = slipGeometry (slipPart (a .input .now)) in
     let t = long-tables x pebTable mapTable stateTable in
+    let w = c .before .before .render .ensures in
+    let q =
     listed-by (a .input .now) (a .more) (a .out .now) (afterSlip x) (long-judged (a .input .now) (a .more) (sym (c .before .before .before .before .before .before .before .before .before .before .too-much .ensures) ∙ c .before .before .before .before .before .before .before .before .before .if1 .taken))
     (attachedAnswer (c .before .before .before .before .before .before .before .refuse-long .result)) pebTable mapTable stateTable
     (c .before .before .before .before .before .before .before .refuse-long .ensures ∙ ap (λ (l : List ℕ). answerOf (afterSlip (slipGeometry l))) (c .before .before .before .before .before .before .before .before .before .before .before .slip-end .ensures .slip-is))
-    (t .0) (t .1 .0) (t .1 .1) (c .before .before .render .ensures)
+    (t .0) (t .1 .0) (t .1 .1) (w .0, w .1 .0)
+    in (q .0, (q .1, w .1 .1))
 
 slice-aggregate-attach : tie.Need-slice-aggregate-attach
 slice-aggregate-attach c = sym (length-take-le (c .before .before .before .slip-end .result) (c .before .before .before .before .before .before .args .input .now) (c .before .before .before .slip-end .ensures .within))
@@ -103,6 +106,8 @@ returns-2 c = let a = c .before .before .before .before .before .before .before 
     let s = c .before .before .before .before .before .before .before .before .before .before .before .before .before .before .before .before .before .before .slip-end .ensures in
     let i = rest-is (a .input .now) (c .before .before .before .before .before .before .before .before .before .before .before .before .before .before .before .before .before .before .slip-end .result) s in
     let e = c .before .before .before .before .before .before .before .before .before .before .attach .ensures in
+    let w = c .before .before .render2 .ensures in
+    let q =
     listed-by (a .input .now) (a .more) (a .out .now) (attaching (slipPart (a .input .now)) (imagePart (a .input .now)) pebTable mapTable stateTable)
     (short-judged (a .input .now) (a .more) (sym (c .before .before .before .before .before .before .before .before .before .before .before .before .before .before .before .before .before .too-much .ensures) ∙ c .before .before .before .before .before .before .before .before .before .before .before .before .before .before .before .before .if1 .left))
     (attachedAnswer (c .before .before .before .before .before .before .before .before .before .before .attach .result)) _ _ _
@@ -110,7 +115,8 @@ returns-2 c = let a = c .before .before .before .before .before .before .before 
     (e .1 .0 ∙ ap₂ (λ (l m : List ℕ). pebsAfter (attaching l m pebTable mapTable stateTable) pebTable) (s .slip-is) i)
     (e .1 .1 .0 ∙ ap₂ (λ (l m : List ℕ). mapAfter (attaching l m pebTable mapTable stateTable) mapTable) (s .slip-is) i)
     (e .1 .1 .1 ∙ ap₂ (λ (l m : List ℕ). statesAfter (attaching l m pebTable mapTable stateTable) stateTable) (s .slip-is) i)
-    (c .before .before .render2 .ensures)
+    (w .0, w .1 .0)
+    in (q .0, (q .1, w .1 .1))
 
 pub list-spec : {M : Type 1} → statement M
 list-spec =

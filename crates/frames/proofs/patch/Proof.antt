@@ -1,14 +1,14 @@
--- `test_attach::patch` is safe and ends. Assumes nothing.
+-- `frames::patch` is safe and ends. Assumes nothing.
 use mathlib.Core.Path.{_≡_}
 use Prim.Native.Nat.{_≤_, _-_}
 use borrow.Author.Needs.{needs}
 use lib.ListN.{length}
-use Rattle.test_attach.proofs.patch.Statement.{statement}
-use Rattle.test_attach.proofs.patch.Tie as tie
-use Rattle.test_attach.proofs.patch.Reads as reads
-use Rattle.test_attach.proofs.patch.Lts as lts
+use Rattle.frames.proofs.patch.Statement.{statement}
+use Rattle.frames.proofs.patch.Tie as tie
+use Rattle.frames.proofs.patch.Reads as reads
+use Rattle.frames.proofs.patch.Lts as lts
 use Rattle.base.proofs.store.Reads as store-reads
 use Rattle.frames.proofs.number_at.Reads as number-at-reads
 
 abbrev Inv-loop : tie.InvT-loop
 Inv-loop image₀ patches at₀ image at = (at ≤ length patches) × (length image ≡ length image₀)
