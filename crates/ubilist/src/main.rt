@@ -3,7 +3,7 @@ use listing::Rendered;
 
 fn main() {
     let mut input = [0u8; 61440];
-    let mut out = [0u8; 32768];
+    let mut out = [0u8; 16384];
     let n = io::read_full(0, &mut input);
     let more = has_more(n);
     print_listing(&input[..n], more, &mut out);
@@ -18,7 +18,7 @@ fn has_more(n: usize) -> bool {
     io::read_full(0, &mut byte) == 1
 }
 
-// No listing is longer than the buffer.
+// No listing is longer than the buffer: listing-short of crates/listing/proofs/Bounds.antt.
 fn print_listing(input: &[u8], more: bool, out: &mut [u8]) {
     let Rendered::Text(n) = listing::list(input, more, out) else {
         return;

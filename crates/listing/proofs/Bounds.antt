@@ -1,0 +1,212 @@
+-- No listing is longer than 16,384 bytes, and the program's tables are never too short. Assumes nothing.
+use mathlib.Core.Path.{_≡_, refl, sym, ap, _∙_, subst}
+use mathlib.Core.Logic.{_≢_}
+use mathlib.Core.Bool.{Bool, true, false, _&&_, cond, true≢false}
+use mathlib.Core.Option.{Option, none, some}
+use mathlib.Core.List.{List, [], _∷_, _++_}
+use Prim.Native.Nat.{ℕ, zero, suc, _+_, _*_, _/_, _%_, _≤_, _<_}
+use Prim.Native.String.{String}
+use native.Mathlib.Nat.{mul-le-mul-left, div-mul-le-self}
+use native.Mathlib.Omega.{arith}
+use borrow.Author.Tests.{leb-true, le-leb, ltb-false}
+use lib.Dec.{eqb, leb, ltb}
+use lib.ListN.{length, drop, getD, replicate, length-append, length-drop, length-replicate}
+use Rattle.base.specs.Answers.{Answer, given, refused, allOf}
+use Rattle.base.specs.Below.{concatBelow}
+use Rattle.base.proofs.Answers.{and-left, and-right, and-intro, or-right}
+use Rattle.geometry.specs.declared.Geometry.{Geometry}
+use Rattle.geometry.specs.Geometry.{goodUnit, makeGeometry, geometryRules, geometryOf}
+use Rattle.geometry.specs.Slip.{valueAt, wellFormed, slipGeometry}
+use Rattle.report.specs.declared.Report.{Report}
+use Rattle.report.specs.View.{Views, viewsOf}
+use Rattle.report.specs.Scan.{Refusal}
+use Rattle.report.specs.Report.{noWord, entries, refusal}
+use Rattle.report.specs.Attach.{
+  Outcome,
+  early,
+  late,
+  whole,
+  pebCount,
+  imageRules,
+  longEnough,
+  byViews,
+  byGeometry,
+  attaching,
+  reportOf,
+}
+use Rattle.report.proofs.Tables.{entries-fit}
+use Rattle.listing.specs.Text.{
+  ascii,
+  decimal,
+  labelled,
+  numbersPart,
+  marksPart,
+  counterWord,
+  pebLine,
+  mapLine,
+  volLine,
+  pebLines,
+  mapLines,
+  volLines,
+  reportText,
+  refusedText,
+}
+use Rattle.listing.specs.Listing.{slipPart, imagePart, tooMuch, afterSlip, pebTable, mapTable, stateTable, textFor, judging, listingOf}
+use Rattle.listing.proofs.Laws.{decimal-short}
+
+-- ---- lines
+
+labelled-short : (s : String) (n : ℕ) → length (labelled s n) ≤ length (ascii s) + 20
+unfolding labelled
+labelled-short s n = simp length-append (omega (arith, decimal-short n))
+
+numbers-short : (r : Report) → length (numbersPart r) ≤ 113
+unfolding numbersPart
+numbers-short r = simp length-append (omega (arith, labelled-short "attached " (r .«peb_count»), labelled-short " entries " (r .entries), labelled-short " mean " (r .mean), labelled-short " highest " (r .highest)))
+
+marks-short : (r : Report) → length (marksPart r) ≤ 113
+unfolding marksPart
+marks-short r =
+    simp length-append
+    (omega (arith, labelled-short " readonly " (cond (r .«read_only») 1 0), labelled-short " table " (r .table), labelled-short " copies " (r .«copies_mark»), labelled-short " grade " (r .grade)))
+
+counter-short : (k : ℕ) → length (counterWord k) ≤ 21
+unfolding counterWord
+counter-short k = go (eqb k noWord)
+  where
+    go : (b : Bool) → length (cond b (ascii " lost") (labelled " " k)) ≤ 21
+    go true = omega arith
+    go false = labelled-short " " k
+
+peb-short : (i c k : ℕ) → length (pebLine i c k) ≤ 67
+unfolding pebLine
+peb-short i c k = simp length-append (omega (arith, labelled-short "peb " i, labelled-short " " c, counter-short k))
+
+map-short : (v l p : ℕ) → length (mapLine v l p) ≤ 67
+unfolding mapLine
+map-short v l p = simp length-append (omega (arith, labelled-short "map " v, labelled-short " " l, labelled-short " " p))
+
+vol-short : (v s : ℕ) → length (volLine v s) ≤ 46
+unfolding volLine
+vol-short v s = go (eqb s 0)
+  where
+    go : (b : Bool) → length (cond b [] (labelled "vol " v ++ (labelled " " s ++ ascii "\n"))) ≤ 46
+    go true = omega arith
+    go false = simp length-append (omega (arith, labelled-short "vol " v, labelled-short " " s))
+
+lines-short : (n k : ℕ) (f : ℕ → List ℕ) → ((i : ℕ) → length (f i) ≤ k) → length (concatBelow n f) ≤ n * k
+lines-short zero k f h = omega arith
+lines-short (suc n) k f h = rw length-append (omega (arith, lines-short n k f h, h n))
+
+-- ---- what the input comes to
+
+abbrev earlyNumber : Outcome → ℕ
+earlyNumber (early k) = k
+earlyNumber (late n r) = 0
+earlyNumber (whole g n vs) = 0
+
+record Fine (o : Outcome) : Type 0 where
+  pub short : length (textFor o) ≤ 16384
+  pub tables-suffice : earlyNumber o ≢ 4
+
+refused-short : (k p : ℕ) → length (refusedText k p) ≤ 53
+unfolding refusedText
+refused-short k p = simp length-append (omega (arith, labelled-short "refused " k, labelled-short " at " p))
+
+fine-early : (k : ℕ) → k ≢ 4 → Fine (early k)
+fine-early k h = record { short = omega (arith, refused-short k 0); tables-suffice = h }
+
+fine-late : (n : ℕ) (r : Refusal) → Fine (late n r)
+fine-late n r = record { short = omega (arith, refused-short (r .number) (r .place)); tables-suffice = λ e. omega arith }
+
+peb-lines-short : (n : ℕ) (pebs : List ℕ) → length (pebLines n pebs) ≤ n * 67
+unfolding pebLines
+peb-lines-short n pebs = lines-short n 67 (λ (i : ℕ). pebLine i (getD pebs (i * 2) 0) (getD pebs (i * 2 + 1) 0)) (λ i. peb-short i _ _)
+
+map-lines-short : (n : ℕ) (map : List ℕ) → length (mapLines n map) ≤ n * 67
+unfolding mapLines
+map-lines-short n map = lines-short n 67 (λ (i : ℕ). mapLine (getD map (i * 3) 0) (getD map (i * 3 + 1) 0) (getD map (i * 3 + 2) 0)) (λ i. map-short _ _ _)
+
+vol-lines-short : (n : ℕ) (states : List ℕ) → length (volLines n states) ≤ n * 46
+unfolding volLines
+vol-lines-short n states = lines-short n 46 (λ (v : ℕ). volLine v (getD states v 0)) (λ v. vol-short v _)
+
+report-short : (r : Report) (pebs map states : List ℕ) → r .«peb_count» ≤ 59 → r .entries ≤ 59 → length (reportText r pebs map states) ≤ 16384
+unfolding reportText
+report-short r pebs map states h k =
+    simp length-append
+    (omega (arith, peb-lines-short (r .«peb_count») pebs, map-lines-short (r .entries) map, vol-lines-short 128 states, numbers-short r, marks-short r))
+
+fine-whole : (g : Geometry) (n : ℕ) (vs : Views) → n ≤ 59 → length (entries g n vs) ≤ n → Fine (whole g n vs)
+unfolding reportOf
+fine-whole g n vs h k = record { short = report-short (reportOf g n vs) _ _ _ h (omega arith); tables-suffice = λ e. omega arith }
+
+-- a slip is refused with 1 or 2, or its PEB size is 1,024 at least
+by-slip : (P : Answer Geometry → Type 0) (s : List ℕ) → P (refused 1 0) → P (refused 2 0)
+    → ((g : Geometry) → 1024 ≤ g .«peb_size» → P (given g)) → P (slipGeometry s)
+unfolding slipGeometry geometryOf geometryRules makeGeometry
+by-slip P s one two good = go (wellFormed s) (allOf (geometryRules peb unit sub)) refl
+  where
+    peb : ℕ
+    peb = valueAt 0 4 s
+
+    unit : ℕ
+    unit = valueAt 7 2 s
+
+    sub : ℕ
+    sub = valueAt 12 2 s
+
+    go : (a b : Bool) → allOf (geometryRules peb unit sub) ≡ b → P (cond a (cond b (given (makeGeometry peb unit sub)) (refused 2 0)) (refused 1 0))
+    go false b e = one
+    go true false e = two
+    go true true e = good (makeGeometry peb unit sub) (leb-true 1024 peb (and-left (leb 1024 peb) _ (and-right (leb sub unit) _ (and-right (goodUnit sub) _ (and-right (goodUnit unit) _ e)))))
+
+-- 61,420 bytes are 59 PEBs at the most
+module _ (g : Geometry) (image : List ℕ) (h : 1024 ≤ g .«peb_size») (k : length image ≤ 61420) where
+  few-pebs : pebCount g image ≤ 59
+  few-pebs =
+      let n = length image / g .«peb_size» in
+      let a : n * 1024 ≤ n * g .«peb_size» = mul-le-mul-left n h in
+      let b : n * g .«peb_size» ≤ length image = div-mul-le-self (length image) (g .«peb_size») in
+      omega (arith, a, b)
+
+  long-tables : longEnough (pebCount g image) pebTable mapTable stateTable ≡ true
+  unfolding longEnough pebTable mapTable stateTable
+  long-tables =
+      and-intro _ _ (le-leb (pebCount g image * 2) 118 (omega (arith, few-pebs)))
+      (and-intro _ _ (le-leb (pebCount g image * 3) 177 (omega (arith, few-pebs))) refl)
+
+  fine-image : Fine (byGeometry image pebTable mapTable stateTable (given g))
+  unfolding imageRules
+  fine-image = go (allOf (imageRules g image)) refl (longEnough (pebCount g image) pebTable mapTable stateTable) long-tables (refusal g (pebCount g image) (viewsOf g image)) refl
+    where
+      go : (a : Bool) → allOf (imageRules g image) ≡ a → (b : Bool) → b ≡ true → (x : Option Refusal) → refusal g (pebCount g image) (viewsOf g image) ≡ x
+          → Fine (cond a (cond b (byViews g (pebCount g image) (viewsOf g image) x) (early 4)) (early 3))
+      go false e b q x z = fine-early 3 (λ w. omega arith)
+      go true e false q x z = absurd (true≢false (sym q))
+      go true e true q (some r) z = fine-late (pebCount g image) r
+      go true e true q none z =
+          fine-whole g (pebCount g image) (viewsOf g image) few-pebs
+          (entries-fit g (pebCount g image) (viewsOf g image) z (leb-true 2 (pebCount g image) (and-left (leb 2 (pebCount g image)) _ (and-right (eqb (length image % g .«peb_size») 0) _ e))))
+
+fine-judged : (input : List ℕ) (more : Bool) → Fine (judging input more)
+unfolding judging attaching
+fine-judged input more = go (tooMuch input more) refl
+  where
+    go : (b : Bool) → tooMuch input more ≡ b
+        → Fine (cond b (afterSlip (slipGeometry (slipPart input))) (byGeometry (imagePart input) pebTable mapTable stateTable (slipGeometry (slipPart input))))
+    go true e = by-slip (λ (x : Answer Geometry). Fine (afterSlip x)) (slipPart input) (fine-early 1 (λ w. omega arith)) (fine-early 2 (λ w. omega arith)) (λ g h. fine-early 3 (λ w. omega arith))
+    go false e =
+        let l : length input ≤ 61440 = ltb-false 61440 (length input) (or-right more (ltb 61440 (length input)) e) in
+        by-slip (λ (x : Answer Geometry). Fine (byGeometry (imagePart input) pebTable mapTable stateTable x)) (slipPart input)
+        (fine-early 1 (λ w. omega arith)) (fine-early 2 (λ w. omega arith))
+        (λ g h. fine-image g (imagePart input) h (omega (arith, length-drop 20 input)))
+
+-- every listing fits a buffer of 16,384 bytes
+pub listing-short : (input : List ℕ) (more : Bool) → length (listingOf input more) ≤ 16384
+unfolding listingOf
+listing-short input more = fine-judged input more .short
+
+-- the tables that the program lends are long enough: refusal 4 is never printed for them
+pub tables-suffice : (input : List ℕ) (more : Bool) → judging input more ≢ early 4
+tables-suffice input more e = fine-judged input more .tables-suffice (ap earlyNumber e)
