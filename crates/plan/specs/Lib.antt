@@ -1,0 +1,4 @@
+pub mod Headers
+pub mod Begin
+pub mod Write
+pub mod Step

@@ -1,0 +1,73 @@
+-- 01 'The mover's steps' and refusal 18: what a step answers, and the image after it. Assumes nothing.
+use Prim.Native.Nat.{ℕ, _+_}
+use mathlib.Core.Bool.{Bool, not, cond}
+use mathlib.Core.List.{List, [], _∷_}
+use lib.Dec.{eqb, ltb}
+use Rattle.base.specs.Answers.{Answer, given, refused, allOf}
+use Rattle.geometry.specs.Geometry.{geometryRules}
+use Rattle.geometry.specs.declared.Geometry.{Geometry}
+use Rattle.header.specs.Fields.{isGood}
+use Rattle.header.specs.Ec.{judgeEc}
+use Rattle.header.specs.Vid.{judgeVid}
+use Rattle.report.specs.Attach.{pebCount, imageRules}
+use Rattle.plan.specs.Write.{Write, nothing, appliedWhole, appliedCut, planGeometry, stepCount, writeAfter}
+use Rattle.plan.specs.declared.Plan.{Plan}
+use Rattle.plan.specs.declared.Stepped.{Stepped}
+use Rattle.plan.specs.declared.Stepped.the-variants.{On, Done, Refused}
+
+-- what refusal 18 asks of a plan and an image: "plan's geometry meets 2 or the image 3, a PEB is absent, both are one, or 19 would
+-- refuse a header of the plan"
+unfoldable pub stepRules : Plan → List ℕ → List Bool
+stepRules p image =
+    allOf (geometryRules (p .«peb_size») (p .unit) (p .«sub_unit»)) ∷ allOf (imageRules (planGeometry p) image)
+    ∷ ltb (p .old) (pebCount (planGeometry p) image) ∷ ltb (p .target) (pebCount (planGeometry p) image)
+    ∷ not (eqb (p .old) (p .target))
+    ∷ isGood (judgeVid (planGeometry p .«leb_size») (p .vid)) ∷ isGood (judgeEc (p .ec)) ∷ []
+
+-- may the plan's steps run on the image? It is judged first, also of a finished plan
+unfoldable pub runnable : Plan → List ℕ → Bool
+runnable p image = allOf (stepRules p image)
+
+-- the write of the plan's next step
+unfoldable pub stepWrite : Plan → List ℕ → Write
+stepWrite p image = cond (runnable p image) (writeAfter (planGeometry p) p image (p .steps)) nothing
+
+-- a plan with one step more run
+unfoldable pub oneOn : Plan → Plan
+oneOn p = record {
+  «peb_size» = p .«peb_size»;
+  unit = p .unit;
+  «sub_unit» = p .«sub_unit»;
+  old = p .old;
+  target = p .target;
+  vid = p .vid;
+  ec = p .ec;
+  steps = p .steps + 1;
+}
+
+-- what a step that is not refused answers: the plan as it goes on, or done
+pub data Progress : Type 0 where
+  on : Plan → Progress
+  done : Progress
+
+-- "Further steps answer done and change nothing."
+unfoldable pub stepAnswer : Plan → List ℕ → Answer Progress
+stepAnswer p image = cond (runnable p image) (given (cond (ltb (p .steps) (stepCount p)) (on (oneOn p)) done)) (refused 18 0)
+
+-- the answer of a step, and the image after it
+pub record Stepping : Type 0 where
+  pub answer : Answer Progress
+  pub image : List ℕ
+
+unfoldable pub stepping : Plan → List ℕ → Stepping
+stepping p image = record { answer = stepAnswer p image; image = appliedWhole (stepWrite p image) image }
+
+-- the image after a step that was cut
+unfoldable pub stepCut : ℕ → (ℕ → Bool) → Plan → List ℕ → List ℕ
+stepCut stored erased p image = appliedCut stored erased (stepWrite p image) image
+
+-- what each case of the answer is in 01
+abbrev pub steppedAnswer : Stepped → Answer Progress
+steppedAnswer (On p) = given (on p)
+steppedAnswer Done = given done
+steppedAnswer Refused = refused 18 0
