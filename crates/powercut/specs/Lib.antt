@@ -1,0 +1,5 @@
+pub mod Outcomes
+pub mod Calls
+pub mod Book
+pub mod Premise
+pub mod Claim
