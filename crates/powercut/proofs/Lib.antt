@@ -1,1 +1,5 @@
+pub mod Stores
+pub mod Pebs
+pub mod Images
+pub mod Runs
 pub mod Stage

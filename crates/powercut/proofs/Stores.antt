@@ -1,0 +1,122 @@
+-- Stores into lists of numbers, and runs of one number. Assumes nothing.
+use mathlib.Core.Path.{_≡_, refl, sym, _∙_, ap, ap₂}
+use mathlib.Core.List.{List, [], _∷_, _++_, append-assoc, append-nil}
+use Prim.Native.Nat.{ℕ, zero, suc, _+_, _-_, _*_, _≤_, _<_}
+use native.Mathlib.Nat.{add-assoc, zero-add}
+use native.Mathlib.Omega.{arith}
+use lib.Dec.{lit<}
+use lib.ListN.{length, take, drop, getD, replicate, length-append, length-take, length-drop, take-append-drop}
+use lib.Seq.{take-at, drop-at, take-append-le, drop-append-le, take-append-add, drop-append-add, length-take-le, drop-drop, drop-length}
+use Rattle.base.specs.Lists.{part, put, Bytes}
+
+-- ---- stores
+
+module _ (at : ℕ) (bs s : List ℕ) (h : at + length bs ≤ length s) where
+  pub length-put : length (put at bs s) ≡ length s
+  length-put = simp (length-append, length-take, length-drop) (omega arith)
+
+  -- from where it begins
+  pub put-from : drop at (put at bs s) ≡ bs ++ drop (at + length bs) s
+  put-from = drop-at (take at s) (bs ++ drop (at + length bs) s) at (length-take-le at s (omega arith))
+
+  -- what lies before stays
+  pub put-before : (a m : ℕ) → a + m ≤ at → part a m (put at bs s) ≡ part a m s
+  put-before a m k = left ∙ sym right
+    where
+      la : length (take at s) ≡ at
+      la = length-take-le at s (omega arith)
+
+      lm : m ≤ length (drop a (take at s))
+      lm = simp (length-drop, la) (omega arith)
+
+      left : take m (drop a (take at s ++ (bs ++ drop (at + length bs) s))) ≡ take m (drop a (take at s))
+      left =
+          rw (drop-append-le a (take at s) (bs ++ drop (at + length bs) s) (omega (arith, la)))
+          (take-append-le m (drop a (take at s)) (bs ++ drop (at + length bs) s) lm)
+
+      right : take m (drop a s) ≡ take m (drop a (take at s))
+      right =
+          ap (λ (x : List ℕ). take m (drop a x)) (sym (take-append-drop at s))
+          ∙ rw (drop-append-le a (take at s) (drop at s) (omega (arith, la))) (take-append-le m (drop a (take at s)) (drop at s) lm)
+
+  -- what lies behind stays
+  pub put-behind : (a : ℕ) → at + length bs ≤ a → drop a (put at bs s) ≡ drop a s
+  put-behind a k =
+      let r : ℕ = a - (at + length bs) in
+      let e : a ≡ at + (length bs + r) = omega arith in
+      rw e
+      (sym (drop-drop (length bs + r) at (put at bs s))
+      ∙ ap (drop (length bs + r)) put-from
+      ∙ drop-append-add bs (drop (at + length bs) s) r
+      ∙ drop-drop r (at + length bs) s
+      ∙ ap (λ (n : ℕ). drop n s) (add-assoc at (length bs) r))
+
+-- a store into the first, or the second, of two lists
+put-left : (at : ℕ) (bs x y : List ℕ) → at + length bs ≤ length x → put at bs (x ++ y) ≡ put at bs x ++ y
+put-left at bs x y h =
+    let k : at ≤ length x = omega arith in
+    rw (take-append-le at x y k, drop-append-le (at + length bs) x y h) (sym (simp append-assoc))
+
+put-right : (at : ℕ) (bs x y : List ℕ) → put (length x + at) bs (x ++ y) ≡ x ++ put at bs y
+put-right at bs x y =
+    let e : length x + at + length bs ≡ length x + (at + length bs) = omega arith in
+    rw (e, take-append-add x y at, drop-append-add x y (at + length bs)) (append-assoc x (take at y) (bs ++ drop (at + length bs) y))
+
+-- a store within a part
+pub part-put-in : (b size at : ℕ) (bs s : List ℕ) → at + length bs ≤ size → b + size ≤ length s → part b size (put (b + at) bs s) ≡ put at bs (part b size s)
+part-put-in b size at bs s h k = ap (part b size) whole ∙ ap (take size) (drop-at x _ b lx) ∙ take-at (put at bs y) z size (length-put at bs y (omega (arith, ly)) ∙ ly)
+  where
+    x : List ℕ
+    x = take b s
+
+    y : List ℕ
+    y = part b size s
+
+    z : List ℕ
+    z = drop size (drop b s)
+
+    lx : length x ≡ b
+    lx = length-take-le b s (omega arith)
+
+    ly : length y ≡ size
+    ly = length-take-le size (drop b s) (simp length-drop (omega arith))
+
+    is : s ≡ x ++ (y ++ z)
+    is = sym (take-append-drop b s) ∙ ap (λ (r : List ℕ). x ++ r) (sym (take-append-drop size (drop b s)))
+
+    whole : put (b + at) bs s ≡ x ++ (put at bs y ++ z)
+    whole =
+        ap (put (b + at) bs) is ∙ ap (λ (m : ℕ). put (m + at) bs (x ++ (y ++ z))) (sym lx) ∙ put-right at bs x (y ++ z)
+        ∙ ap (λ (r : List ℕ). x ++ r) (put-left at bs y z (omega (arith, ly)))
+
+-- a store over the whole list
+pub put-all : (bs s : List ℕ) → length bs ≡ length s → put 0 bs s ≡ bs
+put-all bs s e = rw (zero-add, e, drop-length, append-nil)
+
+-- a part of a part
+pub part-take : (r c d : ℕ) (b : List ℕ) → c + r ≤ d → d ≤ length b → part c r (take d b) ≡ part c r b
+part-take r c d b h k =
+    let l = length-take-le d b k in
+    sym
+    (ap (λ (x : List ℕ). take r (drop c x)) (sym (take-append-drop d b))
+    ∙ rw (drop-append-le c (take d b) (drop d b) (omega arith))
+    (take-append-le r (drop c (take d b)) (drop d b) (simp (length-drop, l) (omega arith))))
+
+-- ---- runs of one number
+
+pub drop-replicate : (x s m : ℕ) → drop s (replicate m x) ≡ replicate (m - s) x
+drop-replicate x zero m = let e : m - 0 ≡ m = omega arith in rw e
+drop-replicate x (suc s) zero = let e : 0 - suc s ≡ 0 = omega arith in rw e
+drop-replicate x (suc s) (suc m) = let e : suc m - suc s ≡ m - s = omega arith in rw e (drop-replicate x s m)
+
+pub take-replicate : (x s m : ℕ) → s ≤ m → take s (replicate m x) ≡ replicate s x
+take-replicate x zero m h = refl
+take-replicate x (suc s) zero h = absurd (omega arith)
+take-replicate x (suc s) (suc m) h = ap (λ (l : List ℕ). x ∷ l) (take-replicate x s m (omega arith))
+
+-- ---- bytes
+
+pub bytes-append : (a b : List ℕ) → Bytes a → Bytes b → Bytes (a ++ b)
+bytes-append [] b p q k = q k
+bytes-append (x ∷ a) b p q zero = p 0
+bytes-append (x ∷ a) b p q (suc k) = bytes-append a b (λ (j : ℕ). p (suc j)) q k
