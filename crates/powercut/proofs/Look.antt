@@ -1,0 +1,214 @@
+-- From the bytes of the two PEBs to the stages: a stopped move is torn, half or whole. Assumes nothing.
+use mathlib.Core.Path.{_≡_, refl, sym, _∙_, ap, subst}
+use mathlib.Core.Logic.{_≢_, _⊎_, inl, inr, ⊎-elim}
+use mathlib.Core.Bool.{Bool, true, false, not, _&&_, _||_, cond, or-true}
+use mathlib.Core.Option.{Option, none, some}
+use mathlib.Core.List.{List}
+use Prim.Native.Nat.{ℕ, _+_, _-_, _≤_, _<_}
+use native.Mathlib.Omega.{arith}
+use lib.Dec.{eqb}
+use borrow.Author.Tests.{eq-eqb, ne-eqb, not-true}
+use lib.ListN.{take, drop, replicate}
+use lib.Seq.{drop-drop}
+use Rattle.base.specs.Answers.{allOf}
+use Rattle.base.specs.Lists.{part, eqs}
+use Rattle.base.proofs.Answers.{clash, or-true-cases}
+use Rattle.base.proofs.Below.{eq-or-ne}
+use Rattle.base.proofs.Lists.{eqs-refl, eqs-true}
+use Rattle.crc32.specs.Crc.{crcOf}
+use Rattle.geometry.specs.declared.Geometry.{Geometry}
+use Rattle.header.specs.Fields.{crcMatches, good}
+use Rattle.header.specs.Ec.{judgeEc, ecBytes, EcFits}
+use Rattle.header.specs.Vid.{implies, judgeVid, vidBytes, VidFits}
+use Rattle.report.specs.View.{allFF, Copy, ecGood, ecBlank, ecLost, vidGood, vidBlank, vidBad, View, Views, copyOf, vidPart, viewOf, copies, isMappable}
+use Rattle.report.specs.Scan.{imageSeq, ecRefusal, vidRefusal}
+use Rattle.report.specs.Choice.{sound}
+use Rattle.report.specs.Volumes.{contentOf, faceOf}
+use Rattle.report.proofs.Choice.{chosen-at}
+use Rattle.report.proofs.First.{none-some}
+use Rattle.plan.specs.declared.Plan.{Plan}
+use Rattle.powercut.specs.Premise.{unlike}
+use Rattle.powercut.proofs.Stage.{Ready, Stopped, torn, half, whole, isWhole}
+use Rattle.powercut.proofs.Seen.{ec-written, ec-torn, vid-written, vid-torn, vid-erased, Read, same-header}
+
+-- what a plan's headers have to do with the copy that it moves; ref is the image sequence that refusal 7 compares with
+pub record Good (g : Geometry) (ref : Option ℕ) (old : Copy) (p : Plan) : Type 0 where
+  pub vid-good : judgeVid (g .«leb_size») (p .vid) ≡ good (p .vid)
+  pub vid-fits : VidFits (p .vid)
+  pub ec-good : judgeEc (p .ec) ≡ good (p .ec)
+  pub ec-fits : EcFits (p .ec)
+  pub ec-stands : ecRefusal g ref (ecGood (p .ec)) ≡ none
+  pub same-type : p .vid .«vol_type» ≡ old .header .«vol_type»
+  pub same-pad : p .vid .«data_pad» ≡ old .header .«data_pad»
+  pub same-used : p .vid .«used_lebs» ≡ old .header .«used_lebs»
+  pub data-fits : p .vid .«data_size» ≤ g .«leb_size»
+  pub no-data : p .vid .«copy_flag» ≡ 0 → p .vid .«data_size» ≡ 0
+  pub summed : (p .vid .«copy_flag» ≡ 0) ⊎ (p .vid .«data_crc» ≡ crcOf (take (p .vid .«data_size») (old .body)))
+  pub old-sound : sound old ≡ true
+  pub old-right : not (eqb (old .header .«vol_type») 2) || old .matches ≡ true
+  pub new-right : not (eqb (p .vid .«vol_type») 2) || eqb (crcOf (take (p .vid .«data_size») (old .body))) (p .vid .«data_crc») ≡ true
+  -- what is stored, with 0xFF behind it, has the content
+  pub content : (b : List ℕ) → take (p .vid .«data_size») b ≡ take (p .vid .«data_size») (old .body)
+      → drop (p .vid .«data_size») b ≡ replicate (g .«leb_size» - p .vid .«data_size») 0xFF
+      → take (cond (eqb (p .vid .«vol_type») 2) (p .vid .«data_size») (g .«leb_size» - p .vid .«data_pad»)) b ≡ contentOf g old
+
+-- T and O are the bytes of the two PEBs at first, X and Y those in the stopped image
+module _ (g : Geometry) (n : ℕ) (vs vs′ : Views) (v l o t : ℕ) (old : Copy) (p : Plan)
+    (b : Ready n vs v l o t old (p .vid)) (good : Good g (imageSeq n vs) old p) (T O X Y : List ℕ)
+    (blank-T : drop (g .«data_start» + p .vid .«data_size») T ≡ replicate (g .«leb_size» - p .vid .«data_size») 0xFF)
+    (read-O : Read g O old) (is-o : vs o ≡ viewOf g O) (is-t′ : vs′ t ≡ viewOf g X) (is-o′ : vs′ o ≡ viewOf g Y)
+    (tail-X : drop (g .«data_start» + p .vid .«data_size») X ≡ drop (g .«data_start» + p .vid .«data_size») T)
+    (o-before : ecRefusal g (imageSeq n vs) (viewOf g O .ec) ≡ none) where
+  abbrev run : List ℕ
+  run = part (g .«data_start») (p .vid .«data_size») X
+
+  abbrev dataRun : List ℕ
+  dataRun = part (g .«data_start») (p .vid .«data_size») O
+
+  body-O : old .body ≡ drop (g .«data_start») O
+  unfolding copyOf
+  body-O = ap (λ (c : Copy). c .body) (read-O .is)
+
+  old-run : take (p .vid .«data_size») (old .body) ≡ dataRun
+  old-run = ap (take (p .vid .«data_size»)) body-O
+
+  -- the new copy, once its header is whole
+  abbrev new : Copy
+  new = copyOf g X (p .vid)
+
+  new-seen : vidPart g X ≡ vidBytes (p .vid) → vs′ t .vid ≡ vidGood new
+  new-seen e = rw is-t′ (vid-written g X (p .vid) (good .vid-fits) (good .vid-good) e)
+
+  new-header : new .header ≡ p .vid
+  unfolding copyOf
+  new-header = refl
+
+  half-unsound : eqs run dataRun ≡ false → eqb (crcOf run) (p .vid .«data_crc») ≡ false → sound new ≡ false
+  unfolding copyOf
+  half-unsound ne c =
+      ⊎-elim
+      (λ (e : p .vid .«copy_flag» ≡ 0). clash ne (rw (good .no-data e) (eqs-refl _)))
+      (λ (e : p .vid .«copy_flag» ≢ 0). rw (ne-eqb (p .vid .«copy_flag») 0 e, c))
+      (eq-or-ne (p .vid .«copy_flag») 0)
+
+  whole-sound : run ≡ dataRun → sound new ≡ true
+  unfolding copyOf
+  whole-sound e =
+      ⊎-elim
+      (λ (z : p .vid .«copy_flag» ≡ 0). rw (eq-eqb (p .vid .«copy_flag») 0 z))
+      (λ (q : p .vid .«data_crc» ≡ crcOf (take (p .vid .«data_size») (old .body))).
+      rw (e, q, old-run, eq-eqb (crcOf dataRun) (crcOf dataRun) refl) (or-true (eqb (p .vid .«copy_flag») 0)))
+      (good .summed)
+
+  same-face : run ≡ dataRun → faceOf g new ≡ faceOf g old
+  unfolding faceOf copyOf
+  same-face e =
+      let r : run ≡ take (p .vid .«data_size») (old .body) = e ∙ sym old-run in
+      let s : sound new ≡ sound old = whole-sound e ∙ sym (good .old-sound) in
+      let q : not (eqb (p .vid .«vol_type») 2) || eqb (crcOf run) (p .vid .«data_crc») ≡ not (eqb (old .header .«vol_type») 2) || old .matches =
+      rw r (good .new-right) ∙ sym (good .old-right) in
+      let c : contentOf g new ≡ contentOf g old =
+      good .content (drop (g .«data_start») X) r (drop-drop (p .vid .«data_size») (g .«data_start») X ∙ tail-X ∙ blank-T) in
+      λ i. record { vol-type = good .same-type i; pad = good .same-pad i; used = good .same-used i; sound = s i; right = q i; content = c i }
+
+  -- ---- the old PEB, whatever is left of it
+
+  old-ec : unlike (eqs (take 64 Y) (take 64 O) || eqs (take 64 Y) (ecBytes (p .ec))) (take 64 Y) ≡ true
+      → ecRefusal g (imageSeq n vs) (vs′ o .ec) ≡ none
+  unfolding viewOf
+  old-ec c =
+      rw is-o′
+      (⊎-elim
+      (λ w. ⊎-elim
+      (λ (e : eqs (take 64 Y) (take 64 O) ≡ true). rw (eqs-true (take 64 Y) (take 64 O) e) o-before)
+      (λ (e : eqs (take 64 Y) (ecBytes (p .ec)) ≡ true).
+      rw (ec-written g Y (p .ec) (good .ec-fits) (good .ec-good) (eqs-true (take 64 Y) (ecBytes (p .ec)) e)) (good .ec-stands))
+      (or-true-cases (eqs (take 64 Y) (take 64 O)) (eqs (take 64 Y) (ecBytes (p .ec))) w))
+      (λ w. ⊎-elim (λ (q : viewOf g Y .ec ≡ ecBlank). rw q) (λ (q : viewOf g Y .ec ≡ ecLost). rw q) (ec-torn g Y w))
+      (or-true-cases (eqs (take 64 Y) (take 64 O) || eqs (take 64 Y) (ecBytes (p .ec))) (allFF (take 64 Y) || not (crcMatches (take 64 Y))) c))
+
+  -- its VID header is the old one, or none
+  abbrev OldVid : Type 0
+  OldVid = (vidRefusal (vs′ o .vid) ≡ none) × ((c : Copy) → copies vs′ o ≡ some c → c .header ≡ old .header)
+
+  old-mappable : isMappable (old .header .volume) ≡ true
+  old-mappable = rw (chosen-at n (copies vs) v l o old (b .is-chosen) .2) (b .is-mappable)
+
+  vid-none : (viewOf g Y .vid ≡ vidBlank) ⊎ (viewOf g Y .vid ≡ vidBad) → OldVid
+  vid-none (inl q) = (rw (is-o′, q), λ c e. none-some (rw (is-o′, q) at e))
+  vid-none (inr q) = (rw (is-o′, q), λ c e. none-some (rw (is-o′, q) at e))
+
+  vid-old : viewOf g Y .vid ≡ vidGood (copyOf g Y (old .header)) → OldVid
+  unfolding copyOf
+  vid-old q = (rw (is-o′, q, old-mappable), λ c e. same c (rw (is-o′, q) at e))
+    where
+      same : (c : Copy) → some (copyOf g Y (old .header)) ≡ some c → c .header ≡ old .header
+      same c e = let z : copyOf g Y (old .header) ≡ c = cc in sym (ap (λ (y : Copy). y .header) z)
+
+  old-vid : unlike (eqs (vidPart g Y) (vidPart g O)) (vidPart g Y) ≡ true → OldVid
+  old-vid c =
+      ⊎-elim
+      (λ (e : eqs (vidPart g Y) (vidPart g O) ≡ true). vid-old (same-header g O Y old read-O (eqs-true (vidPart g Y) (vidPart g O) e)))
+      (λ w. vid-none (vid-torn g Y w))
+      (or-true-cases (eqs (vidPart g Y) (vidPart g O)) (allFF (vidPart g Y) || not (crcMatches (vidPart g Y))) c)
+
+  -- ---- the stages
+
+  whole-now : vidPart g X ≡ vidBytes (p .vid) → run ≡ dataRun → ecRefusal g (imageSeq n vs) (vs′ o .ec) ≡ none → OldVid
+      → Stopped g n vs vs′ o t old (p .vid)
+  whole-now eh ed ec ov = whole new (new-seen eh) new-header (whole-sound ed) (same-face ed) ec (ov .0) (ov .1)
+
+  o-same : Y ≡ O → vs′ o ≡ vs o
+  o-same e = is-o′ ∙ ap (viewOf g) e ∙ sym is-o
+
+  torn-now : Y ≡ O → (viewOf g X .vid ≡ vidBlank) ⊎ (viewOf g X .vid ≡ vidBad) → Stopped g n vs vs′ o t old (p .vid)
+  torn-now eo (inl q) = torn (o-same eo) (rw (is-t′, q)) (rw (is-t′, q))
+  torn-now eo (inr q) = torn (o-same eo) (rw (is-t′, q)) (rw (is-t′, q))
+
+  abbrev hw : Bool
+  hw = eqs (vidPart g X) (vidBytes (p .vid))
+
+  abbrev rw′ : Bool
+  rw′ = eqs run dataRun
+
+  -- a stopped move: the old PEB is touched only when the new one is whole, and the premise holds
+  pub stopped : (Y ≡ O) ⊎ ((vidPart g X ≡ vidBytes (p .vid)) × (run ≡ dataRun))
+      → unlike hw (vidPart g X) ≡ true
+      → implies hw (rw′ || not (eqb (crcOf run) (p .vid .«data_crc»))) ≡ true
+      → unlike (eqs (take 64 Y) (take 64 O) || eqs (take 64 Y) (ecBytes (p .ec))) (take 64 Y) ≡ true
+      → unlike (eqs (vidPart g Y) (vidPart g O)) (vidPart g Y) ≡ true
+      → (st : Stopped g n vs vs′ o t old (p .vid)) × (isWhole st ≡ hw && rw′)
+  unfolding torn-now whole-now
+  stopped order c1 c2 c3 c4 = go hw refl rw′ refl c1 c2
+    where
+      untouched : hw && rw′ ≡ false → Y ≡ O
+      untouched ne =
+          ⊎-elim (λ (e : Y ≡ O). e)
+          (λ w. clash ne (rw (w .0, w .1, eqs-refl (vidBytes (p .vid))) (eqs-refl dataRun))) order
+
+      torn-false : (e : Y ≡ O) (q : (viewOf g X .vid ≡ vidBlank) ⊎ (viewOf g X .vid ≡ vidBad)) → isWhole (torn-now e q) ≡ false
+      torn-false e (inl q) = refl
+      torn-false e (inr q) = refl
+
+      go : (h : Bool) → hw ≡ h → (d : Bool) → rw′ ≡ d → unlike h (vidPart g X) ≡ true
+          → implies h (d || not (eqb (crcOf run) (p .vid .«data_crc»))) ≡ true → (st : Stopped g n vs vs′ o t old (p .vid)) × (isWhole st ≡ h && d)
+      go false eh d ed c1 c2 =
+          let eo = untouched (rw eh) in
+          let q = vid-torn g X c1 in
+          (torn-now eo q, torn-false eo q)
+      go true eh false ed c1 c2 = (
+        half new (o-same (untouched (rw (eh, ed)))) (new-seen (eqs-true (vidPart g X) (vidBytes (p .vid)) eh)) new-header
+            (half-unsound ed (not-true (eqb (crcOf run) (p .vid .«data_crc»)) c2)),
+        refl,
+      )
+      go true eh true ed c1 c2 =
+          (whole-now (eqs-true (vidPart g X) (vidBytes (p .vid)) eh) (eqs-true run dataRun ed) (old-ec c3) (old-vid c4), refl)
+
+  -- a move that is not cut
+  pub finished : vidPart g X ≡ vidBytes (p .vid) → run ≡ dataRun → take 64 Y ≡ ecBytes (p .ec) → vidPart g Y ≡ replicate 64 0xFF
+      → (st : Stopped g n vs vs′ o t old (p .vid)) × (isWhole st ≡ true)
+  unfolding whole-now
+  finished eh ed ee ev = (
+    whole-now eh ed (rw (is-o′, ec-written g Y (p .ec) (good .ec-fits) (good .ec-good) ee) (good .ec-stands)) (vid-none (inl (vid-erased g Y ev))),
+    refl,
+  )
