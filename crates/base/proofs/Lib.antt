@@ -2,3 +2,5 @@ pub mod Lists
 pub mod Below
 pub mod Answers
 pub mod Rows
+pub mod Stores
+pub mod Highest

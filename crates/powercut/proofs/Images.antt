@@ -24,7 +24,7 @@ use Rattle.plan.specs.declared.Plan.{Plan}
 use Rattle.plan.specs.Write.{Write, store, erase, nothing, appliedWhole, appliedCut, erasedIn, planGeometry, dataSteps, stepCount, pebStart, unitBytes, writeAfter}
 use Rattle.plan.specs.Step.{stepRules, runnable, stepWrite, oneOn, Progress, on, done, stepAnswer, Stepping, stepping, stepCut}
 use Rattle.powercut.specs.Calls.{Left, planLeft, nextStep, oneStep, afterSteps}
-use Rattle.powercut.proofs.Stores.{length-put, put-before, put-behind, part-put-in, put-all, part-take}
+use Rattle.base.proofs.Stores.{length-put, put-before, put-behind, part-put-in, put-all, part-take}
 use Rattle.powercut.proofs.Pebs.{vid-64, ec-64, length-erased, erased-all, Pair, Fits, unitOf, step, steps, unit-within}
 
 -- ---- PEBs of an image

@@ -1,4 +1,3 @@
-pub mod Stores
 pub mod Pebs
 pub mod Images
 pub mod Runs

@@ -22,7 +22,7 @@ use Rattle.header.specs.declared.VidHeader.{VidHeader}
 use Rattle.report.specs.View.{vidPart}
 use Rattle.plan.specs.declared.Plan.{Plan}
 use Rattle.plan.specs.Write.{erasedIn, dataSteps}
-use Rattle.powercut.proofs.Stores.{length-put, put-from, put-before, put-behind, part-take}
+use Rattle.base.proofs.Stores.{length-put, put-from, put-before, put-behind, part-take}
 
 -- ---- headers, erased bytes
 

@@ -7,7 +7,8 @@ use native.Mathlib.Omega.{arith}
 use lib.Dec.{lit<}
 use lib.ListN.{length, take, drop, getD, replicate, length-append, length-take, length-drop, take-append-drop}
 use lib.Seq.{take-at, drop-at, take-append-le, drop-append-le, take-append-add, drop-append-add, length-take-le, drop-drop, drop-length}
 use Rattle.base.specs.Lists.{part, put, Bytes}
+use Rattle.base.proofs.Lists.{bytes-take, bytes-drop}
 
 -- ---- stores
 
@@ -120,3 +121,8 @@ pub bytes-append : (a b : List ℕ) → Bytes a → Bytes b → Bytes (a ++ b)
 bytes-append [] b p q k = q k
 bytes-append (x ∷ a) b p q zero = p 0
 bytes-append (x ∷ a) b p q (suc k) = bytes-append a b (λ (j : ℕ). p (suc j)) q k
+
+pub bytes-put : (at : ℕ) (bs s : List ℕ) → Bytes bs → Bytes s → Bytes (put at bs s)
+bytes-put at bs s p q =
+    bytes-append (take at s) (bs ++ drop (at + length bs) s) (bytes-take at s q)
+    (bytes-append bs (drop (at + length bs) s) p (bytes-drop (at + length bs) s q))

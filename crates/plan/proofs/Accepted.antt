@@ -1,0 +1,181 @@
+-- What the beginning of an accepted move has established. Assumes nothing.
+use mathlib.Core.Path.{_≡_, refl, sym, _∙_, ap, subst}
+use mathlib.Core.Logic.{_≢_, _⊎_, inl, inr, ⊎-elim}
+use mathlib.Core.Bool.{Bool, true, false, not, _&&_, _||_, cond, false≢true}
+use mathlib.Core.Option.{Option, none, some}
+use mathlib.Core.List.{List, [], _∷_, List·Memᴰ, List·Memᴰ·head, List·Memᴰ·tail}
+use Prim.Native.Nat.{ℕ, suc, _+_, _-_, _^_, _<_, _≤_}
+use native.Mathlib.Omega.{arith}
+use lib.Dec.{eqb, ltb}
+use borrow.Author.Tests.{eqb-true, eqb-false, ltb-true, lt-ltb, eq-eqb, not-false, not-true}
+use Rattle.base.specs.Answers.{Answer, given, refused}
+use Rattle.base.proofs.Answers.{and-left, and-right, or-left, or-right, or-true-cases, or-true-right}
+use Rattle.base.proofs.Highest.{max-at}
+use Rattle.geometry.specs.declared.Geometry.{Geometry}
+use Rattle.header.specs.Vid.{layoutVolume}
+use Rattle.header.specs.declared.EcHeader.{EcHeader}
+use Rattle.report.specs.View.{Copy, EcView, ecGood, ecNewer, ecBlank, ecLost, VidView, vidGood, vidNewer, vidBlank, vidBad, View, Views, copies, isMappable}
+use Rattle.report.specs.Choice.{sound, chosen}
+use Rattle.report.specs.Volumes.{Places, Entry, recordFor, reservedOf, mapOf}
+use Rattle.report.specs.Report.{isPlace, staysIn, classOf, highestOf, sequenceOr0, places, records, classAt, entries}
+use Rattle.report.proofs.First.{none-some}
+use Rattle.report.proofs.Facts.{when-none}
+use Rattle.report.proofs.Map.{Listed, in-map}
+use Rattle.plan.specs.Headers.{isStatic, newVid, oldCounter, newEc}
+use Rattle.plan.specs.Begin.{isIn, unlessRefused, refusal13, mapped, refusal15, refusal16, refusal17, makePlan, planFor, planOf}
+use Rattle.plan.specs.declared.Plan.{Plan}
+
+-- ---- the map
+
+in-list : (v l : ℕ) (es : List Entry) → isIn v l es ≡ true → (e : Entry) × List·Memᴰ e es × (e .volume ≡ v) × (e .lnum ≡ l)
+in-list v l [] q = absurd (false≢true q)
+in-list v l (e ∷ es) q =
+    ⊎-elim
+    (λ (h : eqb (e .volume) v && eqb (e .lnum) l ≡ true). (
+      e,
+      List·Memᴰ·head refl,
+      eqb-true (e .volume) v (and-left (eqb (e .volume) v) (eqb (e .lnum) l) h),
+      eqb-true (e .lnum) l (and-right (eqb (e .volume) v) (eqb (e .lnum) l) h),
+    ))
+    (λ (h : isIn v l es ≡ true). let r = in-list v l es h in (r .0, List·Memᴰ·tail (r .1), r .2, r .3))
+    (or-true-cases (eqb (e .volume) v && eqb (e .lnum) l) (isIn v l es) q)
+
+-- a LEB in the map is a user LEB below reserved, or a layout LEB
+abbrev pub InMap : List ℕ → ℕ → ℕ → Type 0
+InMap t v l = ((v < 128) × (l < reservedOf (recordFor t v))) ⊎ ((v ≡ layoutVolume) × (l < 2))
+
+pub in-map-is : (g : Geometry) (n : ℕ) (vs : Views) (v l : ℕ) → isIn v l (entries g n vs) ≡ true → InMap (records g n vs) v l
+unfolding entries mapOf
+in-map-is g n vs v l q =
+    let r = in-list v l (entries g n vs) q in
+    subst (λ x. InMap (records g n vs) v x) (r .3)
+    (subst (λ x. InMap (records g n vs) x (r .0 .lnum)) (r .2) (in-map 128 2 (records g n vs) (places g n vs) (r .0) (r .1) .key))
+
+pub in-map-mappable : (t : List ℕ) (v l : ℕ) → InMap t v l → isMappable v ≡ true
+in-map-mappable t v l (inl h) = rw (lt-ltb v 128 (h .0))
+in-map-mappable t v l (inr h) = or-true-right (ltb v 128) (eqb v layoutVolume) (eq-eqb v layoutVolume (h .0))
+
+-- ---- a free block
+
+abbrev pub Free : EcView → VidView → Type 0
+Free e v = (v ≡ vidBlank) × ((h : EcHeader) × (e ≡ ecGood h))
+
+pub class-free : (t : List ℕ) (ps : Places) (i : ℕ) (e : EcView) (v : VidView) → classOf t ps i e v ≡ 0 → Free e v
+class-free t ps i e (vidGood c) q =
+    absurd (go (isMappable (c .header .volume)) (isPlace (ps (c .header .volume) (c .header .lnum)) i) (staysIn t (c .header .volume) (c .header .lnum)) (eqb (c .header .compat) 1) q)
+  where
+    go : (a b c d : Bool) → cond {A = ℕ} a (cond b (cond c 1 5) 2) (cond d 5 6) ≡ 0 → ⊥
+    go true true true d e = omega arith
+    go true true false d e = omega arith
+    go true false c d e = omega arith
+    go false b c true e = omega arith
+    go false b c false e = omega arith
+class-free t ps i (ecGood h) vidBlank q = (refl, (h, refl))
+class-free t ps i ecBlank vidBlank q = absurd (omega arith)
+class-free t ps i ecLost vidBlank q = absurd (omega arith)
+class-free t ps i ecNewer vidBlank q = absurd (omega arith)
+class-free t ps i e vidBad q = absurd (omega arith)
+class-free t ps i e vidNewer q = absurd (omega arith)
+
+-- ---- the highest sequence
+
+pub below-next : (n : ℕ) (cs : ℕ → Option Copy) (i : ℕ) (c : Copy) → i < n → cs i ≡ some c → c .header .sequence < highestOf n cs + 1
+unfolding highestOf
+below-next n cs i c h e =
+    let r = max-at n (λ i. sequenceOr0 (cs i)) i h in
+    let q : sequenceOr0 (cs i) ≡ c .header .sequence = rw e in
+    omega arith
+
+-- ---- the accepted move
+
+pub record Accepted (g : Geometry) (n : ℕ) (vs : Views) (v l t : ℕ) (p : Plan) : Type 0 where
+  pub old : ℕ
+  pub copy : Copy
+  pub plan : p ≡ makePlan g n vs t old copy
+  pub is-chosen : chosen n (copies vs) v l ≡ some (old, copy)
+  pub in-map : InMap (records g n vs) v l
+  pub is-sound : sound copy ≡ true
+  pub is-right : not (isStatic copy) || copy .matches ≡ true
+  pub target-there : t < n
+  pub target-free : Free (vs t .ec) (vs t .vid)
+  pub target-clean : vs t .clean ≡ true
+  pub sequence-left : highestOf n (copies vs) ≢ 2 ^ 64 - 1
+  pub counter-left : oldCounter n vs old ≢ 0x7FFFFFFF
+
+unless-given : (r : Option ℕ) (a : Answer Plan) (p : Plan) → unlessRefused r a ≡ given p → (r ≡ none) × (a ≡ given p)
+unless-given none a p e = (refl, e)
+unless-given (some k) a p e = absurd (let z : _≡_ {A = ℕ} 0 1 = cc in omega arith)
+
+right-of : (s m : Bool) → s && not m ≡ false → not s || m ≡ true
+right-of true true e = refl
+right-of true false e = sym e
+right-of false m e = refl
+
+module _ (g : Geometry) (n : ℕ) (vs : Views) (v l t : ℕ) (p : Plan) where
+  none15 : (c : Copy) → refusal15 g n vs c ≡ none → (sound c ≡ true) × (not (isStatic c) || c .matches ≡ true)
+  unfolding refusal15
+  none15 c e =
+      let q = when-none (not (sound c) || (isStatic c && not (c .matches))) 15 e in (
+        not-false (sound c) (or-left (not (sound c)) (isStatic c && not (c .matches)) q),
+        right-of (isStatic c) (c .matches) (or-right (not (sound c)) (isStatic c && not (c .matches)) q),
+      )
+
+  none16 : refusal16 g n vs t ≡ none → (t < n) × Free (vs t .ec) (vs t .vid) × (vs t .clean ≡ true)
+  unfolding refusal16 classAt
+  none16 e =
+      let a : Bool = not (ltb t n) in
+      let b : Bool = not (eqb (classAt g n vs t) 0) in
+      let c : Bool = not (vs t .clean) in
+      let q = when-none (a || (b || c)) 16 e in
+      let r = or-right a (b || c) q in (
+        ltb-true t n (not-false (ltb t n) (or-left a (b || c) q)),
+        class-free (records g n vs) (places g n vs) t (vs t .ec) (vs t .vid) (eqb-true (classAt g n vs t) 0 (not-false (eqb (classAt g n vs t) 0) (or-left b c r))),
+        not-false (vs t .clean) (or-right b c r),
+      )
+
+  none17 : (o : ℕ) → refusal17 g n vs o ≡ none → (highestOf n (copies vs) ≢ 2 ^ 64 - 1) × (oldCounter n vs o ≢ 0x7FFFFFFF)
+  unfolding refusal17
+  none17 o e =
+      let a : Bool = eqb (highestOf n (copies vs)) (2 ^ 64 - 1) in
+      let b : Bool = eqb (oldCounter n vs o) 0x7FFFFFFF in
+      let q = when-none (a || b) 17 e in
+      (eqb-false (highestOf n (copies vs)) (2 ^ 64 - 1) (or-left a b q), eqb-false (oldCounter n vs o) 0x7FFFFFFF (or-right a b q))
+
+  found : (x : ℕ × Copy) → mapped g n vs v l ≡ some x → InMap (records g n vs) v l × (chosen n (copies vs) v l ≡ some x)
+  unfolding mapped
+  found x e = go (isIn v l (entries g n vs)) refl e
+    where
+      go : (b : Bool) → isIn v l (entries g n vs) ≡ b → cond b (chosen n (copies vs) v l) none ≡ some x
+          → InMap (records g n vs) v l × (chosen n (copies vs) v l ≡ some x)
+      go true q e = (in-map-is g n vs v l q, e)
+      go false q e = none-some e
+
+  pub accepted : planOf g n vs v l t ≡ given p → Accepted g n vs v l t p
+  unfolding planOf
+  accepted e = go (mapped g n vs v l) refl (unless-given (refusal13 g n vs) (planFor g n vs t (mapped g n vs v l)) p e .1)
+    where
+      go : (y : Option (ℕ × Copy)) → mapped g n vs v l ≡ y → planFor g n vs t y ≡ given p → Accepted g n vs v l t p
+      go none q e = absurd (let z : _≡_ {A = ℕ} 0 1 = cc in omega arith)
+      go (some x) q e =
+          let a = unless-given (refusal15 g n vs (x .1)) _ p e in
+          let b = unless-given (refusal16 g n vs t) _ p (a .1) in
+          let c = unless-given (refusal17 g n vs (x .0)) _ p (b .1) in
+          let m = found x q in
+          let r15 = none15 (x .1) (a .0) in
+          let r16 = none16 (b .0) in
+          let r17 = none17 (x .0) (c .0) in
+          let is : given (makePlan g n vs t (x .0) (x .1)) ≡ given p = c .1 in
+          record {
+            old = x .0;
+            copy = x .1;
+            plan = cc;
+            is-chosen = m .1;
+            in-map = m .0;
+            is-sound = r15 .0;
+            is-right = r15 .1;
+            target-there = r16 .0;
+            target-free = r16 .1;
+            target-clean = r16 .2;
+            sequence-left = r17 .0;
+            counter-left = r17 .1;
+          }
