@@ -1,3 +1,6 @@
+pub mod Blocks
 pub mod Data
+pub mod Seen
 pub mod Accepted
 pub mod Good
+pub mod Bounds

@@ -24,39 +24,9 @@ use Rattle.plan.specs.declared.Plan.{Plan}
 use Rattle.plan.specs.Write.{Write, store, erase, nothing, appliedWhole, appliedCut, erasedIn, planGeometry, dataSteps, stepCount, pebStart, unitBytes, writeAfter}
 use Rattle.plan.specs.Step.{stepRules, runnable, stepWrite, oneOn, Progress, on, done, stepAnswer, Stepping, stepping, stepCut}
 use Rattle.powercut.specs.Calls.{Left, planLeft, nextStep, oneStep, afterSteps}
-use Rattle.base.proofs.Stores.{length-put, put-before, put-behind, part-put-in, put-all, part-take}
+use Rattle.base.proofs.Stores.{put-all, part-take}
+use Rattle.plan.proofs.Blocks.{room, peb-length, put-length, put-here, put-else}
 use Rattle.powercut.proofs.Pebs.{vid-64, ec-64, length-erased, erased-all, Pair, Fits, unitOf, step, steps, unit-within}
-
--- ---- PEBs of an image
-
-module _ (g : Geometry) (n : ℕ) (image : List ℕ) (len : length image ≡ n * g .«peb_size») where
-  pub room : (i : ℕ) → i < n → pebStart g i + g .«peb_size» ≤ length image
-  room i h = omega (arith, len, mul-le-mul-right (g .«peb_size») h)
-
-  pub peb-length : (i : ℕ) → i < n → length (pebAt g image i) ≡ g .«peb_size»
-  peb-length i h = length-part (pebStart g i) (g .«peb_size») image (room i h)
-
-  -- a store within PEB i
-  module _ (i : ℕ) (i<n : i < n) (a : ℕ) (bs : List ℕ) (fits : a + length bs ≤ g .«peb_size») where
-    in-room : pebStart g i + a + length bs ≤ length image
-    in-room = omega (arith, room i i<n)
-
-    pub put-length : length (put (pebStart g i + a) bs image) ≡ length image
-    put-length = length-put (pebStart g i + a) bs image in-room
-
-    pub put-here : pebAt g (put (pebStart g i + a) bs image) i ≡ put a bs (pebAt g image i)
-    put-here = part-put-in (pebStart g i) (g .«peb_size») a bs image fits (room i i<n)
-
-    pub put-else : (j : ℕ) → j ≢ i → pebAt g (put (pebStart g i + a) bs image) j ≡ pebAt g image j
-    put-else j ne = go (decLt j i)
-      where
-        go : Dec (j < i) → pebAt g (put (pebStart g i + a) bs image) j ≡ pebAt g image j
-        go (yes k) =
-            put-before (pebStart g i + a) bs image in-room (pebStart g j) (g .«peb_size») (omega (arith, mul-le-mul-right (g .«peb_size») k))
-        go (no k) =
-            let q : i < j = omega arith in
-            ap (take (g .«peb_size»))
-            (put-behind (pebStart g i + a) bs image in-room (pebStart g j) (omega (arith, mul-le-mul-right (g .«peb_size») q)))
 
 -- ---- a plan's writes on the image
 

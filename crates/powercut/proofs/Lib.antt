@@ -1,6 +1,5 @@
 pub mod Pebs
 pub mod Images
 pub mod Runs
-pub mod Seen
 pub mod Stage
 pub mod Look

@@ -29,7 +29,7 @@ use Rattle.report.proofs.First.{none-some}
 use Rattle.plan.specs.declared.Plan.{Plan}
 use Rattle.powercut.specs.Premise.{unlike}
 use Rattle.powercut.proofs.Stage.{Ready, Stopped, torn, half, whole, isWhole}
-use Rattle.powercut.proofs.Seen.{ec-written, ec-torn, vid-written, vid-torn, vid-erased, Read, same-header}
+use Rattle.plan.proofs.Seen.{ec-written, ec-torn, vid-written, vid-torn, vid-erased, Read, same-header}
 
 -- what a plan's headers have to do with the copy that it moves; ref is the image sequence that refusal 7 compares with
 pub record Good (g : Geometry) (ref : Option ℕ) (old : Copy) (p : Plan) : Type 0 where

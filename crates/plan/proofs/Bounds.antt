@@ -1,0 +1,228 @@
+-- What the bytes of an image leave to the numbers of its views. Assumes nothing.
+use mathlib.Core.Path.{_≡_, refl, sym, _∙_, ap, subst}
+use mathlib.Core.Logic.{_≢_, _⊎_, inl, inr, ⊎-elim}
+use mathlib.Core.Bool.{Bool, true, false, not, _&&_, _||_, cond}
+use mathlib.Core.Option.{Option, none, some}
+use mathlib.Core.List.{List, [], _∷_}
+use Prim.Native.Nat.{ℕ, suc, _+_, _-_, _*_, _%_, _^_, _≤_, _<_}
+use native.Mathlib.Omega.{arith}
+use native.Mathlib.Nat.{sub-zero}
+use lib.Dec.{eqb, leb, lit<}
+use borrow.Author.Tests.{eqb-true, eq-eqb, leb-true}
+use lib.ListN.{length, take, drop, getD, length-take, length-drop}
+use Rattle.base.specs.Answers.{allOf, mapO}
+use Rattle.base.specs.Below.{firstBelow}
+use Rattle.base.specs.Lists.{part, eqs, Bytes}
+use Rattle.base.proofs.Answers.{clash, and-left, and-right, each-holds, cond-yes}
+use Rattle.base.proofs.Below.{first-hit}
+use Rattle.base.proofs.Highest.{max-most}
+use Rattle.base.proofs.Lists.{length-part, bytes-take, bytes-drop, bytes-part}
+use Rattle.crc32.specs.Crc.{crcOf}
+use Rattle.geometry.specs.Geometry.{roundUp}
+use Rattle.geometry.specs.Placed.{Placed}
+use Rattle.geometry.specs.declared.Geometry.{Geometry}
+use Rattle.header.specs.Fields.{crcMatches, Verdict, good, bad, newer, judged}
+use Rattle.header.specs.Ec.{ecMagic, ecFields, ecRules, judgeEc, readEc, EcFits}
+use Rattle.header.specs.Vid.{implies, layoutVolume, vidMagic, vidFields, vidRules, layoutRule, judgeVid, readVid, VidFits}
+use Rattle.header.specs.declared.EcHeader.{EcHeader}
+use Rattle.header.specs.declared.VidHeader.{VidHeader}
+use Rattle.header.proofs.RoundTrip.{ec-fields-are, ec-read-fits, vid-fields-are, vid-read-fits}
+use Rattle.volume_table.specs.Table.{recordAt}
+use Rattle.volume_table.specs.Record.{recordOf}
+use Rattle.volume_table.specs.declared.VolumeRecord.{VolumeRecord}
+use Rattle.volume_table.proofs.Good.{good-pads}
+use Rattle.report.specs.View.{Copy, copyOf, vidPart, viewOf, pebAt, Views, viewsOf, ecs, copies}
+use Rattle.report.specs.Scan.{imageSeq}
+use Rattle.report.specs.Choice.{chosen}
+use Rattle.report.specs.Volumes.{faceOf, facesOf, tableLeb, recordFor, reservedOf, contentOf, orZero}
+use Rattle.report.specs.Report.{counterOr, meanOf, highestOf, sequenceOr0, faces, places, records, refusal}
+use Rattle.report.proofs.Choice.{chosen-at}
+use Rattle.report.proofs.Facts.{parts}
+use Rattle.report.proofs.Mean.{mean-between}
+use Rattle.report.proofs.Tables.{no-misfit, entry-fits, record-good, table-good}
+use Rattle.plan.specs.Headers.{isStatic, dataEnd, newSize, oldCounter}
+use Rattle.plan.proofs.Blocks.{peb-length}
+use Rattle.plan.proofs.Data.{end-within, round-within}
+use Rattle.plan.proofs.Seen.{Read, copy-read, ec-seen}
+use Rattle.plan.proofs.Accepted.{InMap}
+
+-- ---- a good header meets its rules
+
+module _ {A : Type 0} where
+  not-good : {x : Verdict A} {h : A} → x ≡ bad → x ≡ good h → ⊥
+  not-good p q = let z : _≡_ {A = ℕ} 0 1 = cc in omega arith
+
+  rules-hold : (v : ℕ) (rules : List Bool) (x h : A) → judged v rules x ≡ good h → allOf rules ≡ true
+  rules-hold v rules x h e = go (eqb v 1) (eqb v 0) (allOf rules) refl e
+    where
+      go : (one zero r : Bool) → allOf rules ≡ r → cond one (cond r (good x) bad) (cond zero bad newer) ≡ good h → allOf rules ≡ true
+      go true zero true q e = q
+      go true zero false q e = absurd (not-good refl e)
+      go false true r q e = absurd (not-good refl e)
+      go false false r q e = absurd (let z : _≡_ {A = ℕ} 0 1 = cc in omega arith)
+
+vid-rules : (size : ℕ) (h : VidHeader) (s : List ℕ) → vidFields s ≡ h → readVid size s ≡ good h → allOf (vidRules size h) ≡ true
+unfolding readVid judgeVid
+vid-rules size h s f e =
+    let t = cond-yes (eqs (part 0 4 s) vidMagic && crcMatches s) (not-good refl) e .1 in
+    subst (λ (x : VidHeader). allOf (vidRules size x) ≡ true) f (rules-hold (vidFields s .version) (vidRules size (vidFields s)) (vidFields s) h t)
+
+ec-rules : (h : EcHeader) (s : List ℕ) → ecFields s ≡ h → readEc s ≡ good h → h .counter ≤ 0x7FFFFFFF
+unfolding readEc judgeEc ecRules
+ec-rules h s f e =
+    let t = cond-yes (eqs (part 0 4 s) ecMagic && crcMatches s) (not-good refl) e .1 in
+    let r = rules-hold (ecFields s .version) (ecRules (ecFields s)) (ecFields s) h t in
+    subst (λ (x : EcHeader). x .counter ≤ 0x7FFFFFFF) f (leb-true (ecFields s .counter) 0x7FFFFFFF (each-holds (ecRules (ecFields s)) r 0))
+
+-- ---- the numbers in an image
+
+module _ (g : Geometry) (P : Placed g) (n : ℕ) (image : List ℕ) (bytes : Bytes image) (len : length image ≡ n * g .«peb_size») where
+  abbrev vs : Views
+  vs = viewsOf g image
+
+  abbrev peb : ℕ → List ℕ
+  peb i = pebAt g image i
+
+  peb-bytes : (i : ℕ) → Bytes (peb i)
+  peb-bytes i = bytes-part (i * g .«peb_size») (g .«peb_size») image bytes
+
+  vid-long : (i : ℕ) → i < n → 64 ≤ length (vidPart g (peb i))
+  vid-long i h =
+      let e = peb-length g n image len i h in
+      let l = length-part (g .«vid_start») 64 (peb i) (omega (arith, P .data-after-vid, P .leb-fills)) in
+      omega arith
+
+  ec-long : (i : ℕ) → i < n → 64 ≤ length (take 64 (peb i))
+  ec-long i h =
+      let e = peb-length g n image len i h in
+      let l = length-part 0 64 (peb i) (omega (arith, P .vid-after-ec, P .data-after-vid, P .leb-fills)) in
+      omega arith
+
+  -- a copy
+  module _ (i : ℕ) (i<n : i < n) (c : Copy) (is : copies vs i ≡ some c) where
+    pub read : Read g (peb i) c
+    read = copy-read g (peb i) c is
+
+    fields : vidFields (vidPart g (peb i)) ≡ c .header
+    fields = vid-fields-are (g .«leb_size») (c .header) (vidPart g (peb i)) (bytes-part (g .«vid_start») 64 (peb i) (peb-bytes i)) (vid-long i i<n) (read .reads)
+
+    pub copy-widths : VidFits (c .header)
+    copy-widths = subst VidFits fields (vid-read-fits (vidPart g (peb i)) (bytes-part (g .«vid_start») 64 (peb i) (peb-bytes i)) (vid-long i i<n))
+
+    pub copy-rules : allOf (vidRules (g .«leb_size») (c .header)) ≡ true
+    copy-rules = vid-rules (g .«leb_size») (c .header) (vidPart g (peb i)) fields (read .reads)
+
+    body-is : c .body ≡ drop (g .«data_start») (peb i)
+    unfolding copyOf
+    body-is = ap (λ (x : Copy). x .body) (read .is)
+
+    pub body-long : length (c .body) ≡ g .«leb_size»
+    body-long = rw body-is (length-drop (g .«data_start») (peb i) ∙ omega (arith, peb-length g n image len i i<n, P .leb-fills))
+
+    pub body-bytes : Bytes (c .body)
+    body-bytes = rw body-is (bytes-drop (g .«data_start») (peb i) (peb-bytes i))
+
+    pub matches-is : c .matches ≡ eqb (crcOf (take (c .header .«data_size») (c .body))) (c .header .«data_crc»)
+    unfolding copyOf
+    matches-is = rw body-is (ap (λ (x : Copy). x .matches) (read .is))
+
+  -- a good EC header
+  module _ (i : ℕ) (i<n : i < n) (h : EcHeader) (is : ecs vs i ≡ some h) where
+    ec-fields : ecFields (take 64 (peb i)) ≡ h
+    ec-fields = ec-fields-are h (take 64 (peb i)) (bytes-take 64 (peb i) (peb-bytes i)) (ec-long i i<n) (ec-seen g (peb i) h is)
+
+    pub ec-widths : EcFits h
+    ec-widths = subst EcFits ec-fields (ec-read-fits (take 64 (peb i)) (bytes-take 64 (peb i) (peb-bytes i)) (ec-long i i<n))
+
+    pub counter-most : h .counter ≤ 0x7FFFFFFF
+    counter-most = ec-rules h (take 64 (peb i)) ec-fields (ec-seen g (peb i) h is)
+
+  -- the highest sequence
+  sequence-most : (i : ℕ) → i < n → (x : Option Copy) → copies vs i ≡ x → sequenceOr0 x ≤ 256 ^ 8 - 1
+  sequence-most i h none e = omega arith
+  sequence-most i h (some c) e = let w = copy-widths i h c e .sequence in omega arith
+
+  pub highest-most : highestOf n (copies vs) ≤ 256 ^ 8 - 1
+  unfolding highestOf
+  highest-most = max-most n (λ i. sequenceOr0 (copies vs i)) (256 ^ 8 - 1) (λ i h. sequence-most i h (copies vs i) refl)
+
+  -- where one EC header is good: the old PEB's counter, and the image sequence
+  module _ (t : ℕ) (t<n : t < n) (s : EcHeader) (is : ecs vs t ≡ some s) where
+    mean-most : meanOf n vs ≤ 0x7FFFFFFF
+    mean-most =
+        let r = mean-between n vs t s t<n is in
+        let b = r .1 in
+        omega (arith, r .3, counter-most (b .at) (b .below) (b .value) (b .is))
+
+    pub old-counter-most : (o : ℕ) → o < n → oldCounter n vs o ≤ 0x7FFFFFFF
+    unfolding oldCounter
+    old-counter-most o h = go (ecs vs o) refl
+      where
+        go : (x : Option EcHeader) → ecs vs o ≡ x → counterOr (meanOf n vs) x ≤ 0x7FFFFFFF
+        go none e = mean-most
+        go (some x) e = counter-most o h x e
+
+  pub image-small : orZero (imageSeq n vs) < 256 ^ 4
+  unfolding imageSeq
+  image-small = go (firstBelow n (ecs vs)) refl
+    where
+      go : (x : Option (ℕ × EcHeader)) → firstBelow n (ecs vs) ≡ x → orZero (mapO (λ (x : ℕ × EcHeader). x .1 .«image_seq») x) < 256 ^ 4
+      go none q = lit< tt
+      go (some x) q = let h = first-hit n (ecs vs) (x .0) (x .1) q in ec-widths (x .0) (h .0) (x .1) (h .1) .image-seq
+
+  -- ---- the rounded data size fits the LEB: by the table's rule on pads and refusal 12
+
+  module _ (ok : refusal g n vs ≡ none) (v l o : ℕ) (c : Copy) (is : chosen n (copies vs) v l ≡ some (o, c)) where
+    at-o : (o < n) × (copies vs o ≡ some c) × (c .header .volume ≡ v) × (c .header .lnum ≡ l)
+    at-o = chosen-at n (copies vs) v l o c is
+
+    rule : (k : ℕ) → getD (vidRules (g .«leb_size») (c .header)) k true ≡ true
+    rule = each-holds (vidRules (g .«leb_size») (c .header)) (copy-rules o (at-o .0) c (at-o .1))
+
+    layout-pad : c .header .volume ≡ layoutVolume → c .header .«data_pad» ≡ 0
+    unfolding vidRules layoutRule
+    layout-pad e = go (eqb (c .header .volume) layoutVolume) (eq-eqb (c .header .volume) layoutVolume e) (rule 9)
+      where
+        go : (b : Bool) → b ≡ true
+            → implies b (eqb (c .header .«vol_type») 1 && (eqb (c .header .compat) 5 && (eqb (c .header .«data_pad») 0 && leb (c .header .lnum) 1))) ≡ true
+            → c .header .«data_pad» ≡ 0
+        go true q h =
+            eqb-true (c .header .«data_pad») 0
+            (and-left (eqb (c .header .«data_pad») 0) (leb (c .header .lnum) 1)
+            (and-right (eqb (c .header .compat) 5) (eqb (c .header .«data_pad») 0 && leb (c .header .lnum) 1)
+            (and-right (eqb (c .header .«vol_type») 1) (eqb (c .header .compat) 5 && (eqb (c .header .«data_pad») 0 && leb (c .header .lnum) 1)) h)))
+        go false q h = clash refl q
+
+    is-face : faces g n vs v l ≡ some (faceOf g c)
+    unfolding facesOf
+    is-face = rw is
+
+    abbrev t : List ℕ
+    t = records g n vs
+
+    pad-units : InMap t v l → (g .«leb_size» - c .header .«data_pad») % g .unit ≡ 0
+    unfolding faceOf
+    pad-units (inr h) = rw (layout-pad (at-o .2 ∙ h .0), sub-zero) (P .unit-divides)
+    pad-units (inl h) = go (recordFor t v) refl (h .1)
+      where
+        go : (y : Option VolumeRecord) → recordFor t v ≡ y → l < reservedOf y → (g .«leb_size» - c .header .«data_pad») % g .unit ≡ 0
+        go none e k = absurd (omega arith)
+        go (some r) e k =
+            let none12 = no-misfit (tableLeb g n (faces g n vs)) t (faces g n vs) (places g n vs) (parts g n vs ok .none1112) in
+            let p : c .header .«data_pad» ≡ r .«data_pad» = entry-fits t (faces g n vs) none12 v l r (faceOf g c) (h .0) e k is-face .same-pad in
+            let q = record-good _ _ _ _ _ t (table-good g n vs ok) v r e in
+            rw (p, q .2) (good-pads (g .«leb_size») (g .unit) (recordAt t v) (q .1) (P .unit-divides))
+
+    pub size-fits : InMap t v l → newSize g c ≤ g .«leb_size» - c .header .«data_pad»
+    unfolding newSize vidRules
+    size-fits m = go (isStatic c)
+      where
+        top : ℕ
+        top = g .«leb_size» - c .header .«data_pad»
+
+        go : (b : Bool) → cond b (c .header .«data_size») (roundUp (g .unit) (dataEnd (take (cond b (c .header .«data_size») top) (c .body)))) ≤ top
+        go true = leb-true (c .header .«data_size») top (rule 6)
+        go false =
+            let q = end-within (take top (c .body)) in
+            let r = length-take top (c .body) in
+            round-within (g .unit) (dataEnd (take top (c .body))) top (P .unit-above) (pad-units m) (omega arith)
