@@ -1,3 +1,4 @@
+pub mod Outcomes
 pub mod Pebs
 pub mod Images
 pub mod Runs
