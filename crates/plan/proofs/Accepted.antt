@@ -88,19 +88,17 @@ below-next n cs i c h e =
 
 -- ---- the accepted move
 
-pub record Accepted (g : Geometry) (n : ℕ) (vs : Views) (v l t : ℕ) (p : Plan) : Type 0 where
-  pub old : ℕ
-  pub copy : Copy
-  pub plan : p ≡ makePlan g n vs t old copy
-  pub is-chosen : chosen n (copies vs) v l ≡ some (old, copy)
+-- of the copy c of the LEB, at PEB o
+pub record Accepted (g : Geometry) (n : ℕ) (vs : Views) (v l t o : ℕ) (c : Copy) : Type 0 where
+  pub is-chosen : chosen n (copies vs) v l ≡ some (o, c)
   pub in-map : InMap (records g n vs) v l
-  pub is-sound : sound copy ≡ true
-  pub is-right : not (isStatic copy) || copy .matches ≡ true
+  pub is-sound : sound c ≡ true
+  pub is-right : not (isStatic c) || c .matches ≡ true
   pub target-there : t < n
   pub target-free : Free (vs t .ec) (vs t .vid)
   pub target-clean : vs t .clean ≡ true
   pub sequence-left : highestOf n (copies vs) ≢ 2 ^ 64 - 1
-  pub counter-left : oldCounter n vs old ≢ 0x7FFFFFFF
+  pub counter-left : oldCounter n vs o ≢ 0x7FFFFFFF
 
 unless-given : (r : Option ℕ) (a : Answer Plan) (p : Plan) → unlessRefused r a ≡ given p → (r ≡ none) × (a ≡ given p)
 unless-given none a p e = (refl, e)
@@ -150,11 +148,15 @@ module _ (g : Geometry) (n : ℕ) (vs : Views) (v l t : ℕ) (p : Plan) where
       go true q e = (in-map-is g n vs v l q, e)
       go false q e = none-some e
 
-  pub accepted : planOf g n vs v l t ≡ given p → Accepted g n vs v l t p
+  -- an answer that is a plan is that of an accepted move
+  abbrev pub Planned : Type 0
+  Planned = (o : ℕ) × (c : Copy) × Accepted g n vs v l t o c × (p ≡ makePlan g n vs t o c)
+
+  pub accepted : planOf g n vs v l t ≡ given p → Planned
   unfolding planOf
   accepted e = go (mapped g n vs v l) refl (unless-given (refusal13 g n vs) (planFor g n vs t (mapped g n vs v l)) p e .1)
     where
-      go : (y : Option (ℕ × Copy)) → mapped g n vs v l ≡ y → planFor g n vs t y ≡ given p → Accepted g n vs v l t p
+      go : (y : Option (ℕ × Copy)) → mapped g n vs v l ≡ y → planFor g n vs t y ≡ given p → Planned
       go none q e = absurd (let z : _≡_ {A = ℕ} 0 1 = cc in omega arith)
       go (some x) q e =
           let a = unless-given (refusal15 g n vs (x .1)) _ p e in
@@ -164,18 +166,19 @@ module _ (g : Geometry) (n : ℕ) (vs : Views) (v l t : ℕ) (p : Plan) where
           let r15 = none15 (x .1) (a .0) in
           let r16 = none16 (b .0) in
           let r17 = none17 (x .0) (c .0) in
-          let is : given (makePlan g n vs t (x .0) (x .1)) ≡ given p = c .1 in
-          record {
-            old = x .0;
-            copy = x .1;
-            plan = cc;
-            is-chosen = m .1;
-            in-map = m .0;
-            is-sound = r15 .0;
-            is-right = r15 .1;
-            target-there = r16 .0;
-            target-free = r16 .1;
-            target-clean = r16 .2;
-            sequence-left = r17 .0;
-            counter-left = r17 .1;
-          }
+          let is : given (makePlan g n vs t (x .0) (x .1)) ≡ given p = c .1 in (
+            x .0,
+            x .1,
+            record {
+              is-chosen = m .1;
+              in-map = m .0;
+              is-sound = r15 .0;
+              is-right = r15 .1;
+              target-there = r16 .0;
+              target-free = r16 .1;
+              target-clean = r16 .2;
+              sequence-left = r17 .0;
+              counter-left = r17 .1;
+            },
+            cc,
+          )

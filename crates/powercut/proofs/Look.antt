@@ -27,34 +27,14 @@ use Rattle.report.specs.Volumes.{contentOf, faceOf}
 use Rattle.report.proofs.Choice.{chosen-at}
 use Rattle.report.proofs.First.{none-some}
 use Rattle.plan.specs.declared.Plan.{Plan}
+use Rattle.plan.proofs.Good.{Good}
 use Rattle.powercut.specs.Premise.{unlike}
 use Rattle.powercut.proofs.Stage.{Ready, Stopped, torn, half, whole, isWhole}
 use Rattle.plan.proofs.Seen.{ec-written, ec-torn, vid-written, vid-torn, vid-erased, Read, same-header}
 
--- what a plan's headers have to do with the copy that it moves; ref is the image sequence that refusal 7 compares with
-pub record Good (g : Geometry) (ref : Option ℕ) (old : Copy) (p : Plan) : Type 0 where
-  pub vid-good : judgeVid (g .«leb_size») (p .vid) ≡ good (p .vid)
-  pub vid-fits : VidFits (p .vid)
-  pub ec-good : judgeEc (p .ec) ≡ good (p .ec)
-  pub ec-fits : EcFits (p .ec)
-  pub ec-stands : ecRefusal g ref (ecGood (p .ec)) ≡ none
-  pub same-type : p .vid .«vol_type» ≡ old .header .«vol_type»
-  pub same-pad : p .vid .«data_pad» ≡ old .header .«data_pad»
-  pub same-used : p .vid .«used_lebs» ≡ old .header .«used_lebs»
-  pub data-fits : p .vid .«data_size» ≤ g .«leb_size»
-  pub no-data : p .vid .«copy_flag» ≡ 0 → p .vid .«data_size» ≡ 0
-  pub summed : (p .vid .«copy_flag» ≡ 0) ⊎ (p .vid .«data_crc» ≡ crcOf (take (p .vid .«data_size») (old .body)))
-  pub old-sound : sound old ≡ true
-  pub old-right : not (eqb (old .header .«vol_type») 2) || old .matches ≡ true
-  pub new-right : not (eqb (p .vid .«vol_type») 2) || eqb (crcOf (take (p .vid .«data_size») (old .body))) (p .vid .«data_crc») ≡ true
-  -- what is stored, with 0xFF behind it, has the content
-  pub content : (b : List ℕ) → take (p .vid .«data_size») b ≡ take (p .vid .«data_size») (old .body)
-      → drop (p .vid .«data_size») b ≡ replicate (g .«leb_size» - p .vid .«data_size») 0xFF
-      → take (cond (eqb (p .vid .«vol_type») 2) (p .vid .«data_size») (g .«leb_size» - p .vid .«data_pad»)) b ≡ contentOf g old
-
 -- T and O are the bytes of the two PEBs at first, X and Y those in the stopped image
 module _ (g : Geometry) (n : ℕ) (vs vs′ : Views) (v l o t : ℕ) (old : Copy) (p : Plan)
-    (b : Ready n vs v l o t old (p .vid)) (good : Good g (imageSeq n vs) old p) (T O X Y : List ℕ)
+    (b : Ready n vs v l o t old (p .vid)) (good : Good g (imageSeq n vs) old (p .vid) (p .ec)) (T O X Y : List ℕ)
     (blank-T : drop (g .«data_start» + p .vid .«data_size») T ≡ replicate (g .«leb_size» - p .vid .«data_size») 0xFF)
     (read-O : Read g O old) (is-o : vs o ≡ viewOf g O) (is-t′ : vs′ t ≡ viewOf g X) (is-o′ : vs′ o ≡ viewOf g Y)
     (tail-X : drop (g .«data_start» + p .vid .«data_size») X ≡ drop (g .«data_start» + p .vid .«data_size») T)
