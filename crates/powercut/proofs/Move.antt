@@ -42,7 +42,7 @@ use Rattle.plan.proofs.Seen.{Read, ec-written, vid-erased}
 use Rattle.plan.proofs.Accepted.{Accepted, accepted, in-map-mappable, below-next}
 use Rattle.plan.proofs.Good.{Good, Moves, good-headers}
 use Rattle.plan.proofs.Bounds.{read, copy-widths, copy-rules, body-long, body-bytes, matches-is, highest-most, old-counter-most, image-small, size-fits}
-use Rattle.powercut.specs.Calls.{Course, toEnd, toStop, afterSteps, imageLeft}
+use Rattle.powercut.specs.Calls.{Stop, Course, toEnd, toStop, afterSteps, imageLeft}
 use Rattle.powercut.specs.Book.{ecAt, vidAt, runAt, headerWhole, runWhole, isWritten}
 use Rattle.powercut.specs.Premise.{premiseRules}
 use Rattle.powercut.proofs.Outcomes.{Ruled, slip-ruled, Chip, chip-placed, peb-above, count-is, image-ruled}
@@ -146,3 +146,193 @@ module _ (slip : List ℕ) (g : Geometry) (n : ℕ) (chip : Chip slip g n) (imag
         runnable-by p g i n rules geometry-is (image-ruled slip g n chip i len) (count-is slip g n chip i len) (at-o .0) (a .target-there) apart
         (goods .vid-good) (goods .ec-good);
   }
+
+  -- ---- the two PEBs at first
+
+  abbrev T : List ℕ
+  T = pebAt g image (p .target)
+
+  abbrev O : List ℕ
+  O = pebAt g image (p .old)
+
+  pub lenT : length T ≡ g .«peb_size»
+  lenT = peb-length g n image (f .long) (p .target) (runs .target-there)
+
+  pub lenO : length O ≡ g .«peb_size»
+  lenO = peb-length g n image (f .long) (p .old) (runs .old-there)
+
+  abbrev d : ℕ
+  d = p .vid .«data_size»
+
+  read-O : Read g O c
+  unfolding makePlan
+  read-O = read g P n image (f .bytes) (f .long) o (at-o .0) c (at-o .1)
+
+  o-before : ecRefusal g (imageSeq n vs) (viewOf g O .ec) ≡ none
+  o-before = none5678-at g n vs (parts g n vs (f .unrefused) .none5678) (p .old) (runs .old-there) .0
+
+  clean-T : allFF (drop 64 T) ≡ true
+  unfolding makePlan viewOf
+  clean-T = a .target-clean
+
+  blank-T : drop (g .«data_start» + d) T ≡ replicate (g .«leb_size» - d) 0xFF
+  blank-T =
+      let s = goods .data-fits in
+      let e : g .«data_start» + d ≡ 64 + (g .«data_start» + d - 64) = omega (arith, P .vid-after-ec, P .data-after-vid) in
+      let m : length (drop 64 T) - (g .«data_start» + d - 64) ≡ g .«leb_size» - d =
+      rw length-drop (omega (arith, lenT, P .vid-after-ec, P .data-after-vid, P .leb-fills)) in
+      ap (λ i. drop i T) e ∙ sym (drop-drop (g .«data_start» + d - 64) 64 T)
+      ∙ ap (drop (g .«data_start» + d - 64)) (all-ff (drop 64 T) clean-T)
+      ∙ drop-replicate 0xFF (g .«data_start» + d - 64) (length (drop 64 T)) ∙ ap (λ i. replicate i 0xFF) m
+
+  -- the bytes that the place book and the premise look at
+  module _ (im : List ℕ) (i : ℕ) where
+    vid-at : vidAt p im i ≡ vidPart g (pebAt g im i)
+    unfolding vidAt
+    vid-at = rw geometry-is
+
+    ec-at : ecAt p im i ≡ take 64 (pebAt g im i)
+    unfolding ecAt
+    ec-at = rw geometry-is
+
+    run-at : runAt p im i ≡ part (g .«data_start») d (pebAt g im i)
+    unfolding runAt
+    run-at = rw geometry-is
+
+  -- ---- an image in which the two PEBs are x, and all else as it was
+
+  abbrev pub HaltsAt : Pair → Type 0
+  HaltsAt x = Halt g p (runs .fits) T O lenT lenO x
+
+  module _ (image′ : List ℕ) (x : Pair) (la : Lands g n p runs image x image′) (ha : HaltsAt x) where
+    abbrev vs′ : Views
+    vs′ = viewsOf g image′
+
+    abbrev X : List ℕ
+    X = x .target
+
+    abbrev Y : List ℕ
+    Y = x .old
+
+    peb-t : pebAt g image′ (p .target) ≡ X
+    peb-t = ap (λ (z : Pair). z .target) (la .pair)
+
+    peb-o : pebAt g image′ (p .old) ≡ Y
+    peb-o = ap (λ (z : Pair). z .old) (la .pair)
+
+    same-ec : vs′ (p .target) .ec ≡ vs (p .target) .ec
+    unfolding viewOf
+    same-ec = rw (peb-t, ha .within .same-ec)
+
+    keep : (st : Stopped g n vs vs′ (p .old) (p .target) c (p .vid)) → Keeps g n vs vs′ v l (p .target) (isWhole st)
+    keep st =
+        keeps g n vs vs′ v l (p .old) (p .target) c (p .vid) (f .unrefused) ready (λ i k nt nq. ap (viewOf g) (la .elsewhere i nq nt)) same-ec st
+
+    all-run : Stored g p (runs .fits) T O lenT lenO d X → part (g .«data_start») d X ≡ part (g .«data_start») d O
+    all-run s = s .run ∙ take-all d (part (g .«data_start») d O) (rw length-take (omega arith))
+
+    order : (Y ≡ O) ⊎ ((vidPart g X ≡ vidBytes (p .vid)) × (part (g .«data_start») d X ≡ part (g .«data_start») d O))
+    order = ⊎-elim (λ e. inl e) (λ s. inr (s .header, all-run s)) (ha .order)
+
+    -- a stopped move
+    pub kept-cut : allOf (premiseRules p image image′) ≡ true → Keeps g n vs vs′ v l (p .target) (headerWhole p image′ && runWhole p image image′)
+    unfolding premiseRules headerWhole runWhole
+    kept-cut pr =
+        let r : (k : ℕ) → getD (premiseRules p image image′) k true ≡ true = each-holds (premiseRules p image image′) pr in
+        let st =
+        stopped g n vs vs′ v l (p .old) (p .target) c p ready goods T O X Y blank-T read-O refl (ap (viewOf g) peb-t) (ap (viewOf g) peb-o)
+        (ha .within .same-tail) o-before order
+        (rw (vid-at image′ (p .target), peb-t) at (r 0))
+        (rw (vid-at image′ (p .target), run-at image′ (p .target), run-at image (p .old), peb-t) at (r 1))
+        (rw (ec-at image′ (p .old), ec-at image (p .old), peb-o) at (r 2))
+        (rw (vid-at image′ (p .old), vid-at image (p .old), peb-o) at (r 3)) in
+        rw (vid-at image′ (p .target), run-at image′ (p .target), run-at image (p .old), peb-t, ← (st .1)) (keep (st .0))
+
+    -- a move that is not cut
+    module _ (s : Stored g p (runs .fits) T O lenT lenO d X)
+        (y : Y ≡ put 0 (take (g .«peb_size») (ecBytes (p .ec))) (replicate (g .«peb_size») 0xFF)) where
+      ec-all : take (g .«peb_size») (ecBytes (p .ec)) ≡ ecBytes (p .ec)
+      ec-all = take-all (g .«peb_size») (ecBytes (p .ec)) (omega (arith, ec-64 (p .ec), P .vid-after-ec, P .data-after-vid, P .leb-fills))
+
+      Y-is : Y ≡ put 0 (ecBytes (p .ec)) (replicate (g .«peb_size») 0xFF)
+      Y-is = y ∙ ap (λ (b : List ℕ). put 0 b (replicate (g .«peb_size») 0xFF)) ec-all
+
+      end-ec : take 64 Y ≡ ecBytes (p .ec)
+      end-ec = ap (take 64) Y-is ∙ take-at (ecBytes (p .ec)) _ 64 (ec-64 (p .ec))
+
+      end-vid : vidPart g Y ≡ replicate 64 0xFF
+      end-vid =
+          let e = ec-64 (p .ec) in
+          ap (vidPart g) Y-is
+          ∙ ap (take 64)
+          (put-behind 0 (ecBytes (p .ec)) (replicate (g .«peb_size») 0xFF)
+          (rw length-replicate (omega (arith, P .vid-after-ec, P .data-after-vid, P .leb-fills))) (g .«vid_start») (omega (arith, P .vid-after-ec))
+          ∙ drop-replicate 0xFF (g .«vid_start») (g .«peb_size»))
+          ∙ take-replicate 0xFF 64 (g .«peb_size» - g .«vid_start») (omega (arith, P .data-after-vid, P .leb-fills))
+
+      pub kept-end : Keeps g n vs vs′ v l (p .target) true
+      kept-end =
+          let st =
+          finished g n vs vs′ v l (p .old) (p .target) c p ready goods T O X Y blank-T read-O refl (ap (viewOf g) peb-t) (ap (viewOf g) peb-o)
+          (ha .within .same-tail) o-before (s .header) (all-run s) end-ec end-vid in
+          subst (Keeps g n vs vs′ v l (p .target)) (st .1) (keep (st .0))
+
+      pub end-free : classAt g n vs′ (p .old) ≡ 0
+      unfolding classAt
+      end-free =
+          let e : vs′ (p .old) .ec ≡ ecGood (p .ec) = rw peb-o (ec-written g Y (p .ec) (goods .ec-fits) (goods .ec-good) end-ec) in
+          let w : vs′ (p .old) .vid ≡ vidBlank = rw peb-o (vid-erased g Y end-vid) in
+          rw (e, w)
+
+    -- the map with the place written
+    pub map-after : (w : Bool) → Keeps g n vs vs′ v l (p .target) w
+        → entries g n vs′ ≡ cond w (rebook v l (p .target) (entries g n vs)) (entries g n vs)
+    unfolding entries placesOf
+    map-after w k = ap₂ mapOf (ap (tableRecords g n) (k .same-faces)) (k .new-places) ∙ go w
+      where
+        go : (w : Bool)
+            → mapOf (records g n vs) (cond w (rebooked v l (p .target) (places g n vs)) (places g n vs))
+            ≡ cond w (rebook v l (p .target) (mapOf (records g n vs) (places g n vs))) (mapOf (records g n vs) (places g n vs))
+        go true = map-moved v l (p .target) (places g n vs) (p .old) (rw (ready .is-chosen)) (records g n vs)
+        go false = refl
+
+  -- ---- what a course leaves
+
+  abbrev pub Ends : Course → Views → Type 0
+  Ends (toEnd k) vs′ = classAt g n vs′ (p .old) ≡ 0
+  Ends (toStop s) vs′ = Unit {0}
+
+  pub record Result (course : Course) : Type 0 where
+    pub x : Pair
+    pub lands : Lands g n p runs image x (imageLeft p image course)
+    pub kept : Keeps g n vs (viewsOf g (imageLeft p image course)) v l (p .target) (isWritten p image course)
+    pub new-map :
+        entries g n (viewsOf g (imageLeft p image course)) ≡ cond (isWritten p image course) (rebook v l (p .target) (entries g n vs)) (entries g n vs)
+    pub ends : Ends course (viewsOf g (imageLeft p image course))
+
+  abbrev start : Pair
+  start = pair g n p runs image
+
+  pub at-end : (k : ℕ) → Result (toEnd k)
+  unfolding imageLeft isWritten stepCount
+  at-end k =
+      let m : ℕ = 3 + dataSteps p in
+      let x : Pair = steps g p start m in
+      let image′ : List ℕ = afterSteps p image (stepCount p + k) .image in
+      let la : Lands g n p runs image x image′ =
+      rw (further g p (runs .fits) T O lenT lenO k) at (ran g n p runs image (f .long) (m + k) .lands) in
+      let w = whole-target g p (runs .fits) T O lenT lenO in
+      let ha : HaltsAt x = record { within = w .0; order = inr (w .1) } in
+      let y = whole-old g p (runs .fits) T O lenT lenO in
+      let kp = kept-end image′ x la ha (w .1) y in
+      record { x = x; lands = la; kept = kp; new-map = map-after image′ x la ha true kp; ends = end-free image′ x la ha (w .1) y }
+
+  pub at-stop : (s : Stop) → allOf (premiseRules p image (imageLeft p image (toStop s))) ≡ true → Result (toStop s)
+  unfolding imageLeft isWritten
+  at-stop s pr =
+      let x : Pair = step g p (s .before) (s .stored) (s .erased) (steps g p start (s .before)) in
+      let image′ : List ℕ = imageLeft p image (toStop s) in
+      let la : Lands g n p runs image x image′ = cut-ran g n p runs image (f .long) (s .before) (s .stored) (s .erased) in
+      let ha : HaltsAt x = cut-halts g p (runs .fits) T O lenT lenO (s .before) (s .stored) (s .erased) in
+      let kp = kept-cut image′ x la ha pr in
+      record { x = x; lands = la; kept = kp; new-map = map-after image′ x la ha (headerWhole p image′ && runWhole p image image′) kp; ends = tt }
