@@ -6,3 +6,4 @@ pub mod Octets
 pub mod Stage
 pub mod Look
 pub mod Move
+pub mod Theorem

@@ -1,0 +1,177 @@
+-- No power cut loses a block: demand 3. Assumes nothing.
+use mathlib.Core.Path.{_≡_, refl, sym, _∙_, ap, subst}
+use mathlib.Core.Bool.{Bool, true, false, cond}
+use mathlib.Core.Option.{Option, none, some}
+use mathlib.Core.List.{List, [], _∷_}
+use Prim.Native.Nat.{ℕ, _*_}
+use native.Mathlib.Omega.{arith}
+use lib.ListN.{length}
+use Rattle.base.specs.Answers.{Answer, given, refused, mapO}
+use Rattle.base.specs.Lists.{table, Bytes}
+use Rattle.geometry.specs.declared.Geometry.{Geometry}
+use Rattle.report.specs.View.{Copy, Views, viewsOf}
+use Rattle.report.specs.Volumes.{Face, Faces, tableLeb, tableRecords, tableMark, stateOf}
+use Rattle.report.specs.Report.{faces, stateAt, entries}
+use Rattle.report.specs.Attach.{Outcome, whole, stateWords}
+use Rattle.report.proofs.Map.{rebook}
+use Rattle.plan.specs.declared.Plan.{Plan}
+use Rattle.plan.specs.Begin.{makePlan, planOf, beginOn}
+use Rattle.plan.proofs.Accepted.{Accepted, accepted}
+use Rattle.powercut.specs.Outcomes.{outcomeOf, attaches, Table, tableIn, statesIn, mapIn, contentIn, classIn}
+use Rattle.powercut.specs.Calls.{Course, toEnd, toStop, Call, imageLeft}
+use Rattle.powercut.specs.Book.{isWritten, Booked, callLeft, begun, afterCall, atFirst, afterCalls, Each}
+use Rattle.powercut.specs.Premise.{premiseOf, Premise}
+use Rattle.powercut.specs.Claim.{Freed, Moved, CallDone, Done, Kept, Claim}
+use Rattle.powercut.proofs.Outcomes.{Chip, peb-above, attached, Attached, has-attached}
+use Rattle.powercut.proofs.Runs.{same-byte, all-go-on, all-done}
+use Rattle.powercut.proofs.Octets.{left-octets}
+use Rattle.powercut.proofs.Move.{Fine, runs, Ends, Result, at-end, at-stop}
+
+module _ (slip : List ℕ) (g : Geometry) (n : ℕ) (chip : Chip slip g n) where
+  outcome-is : (image : List ℕ) → Fine g n image → outcomeOf slip image ≡ whole g n (viewsOf g image)
+  outcome-is image f = attached slip g n chip image (f .long) (f .unrefused)
+
+  -- the map is the place book
+  abbrev InBook : Booked → Type 0
+  InBook x = entries g n (viewsOf g (x .image)) ≡ x .book
+
+  -- from one image and book to another
+  record Goes (x x′ : Booked) : Type 0 where
+    fine : Fine g n (x′ .image)
+    same-faces : faces g n (viewsOf g (x′ .image)) ≡ faces g n (viewsOf g (x .image))
+    in-book : InBook x′
+
+  -- ---- an accepted call
+
+  module _ (x : Booked) (c : Call) (f : Fine g n (x .image)) (bk : InBook x) (o : ℕ) (cp : Copy)
+      (a : Accepted g n (viewsOf g (x .image)) (c .volume) (c .lnum) (c .target) o cp) where
+    abbrev vs : Views
+    vs = viewsOf g (x .image)
+
+    abbrev p : Plan
+    p = makePlan g n vs (c .target) o cp
+
+    abbrev left : Course → List ℕ
+    left course = imageLeft p (x .image) course
+
+    result : (course : Course) → premiseOf (x .image) course (left course) (given p) ≡ true
+        → Result slip g n chip (x .image) f (c .volume) (c .lnum) (c .target) o cp a course
+    result (toEnd k) pr = at-end slip g n chip (x .image) f (c .volume) (c .lnum) (c .target) o cp a k
+    result (toStop s) pr = at-stop slip g n chip (x .image) f (c .volume) (c .lnum) (c .target) o cp a s pr
+
+    module _ (course : Course) (r : Result slip g n chip (x .image) f (c .volume) (c .lnum) (c .target) o cp a course) where
+      fine-left : Fine g n (left course)
+      fine-left = record {
+        long = r .lands .long ∙ f .long;
+        bytes = left-octets p (x .image) (f .bytes) course;
+        unrefused = r .kept .attaches;
+      }
+
+      in-book-left : entries g n (viewsOf g (left course))
+          ≡ cond (isWritten p (x .image) course) (rebook (c .volume) (c .lnum) (c .target) (x .book)) (x .book)
+      unfolding makePlan
+      in-book-left = rw (← bk) (r .new-map)
+
+      freed : Freed slip p course (left course)
+      freed = go course (r .ends) (outcome-is (left course) fine-left)
+        where
+          go : (k : Course) → Ends slip g n chip (x .image) f (c .volume) (c .lnum) (c .target) o cp a k (viewsOf g (left course))
+              → outcomeOf slip (left course) ≡ whole g n (viewsOf g (left course)) → Freed slip p k (left course)
+          go (toEnd k) e q = rw (q, e)
+          go (toStop s) e q = tt
+
+      moved : Moved slip p course (x .image) (left course)
+      unfolding makePlan
+      moved =
+          let R = runs slip g n chip (x .image) f (c .volume) (c .lnum) (c .target) o cp a in
+          record {
+            same-length = r .lands .long;
+            elsewhere = same-byte g n p R (x .image) (left course) (r .x) (f .long) (peb-above slip g n chip) (r .lands);
+            steps = record { go-on = all-go-on g n p R (x .image) (f .long); are-done = all-done g n p R (x .image) (f .long) };
+            freed = freed;
+          }
+
+    accepted-call : premiseOf (x .image) (c .course) (left (c .course)) (given p) ≡ true
+        → Goes x (callLeft x c (given p)) × Moved slip p (c .course) (x .image) (left (c .course))
+    unfolding callLeft
+    accepted-call pr =
+        let r = result (c .course) pr in
+        (record { fine = fine-left (c .course) r; same-faces = r .kept .same-faces; in-book = in-book-left (c .course) r }, moved (c .course) r)
+
+  -- ---- any call
+
+  one-call : (x : Booked) (c : Call) → Fine g n (x .image) → InBook x → Premise slip (x .image) c (afterCall slip x c .image)
+      → Goes x (afterCall slip x c) × Done slip (x .image) c (afterCall slip x c .image)
+  unfolding afterCall Premise Done callLeft begun
+  one-call x c f bk pr = by (begun slip (x .image) c) refl pr
+    where
+      vs : Views
+      vs = viewsOf g (x .image)
+
+      by : (y : Answer Plan) → begun slip (x .image) c ≡ y → premiseOf (x .image) (c .course) (callLeft x c y .image) y ≡ true
+          → Goes x (callLeft x c y) × CallDone slip (x .image) (c .course) (callLeft x c y .image) y
+      by (refused k q) e pr = (record { fine = f; same-faces = refl; in-book = bk }, refl)
+      by (given p) e pr =
+          let is : planOf g n vs (c .volume) (c .lnum) (c .target) ≡ given p = rw (outcome-is (x .image) f) at e in
+          let a = accepted g n vs (c .volume) (c .lnum) (c .target) p is in
+          subst
+          (λ (q : Plan). premiseOf (x .image) (c .course) (imageLeft q (x .image) (c .course)) (given q) ≡ true
+          → Goes x (callLeft x c (given q)) × Moved slip q (c .course) (x .image) (imageLeft q (x .image) (c .course)))
+          (sym (a .3)) (accepted-call x c f bk (a .0) (a .1) (a .2)) pr
+
+  -- ---- the list
+
+  all-calls : (calls : List Call) (x : Booked) → Fine g n (x .image) → InBook x → Each slip (Premise slip) x calls
+      → Goes x (afterCalls slip x calls) × Each slip (Done slip) x calls
+  all-calls [] x f bk pr = (record { fine = f; same-faces = refl; in-book = bk }, tt)
+  all-calls (c ∷ calls) x f bk pr =
+      let a = one-call x c f bk (pr .0) in
+      let b = all-calls calls (afterCall slip x c) (a .0 .fine) (a .0 .in-book) (pr .1) in
+      (record { fine = b .0 .fine; same-faces = b .0 .same-faces ∙ a .0 .same-faces; in-book = b .0 .in-book }, (a .1, b .1))
+
+  -- what the faces fix
+  module _ (vs vs′ : Views) (e : faces g n vs′ ≡ faces g n vs) where
+    table-same : tableIn (whole g n vs′) ≡ tableIn (whole g n vs)
+    table-same = ap (λ (fs : Faces). some (tableFrom fs)) e
+      where
+        tableFrom : Faces → Table
+        tableFrom fs = record { leb = tableLeb g n fs; records = tableRecords g n fs; mark = tableMark g n fs }
+
+    states-same : statesIn (whole g n vs′) ≡ statesIn (whole g n vs)
+    unfolding stateWords stateAt
+    states-same = ap (λ (fs : Faces). table (stateOf (tableRecords g n fs) fs) 0 128) e
+
+    content-same : (v l : ℕ) → contentIn (whole g n vs′) v l ≡ contentIn (whole g n vs) v l
+    content-same v l = ap (λ (fs : Faces). mapO (λ (f : Face). f .content) (fs v l)) e
+
+-- ---- the theorem
+
+-- for every slip, every image that attaches under it and every list of calls, if the premise holds of each stopped image by itself:
+-- after the list the image attaches, with the table, the states and the contents that it had at first; its map is the place book; each
+-- accepted move changed nothing outside its two blocks and, if it was not cut, ended with its old block free; a refused one changed nothing
+pub no-cut-loses-a-block : (slip image : List ℕ) (calls : List Call) → Bytes image → attaches (outcomeOf slip image) ≡ true
+    → Each slip (Premise slip) (atFirst slip image) calls → Claim slip image calls
+unfolding atFirst
+no-cut-loses-a-block slip image calls bytes at pr =
+    let A = has-attached slip image at in
+    let g = A .g in
+    let n = A .n in
+    let f : Fine g n image = record { long = A .long; bytes = bytes; unrefused = A .unrefused } in
+    let first = outcome-is slip g n (A .chip) image f in
+    let x : Booked = record { image = image; book = mapIn (outcomeOf slip image) } in
+    let r = all-calls slip g n (A .chip) calls x f (sym (ap mapIn first)) pr in
+    let end = afterCalls slip x calls in
+    let last = outcome-is slip g n (A .chip) (end .image) (r .0 .fine) in
+    let e = r .0 .same-faces in
+    record {
+      kept = record {
+        still-attaches = ap attaches last;
+        same-table = ap tableIn last ∙ table-same slip g n (A .chip) (viewsOf g image) (viewsOf g (end .image)) e ∙ sym (ap tableIn first);
+        same-states = ap statesIn last ∙ states-same slip g n (A .chip) (viewsOf g image) (viewsOf g (end .image)) e ∙ sym (ap statesIn first);
+        map-is-book = ap mapIn last ∙ r .0 .in-book;
+        same-content = λ v l.
+            ap (λ (y : Outcome). contentIn y v l) last ∙ content-same slip g n (A .chip) (viewsOf g image) (viewsOf g (end .image)) e v l
+            ∙ sym (ap (λ (y : Outcome). contentIn y v l) first);
+      };
+      each = r .1;
+    }
