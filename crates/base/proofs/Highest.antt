@@ -1,5 +1,4 @@
 -- The highest of the numbers below n. Assumes nothing.
-use mathlib.Core.Path.{_≡_}
 use Prim.Native.Nat.{ℕ, zero, suc, _≤_, _<_, max}
 use native.Mathlib.Omega.{arith}
 use Rattle.base.specs.Below.{maxBelow}

@@ -1,27 +1,27 @@
 -- What the beginning of an accepted move has established. Assumes nothing.
-use mathlib.Core.Path.{_≡_, refl, sym, _∙_, ap, subst}
+use mathlib.Core.Path.{_≡_, refl, sym, subst}
 use mathlib.Core.Logic.{_≢_, _⊎_, inl, inr, ⊎-elim}
 use mathlib.Core.Bool.{Bool, true, false, not, _&&_, _||_, cond, false≢true}
 use mathlib.Core.Option.{Option, none, some}
 use mathlib.Core.List.{List, [], _∷_, List·Memᴰ, List·Memᴰ·head, List·Memᴰ·tail}
-use Prim.Native.Nat.{ℕ, suc, _+_, _-_, _^_, _<_, _≤_}
+use Prim.Native.Nat.{ℕ, _+_, _-_, _^_, _<_}
 use native.Mathlib.Omega.{arith}
 use lib.Dec.{eqb, ltb}
-use borrow.Author.Tests.{eqb-true, eqb-false, ltb-true, lt-ltb, eq-eqb, not-false, not-true}
-use Rattle.base.specs.Answers.{Answer, given, refused}
+use borrow.Author.Tests.{eqb-true, eqb-false, ltb-true, lt-ltb, eq-eqb, not-false}
+use Rattle.base.specs.Answers.{Answer, given}
 use Rattle.base.proofs.Answers.{and-left, and-right, or-left, or-right, or-true-cases, or-true-right}
 use Rattle.base.proofs.Highest.{max-at}
 use Rattle.geometry.specs.declared.Geometry.{Geometry}
 use Rattle.header.specs.Vid.{layoutVolume}
 use Rattle.header.specs.declared.EcHeader.{EcHeader}
-use Rattle.report.specs.View.{Copy, EcView, ecGood, ecNewer, ecBlank, ecLost, VidView, vidGood, vidNewer, vidBlank, vidBad, View, Views, copies, isMappable}
+use Rattle.report.specs.View.{Copy, EcView, ecGood, ecNewer, ecBlank, ecLost, VidView, vidGood, vidNewer, vidBlank, vidBad, Views, copies, isMappable}
 use Rattle.report.specs.Choice.{sound, chosen}
 use Rattle.report.specs.Volumes.{Places, Entry, recordFor, reservedOf, mapOf}
 use Rattle.report.specs.Report.{isPlace, staysIn, classOf, highestOf, sequenceOr0, places, records, classAt, entries}
 use Rattle.report.proofs.First.{none-some}
 use Rattle.report.proofs.Facts.{when-none}
-use Rattle.report.proofs.Map.{Listed, in-map}
-use Rattle.plan.specs.Headers.{isStatic, newVid, oldCounter, newEc}
+use Rattle.report.proofs.Map.{in-map}
+use Rattle.plan.specs.Headers.{isStatic, oldCounter}
 use Rattle.plan.specs.Begin.{isIn, unlessRefused, refusal13, mapped, refusal15, refusal16, refusal17, makePlan, planFor, planOf}
 use Rattle.plan.specs.declared.Plan.{Plan}
 

@@ -1,10 +1,10 @@
 -- What the bytes of an image leave to the numbers of its views. Assumes nothing.
-use mathlib.Core.Path.{_≡_, refl, sym, _∙_, ap, subst}
-use mathlib.Core.Logic.{_≢_, _⊎_, inl, inr, ⊎-elim}
-use mathlib.Core.Bool.{Bool, true, false, not, _&&_, _||_, cond}
+use mathlib.Core.Path.{_≡_, refl, _∙_, ap, subst}
+use mathlib.Core.Logic.{inl, inr}
+use mathlib.Core.Bool.{Bool, true, false, _&&_, cond}
 use mathlib.Core.Option.{Option, none, some}
-use mathlib.Core.List.{List, [], _∷_}
-use Prim.Native.Nat.{ℕ, suc, _+_, _-_, _*_, _%_, _^_, _≤_, _<_}
+use mathlib.Core.List.{List}
+use Prim.Native.Nat.{ℕ, _-_, _*_, _%_, _^_, _≤_, _<_}
 use native.Mathlib.Omega.{arith}
 use native.Mathlib.Nat.{sub-zero}
 use lib.Dec.{eqb, leb, lit<}
@@ -28,13 +28,12 @@ use Rattle.header.specs.declared.EcHeader.{EcHeader}
 use Rattle.header.specs.declared.VidHeader.{VidHeader}
 use Rattle.header.proofs.RoundTrip.{ec-fields-are, ec-read-fits, vid-fields-are, vid-read-fits}
 use Rattle.volume_table.specs.Table.{recordAt}
-use Rattle.volume_table.specs.Record.{recordOf}
 use Rattle.volume_table.specs.declared.VolumeRecord.{VolumeRecord}
 use Rattle.volume_table.proofs.Good.{good-pads}
-use Rattle.report.specs.View.{Copy, copyOf, vidPart, viewOf, pebAt, Views, viewsOf, ecs, copies}
+use Rattle.report.specs.View.{Copy, copyOf, vidPart, pebAt, Views, viewsOf, ecs, copies}
 use Rattle.report.specs.Scan.{imageSeq}
 use Rattle.report.specs.Choice.{chosen}
-use Rattle.report.specs.Volumes.{faceOf, facesOf, tableLeb, recordFor, reservedOf, contentOf, orZero}
+use Rattle.report.specs.Volumes.{faceOf, facesOf, tableLeb, recordFor, reservedOf, orZero}
 use Rattle.report.specs.Report.{counterOr, meanOf, highestOf, sequenceOr0, faces, places, records, refusal}
 use Rattle.report.proofs.Choice.{chosen-at}
 use Rattle.report.proofs.Facts.{parts}

@@ -1,17 +1,17 @@
 -- The headers of an accepted move: what they have to do with the copy that it moves, and that they are good. Assumes nothing.
-use mathlib.Core.Path.{_≡_, refl, sym, _∙_, ap, subst}
-use mathlib.Core.Logic.{_≢_, _⊎_, inl, inr, ⊎-elim}
+use mathlib.Core.Path.{_≡_, refl, sym, _∙_}
+use mathlib.Core.Logic.{_≢_, _⊎_, inl, inr}
 use mathlib.Core.Bool.{Bool, true, false, not, _&&_, _||_, cond}
 use mathlib.Core.Option.{Option, none, some}
-use mathlib.Core.List.{List, [], _∷_}
-use Prim.Native.Nat.{ℕ, suc, _+_, _-_, _*_, _^_, _≤_, _<_}
+use mathlib.Core.List.{List}
+use Prim.Native.Nat.{ℕ, _+_, _-_, _^_, _≤_, _<_}
 use native.Mathlib.Omega.{arith}
 use lib.Dec.{eqb, ltb, leb, lit<}
-use borrow.Author.Tests.{eqb-true, eqb-false, eq-eqb, lt-ltb, le-leb, leb-true}
+use borrow.Author.Tests.{eqb-true, eqb-false, eq-eqb, lt-ltb, le-leb}
 use lib.ListN.{length, take, drop, getD, replicate}
 use Rattle.base.specs.Answers.{allOf}
 use Rattle.base.specs.Lists.{Bytes}
-use Rattle.base.proofs.Answers.{and-left, and-right, each-holds}
+use Rattle.base.proofs.Answers.{and-left, each-holds}
 use Rattle.base.proofs.Lists.{bytes-take}
 use Rattle.crc32.specs.Crc.{crcOf}
 use Rattle.crc32.proofs.Laws.{crcOf-lt}

@@ -1,15 +1,13 @@
 -- What the reader sees of a PEB's headers: written ones, torn ones, and a copy. Assumes nothing.
-use mathlib.Core.Path.{_≡_, refl, sym, _∙_, ap, subst}
+use mathlib.Core.Path.{_≡_, refl, subst}
 use mathlib.Core.Logic.{_⊎_, inl, inr}
 use mathlib.Core.Bool.{Bool, true, false, not, _&&_, _||_, cond}
-use mathlib.Core.Option.{Option, none, some}
-use mathlib.Core.List.{List, [], _∷_, _++_, append-nil}
+use mathlib.Core.Option.{some}
+use mathlib.Core.List.{List, [], append-nil}
 use Prim.Native.Nat.{ℕ}
-use lib.Dec.{eqb}
-use lib.ListN.{take, drop, replicate}
+use lib.ListN.{take, replicate}
 use Rattle.base.specs.Lists.{part, eqs}
 use Rattle.base.proofs.Answers.{clash}
-use Rattle.crc32.specs.Crc.{crcOf}
 use Rattle.field.specs.Be.{toBeOn}
 use Rattle.geometry.specs.declared.Geometry.{Geometry}
 use Rattle.header.specs.Fields.{crcMatches, Verdict, good, bad, newer, readHeader}
@@ -18,27 +16,7 @@ use Rattle.header.specs.Vid.{vidMagic, vidFields, judgeVid, readVid, vidHead, v
 use Rattle.header.specs.declared.EcHeader.{EcHeader}
 use Rattle.header.specs.declared.VidHeader.{VidHeader}
 use Rattle.header.proofs.RoundTrip.{ec-judged, vid-judged}
-use Rattle.report.specs.View.{
-  allFF,
-  Copy,
-  EcView,
-  ecGood,
-  ecNewer,
-  ecBlank,
-  ecLost,
-  VidView,
-  vidGood,
-  vidNewer,
-  vidBlank,
-  vidBad,
-  ecOf,
-  copyOf,
-  vidOf,
-  vidPart,
-  viewOf,
-  goodEc,
-  goodVid,
-}
+use Rattle.report.specs.View.{allFF, Copy, ecGood, ecBlank, ecLost, vidGood, vidBlank, vidBad, ecOf, copyOf, vidOf, vidPart, viewOf, goodEc, goodVid}
 use Rattle.report.proofs.First.{none-some}
 
 -- a written header is not all 0xFF

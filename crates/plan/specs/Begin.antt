@@ -1,14 +1,14 @@
 -- 01 'Refusal numbers', 13 to 17, and the beginning of a move. Assumes nothing.
 use Prim.Native.Nat.{ℕ, _-_, _^_}
-use mathlib.Core.Bool.{Bool, true, false, not, _&&_, _||_, cond}
+use mathlib.Core.Bool.{Bool, false, not, _&&_, _||_, cond}
 use mathlib.Core.Option.{Option, none, some}
 use mathlib.Core.List.{List, [], _∷_}
 use lib.Dec.{eqb, ltb}
 use Rattle.base.specs.Answers.{Answer, given, refused}
 use Rattle.base.specs.Below.{anyBelow}
 use Rattle.geometry.specs.declared.Geometry.{Geometry}
-use Rattle.report.specs.View.{Copy, View, Views, copies}
-use Rattle.report.specs.Scan.{Refusal, when}
+use Rattle.report.specs.View.{Copy, Views, copies}
+use Rattle.report.specs.Scan.{when}
 use Rattle.report.specs.Choice.{sound, chosen}
 use Rattle.report.specs.Volumes.{Entry}
 use Rattle.report.specs.Report.{highestOf, isInternal, readOnlyOf, classAt, entries}

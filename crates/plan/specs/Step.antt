@@ -5,7 +5,6 @@ use mathlib.Core.List.{List, [], _∷_}
 use lib.Dec.{eqb, ltb}
 use Rattle.base.specs.Answers.{Answer, given, refused, allOf}
 use Rattle.geometry.specs.Geometry.{geometryRules}
-use Rattle.geometry.specs.declared.Geometry.{Geometry}
 use Rattle.header.specs.Fields.{isGood}
 use Rattle.header.specs.Ec.{judgeEc}
 use Rattle.header.specs.Vid.{judgeVid}

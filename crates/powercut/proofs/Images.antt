@@ -1,36 +1,40 @@
 -- The steps of a plan, run one by one on the image, are the steps on its two PEBs; nothing else changes. Assumes nothing.
-use mathlib.Core.Path.{_≡_, refl, sym, _∙_, ap, subst}
-use mathlib.Core.Logic.{_≢_, _⊎_, inl, inr, ⊎-elim}
+use mathlib.Core.Path.{_≡_, refl, sym, _∙_, ap}
+use mathlib.Core.Logic.{_≢_}
 use mathlib.Core.Bool.{Bool, true, false, cond}
-use mathlib.Core.List.{List, [], _∷_}
-use Prim.Native.Nat.{ℕ, zero, suc, _+_, _-_, _*_, _/_, _%_, _≤_, _<_, min}
+use mathlib.Core.List.{List}
+use Prim.Native.Nat.{ℕ, zero, suc, _+_, _-_, _*_, _≤_, _<_, min}
 use native.Mathlib.Omega.{arith}
-use native.Mathlib.Nat.{mul-le-mul-right, add-zero, min-le-left, div-add-mod', mod-lt, div-lt-iff-lt-mul}
-use native.Mathlib.Decide.{decLt}
+use native.Mathlib.Nat.{add-zero}
 use lib.Dec.{ltb, eqb}
-use borrow.Author.Tests.{eq-eqb, ne-eqb, lt-ltb, le-ltb, ltb-true}
-use lib.ListN.{length, take, drop, getD, replicate, length-take, length-drop, List·getD-eq-default}
-use lib.Seq.{take-all, drop-drop, getD-take, getD-drop}
-use Rattle.base.specs.Answers.{Answer, given, refused}
-use Rattle.base.specs.Lists.{part, put}
-use Rattle.base.proofs.Below.{eq-or-ne}
-use Rattle.base.proofs.Lists.{length-part}
-use Rattle.geometry.specs.Geometry.{makeGeometry}
+use borrow.Author.Tests.{ltb-true}
+use lib.ListN.{length, take, drop, length-take, length-drop}
+use lib.Seq.{take-all, drop-drop}
+use Rattle.base.specs.Lists.{put}
+use Rattle.geometry.specs.Placed.{Placed}
 use Rattle.geometry.specs.declared.Geometry.{Geometry}
 use Rattle.header.specs.Ec.{ecBytes}
 use Rattle.header.specs.Vid.{vidBytes}
 use Rattle.report.specs.View.{pebAt}
 use Rattle.plan.specs.declared.Plan.{Plan}
-use Rattle.plan.specs.Write.{Write, store, erase, nothing, appliedWhole, appliedCut, erasedIn, planGeometry, dataSteps, stepCount, pebStart, unitBytes, writeAfter}
-use Rattle.plan.specs.Step.{stepRules, runnable, stepWrite, oneOn, Progress, on, done, stepAnswer, Stepping, stepping, stepCut}
-use Rattle.powercut.specs.Calls.{Left, planLeft, nextStep, oneStep, afterSteps}
+use Rattle.plan.specs.Write.{Write, store, erase, nothing, appliedWhole, appliedCut, erasedIn, dataSteps, pebStart, unitBytes, writeAfter}
 use Rattle.base.proofs.Stores.{put-all, part-take}
 use Rattle.plan.proofs.Blocks.{room, peb-length, put-length, put-here, put-else}
-use Rattle.powercut.proofs.Pebs.{vid-64, ec-64, length-erased, erased-all, Pair, Fits, unitOf, step, steps, unit-within}
+use Rattle.powercut.proofs.Pebs.{vid-64, ec-64, length-erased, erased-all, Pair, Fits, unitOf, step, unit-within}
 
 -- ---- a plan's writes on the image
 
-module _ (g : Geometry) (n : ℕ) (p : Plan) (f : Fits g p) (o<n : p .old < n) (t<n : p .target < n) (apart : p .old ≢ p .target) where
+-- what a plan has to do with images of n PEBs
+pub record Sited (g : Geometry) (n : ℕ) (p : Plan) : Type 0 where
+  pub fits : Fits g p
+  pub old-there : p .old < n
+  pub target-there : p .target < n
+  pub apart : p .old ≢ p .target
+
+module _ (g : Geometry) (n : ℕ) (p : Plan) (s : Sited g n p) where
+  P : Placed g
+  P = s .fits .placed
+
   abbrev pub pairOf : List ℕ → Pair
   pairOf image = record { target = pebAt g image (p .target); old = pebAt g image (p .old) }
 
@@ -51,11 +55,11 @@ module _ (g : Geometry) (n : ℕ) (p : Plan) (f : Fits g p) (o<n : p .old < n) (
     in-target : (a : ℕ) (bs : List ℕ) → a + length bs ≤ g .«peb_size»
         → Landed image (record { target = put a bs (pebAt g image (p .target)); old = pebAt g image (p .old) }) (put (pebStart g (p .target) + a) bs image)
     in-target a bs h =
-        let here = put-here g n image len (p .target) t<n a bs h in
-        let else = put-else g n image len (p .target) t<n a bs h in
-        let stays = else (p .old) apart in
+        let here = put-here g n image len (p .target) (s .target-there) a bs h in
+        let else = put-else g n image len (p .target) (s .target-there) a bs h in
+        let stays = else (p .old) (s .apart) in
         record {
-          long = put-length g n image len (p .target) t<n a bs h;
+          long = put-length g n image len (p .target) (s .target-there) a bs h;
           pair = λ i. record { target = here i; old = stays i };
           elsewhere = λ i ne nt. else i nt;
         }
@@ -63,11 +67,11 @@ module _ (g : Geometry) (n : ℕ) (p : Plan) (f : Fits g p) (o<n : p .old < n) (
     in-old : (a : ℕ) (bs : List ℕ) → a + length bs ≤ g .«peb_size»
         → Landed image (record { target = pebAt g image (p .target); old = put a bs (pebAt g image (p .old)) }) (put (pebStart g (p .old) + a) bs image)
     in-old a bs h =
-        let here = put-here g n image len (p .old) o<n a bs h in
-        let else = put-else g n image len (p .old) o<n a bs h in
-        let stays = else (p .target) (λ e. apart (sym e)) in
+        let here = put-here g n image len (p .old) (s .old-there) a bs h in
+        let else = put-else g n image len (p .old) (s .old-there) a bs h in
+        let stays = else (p .target) (λ e. s .apart (sym e)) in
         record {
-          long = put-length g n image len (p .old) o<n a bs h;
+          long = put-length g n image len (p .old) (s .old-there) a bs h;
           pair = λ i. record { target = stays i; old = here i };
           elsewhere = λ i ne nt. else i ne;
         }
@@ -75,26 +79,26 @@ module _ (g : Geometry) (n : ℕ) (p : Plan) (f : Fits g p) (o<n : p .old < n) (
     unit-same : (j : ℕ) → j < dataSteps p → unitBytes g p image j ≡ unitOf g p j (pebAt g image (p .old))
     unfolding unitBytes
     unit-same j h =
-        let w = unit-within g p f j h in
-        let q = f .data-fits in
-        let r = room g n image len (p .old) o<n in
-        let s : ℕ = min (g .unit) (p .vid .«data_size» - j * g .unit) in
+        let w = unit-within g p (s .fits) j h in
+        let q = s .fits .data-fits in
+        let r = room g n image len (p .old) (s .old-there) in
+        let m : ℕ = min (g .unit) (p .vid .«data_size» - j * g .unit) in
         sym
-        (part-take s (g .«data_start» + j * g .unit) (g .«peb_size») (drop (pebStart g (p .old)) image) (omega (arith, f .placed .leb-fills)) (simp length-drop (omega arith))
-        ∙ ap (take s) (drop-drop (g .«data_start» + j * g .unit) (pebStart g (p .old)) image))
+        (part-take m (g .«data_start» + j * g .unit) (g .«peb_size») (drop (pebStart g (p .old)) image) (omega (arith, P .leb-fills)) (simp length-drop (omega arith))
+        ∙ ap (take m) (drop-drop (g .«data_start» + j * g .unit) (pebStart g (p .old)) image))
 
     unit-short : (j : ℕ) → j < dataSteps p → g .«data_start» + j * g .unit + length (unitBytes g p image j) ≤ g .«peb_size»
     unfolding unitBytes
     unit-short j h =
-        let w = unit-within g p f j h in
-        let q = f .data-fits in
-        rw length-take (omega (arith, f .placed .leb-fills))
+        let w = unit-within g p (s .fits) j h in
+        let q = s .fits .data-fits in
+        rw length-take (omega (arith, P .leb-fills))
 
     vid-short : (m : ℕ) → g .«vid_start» + length (take m (vidBytes (p .vid))) ≤ g .«peb_size»
-    vid-short m = rw length-take (omega (arith, vid-64 (p .vid), f .placed .data-after-vid, f .placed .leb-fills))
+    vid-short m = rw length-take (omega (arith, vid-64 (p .vid), P .data-after-vid, P .leb-fills))
 
     ec-short : (m : ℕ) → 0 + length (take m (ecBytes (p .ec))) ≤ g .«peb_size»
-    ec-short m = rw length-take (omega (arith, ec-64 (p .ec), f .placed .vid-after-ec, f .placed .data-after-vid, f .placed .leb-fills))
+    ec-short m = rw length-take (omega (arith, ec-64 (p .ec), P .vid-after-ec, P .data-after-vid, P .leb-fills))
 
     abbrev O : List ℕ
     O = pebAt g image (p .old)
@@ -103,7 +107,7 @@ module _ (g : Geometry) (n : ℕ) (p : Plan) (f : Fits g p) (o<n : p .old < n) (
         → Landed image (record { target = pebAt g image (p .target); old = erasedIn set O }) (put (pebStart g (p .old)) (erasedIn set O) image)
     erase-lands set =
         let l = length-erased set O in
-        let e = peb-length g n image len (p .old) o<n in
+        let e = peb-length g n image len (p .old) (s .old-there) in
         let r = in-old 0 (erasedIn set O) (omega arith) in
         rw (put-all (erasedIn set O) O l, add-zero) at r
 
@@ -141,7 +145,7 @@ module _ (g : Geometry) (n : ℕ) (p : Plan) (f : Fits g p) (o<n : p .old < n) (
     -- a whole write is one that is cut after the last of its bytes
     pub whole-is-cut : (k : ℕ) → appliedWhole (writeAfter g p image k) image ≡ appliedCut (g .«peb_size») (λ i. true) (writeAfter g p image k) image
     unfolding writeAfter
-    whole-is-cut zero = rw (take-all (g .«peb_size») (vidBytes (p .vid)) (omega (arith, vid-64 (p .vid), f .placed .vid-after-ec, f .placed .data-after-vid, f .placed .leb-fills)))
+    whole-is-cut zero = rw (take-all (g .«peb_size») (vidBytes (p .vid)) (omega (arith, vid-64 (p .vid), P .vid-after-ec, P .data-after-vid, P .leb-fills)))
     whole-is-cut (suc j) = go (ltb j (dataSteps p)) refl (eqb j (dataSteps p)) (eqb j (dataSteps p + 1))
       where
         write : Bool → Bool → Bool → Write
@@ -154,6 +158,6 @@ module _ (g : Geometry) (n : ℕ) (p : Plan) (f : Fits g p) (o<n : p .old < n) (
         go true e b c =
             let l = unit-short j (ltb-true j (dataSteps p) e) in
             rw (take-all (g .«peb_size») (unitBytes g p image j) (omega arith))
-        go false e true c = rw (erased-all O, peb-length g n image len (p .old) o<n)
-        go false e false true = rw (take-all (g .«peb_size») (ecBytes (p .ec)) (omega (arith, ec-64 (p .ec), f .placed .vid-after-ec, f .placed .data-after-vid, f .placed .leb-fills)))
+        go false e true c = rw (erased-all O, peb-length g n image len (p .old) (s .old-there))
+        go false e false true = rw (take-all (g .«peb_size») (ecBytes (p .ec)) (omega (arith, ec-64 (p .ec), P .vid-after-ec, P .data-after-vid, P .leb-fills)))
         go false e false false = refl

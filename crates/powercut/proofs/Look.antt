@@ -1,16 +1,14 @@
 -- From the bytes of the two PEBs to the stages: a stopped move is torn, half or whole. Assumes nothing.
-use mathlib.Core.Path.{_≡_, refl, sym, _∙_, ap, subst}
+use mathlib.Core.Path.{_≡_, refl, sym, _∙_, ap}
 use mathlib.Core.Logic.{_≢_, _⊎_, inl, inr, ⊎-elim}
-use mathlib.Core.Bool.{Bool, true, false, not, _&&_, _||_, cond, or-true}
-use mathlib.Core.Option.{Option, none, some}
+use mathlib.Core.Bool.{Bool, true, false, not, _&&_, _||_, or-true}
+use mathlib.Core.Option.{none, some}
 use mathlib.Core.List.{List}
-use Prim.Native.Nat.{ℕ, _+_, _-_, _≤_, _<_}
-use native.Mathlib.Omega.{arith}
+use Prim.Native.Nat.{ℕ, _+_, _-_}
 use lib.Dec.{eqb}
 use borrow.Author.Tests.{eq-eqb, ne-eqb, not-true}
 use lib.ListN.{take, drop, replicate}
 use lib.Seq.{drop-drop}
-use Rattle.base.specs.Answers.{allOf}
 use Rattle.base.specs.Lists.{part, eqs}
 use Rattle.base.proofs.Answers.{clash, or-true-cases}
 use Rattle.base.proofs.Below.{eq-or-ne}
@@ -18,9 +16,9 @@ use Rattle.base.proofs.Lists.{eqs-refl, eqs-true}
 use Rattle.crc32.specs.Crc.{crcOf}
 use Rattle.geometry.specs.declared.Geometry.{Geometry}
 use Rattle.header.specs.Fields.{crcMatches, good}
-use Rattle.header.specs.Ec.{judgeEc, ecBytes, EcFits}
-use Rattle.header.specs.Vid.{implies, judgeVid, vidBytes, VidFits}
-use Rattle.report.specs.View.{allFF, Copy, ecGood, ecBlank, ecLost, vidGood, vidBlank, vidBad, View, Views, copyOf, vidPart, viewOf, copies, isMappable}
+use Rattle.header.specs.Ec.{ecBytes}
+use Rattle.header.specs.Vid.{implies, vidBytes}
+use Rattle.report.specs.View.{allFF, Copy, ecBlank, ecLost, vidGood, vidBlank, vidBad, Views, copyOf, vidPart, viewOf, copies, isMappable}
 use Rattle.report.specs.Scan.{imageSeq, ecRefusal, vidRefusal}
 use Rattle.report.specs.Choice.{sound}
 use Rattle.report.specs.Volumes.{contentOf, faceOf}

@@ -1,53 +1,53 @@
 -- One accepted move: what any course of it leaves. Assumes nothing.
 use mathlib.Core.Path.{_≡_, refl, sym, _∙_, ap, ap₂, subst}
 use mathlib.Core.Logic.{_≢_, _⊎_, inl, inr, ⊎-elim}
-use mathlib.Core.Bool.{Bool, true, false, not, _&&_, _||_, cond}
-use mathlib.Core.Option.{Option, none, some}
-use mathlib.Core.List.{List, [], _∷_}
-use Prim.Native.Nat.{ℕ, suc, _+_, _-_, _*_, _^_, _≤_, _<_}
+use mathlib.Core.Bool.{Bool, true, false, _&&_, cond}
+use mathlib.Core.Option.{none, some}
+use mathlib.Core.List.{List}
+use Prim.Native.Nat.{ℕ, _+_, _-_, _*_, _<_}
 use native.Mathlib.Omega.{arith}
-use lib.Dec.{eqb, ltb}
 use borrow.Author.Tests.{lt-ltb, ne-eqb}
 use lib.ListN.{length, take, drop, getD, replicate, length-take, length-drop, length-replicate}
 use lib.Seq.{take-at, take-all, drop-drop}
-use Rattle.base.specs.Answers.{Answer, given, refused, allOf}
-use Rattle.base.specs.Lists.{part, put, eqs, Bytes}
+use Rattle.base.specs.Answers.{given, allOf}
+use Rattle.base.specs.Lists.{part, put, Bytes}
 use Rattle.base.proofs.Answers.{each-holds}
 use Rattle.base.proofs.Stores.{put-behind, drop-replicate, take-replicate}
-use Rattle.crc32.specs.Crc.{crcOf}
-use Rattle.geometry.specs.Geometry.{geometryRules, makeGeometry}
+use Rattle.geometry.specs.Geometry.{geometryRules}
 use Rattle.geometry.specs.Placed.{Placed}
 use Rattle.geometry.specs.declared.Geometry.{Geometry}
 use Rattle.header.specs.Fields.{good}
 use Rattle.header.specs.Ec.{judgeEc, ecBytes}
 use Rattle.header.specs.Vid.{judgeVid, vidBytes}
-use Rattle.header.specs.declared.EcHeader.{EcHeader}
-use Rattle.report.specs.View.{allFF, Copy, ecGood, vidBlank, View, Views, vidPart, viewOf, viewsOf, pebAt, ecs, copies}
+use Rattle.report.specs.View.{allFF, Copy, ecGood, vidBlank, Views, vidPart, viewOf, viewsOf, pebAt, ecs, copies}
 use Rattle.report.specs.Scan.{imageSeq, ecRefusal}
 use Rattle.report.specs.Volumes.{placesOf, tableRecords, mapOf}
 use Rattle.report.specs.Report.{highestOf, faces, places, records, classAt, entries, refusal}
-use Rattle.report.specs.Attach.{pebCount, imageRules}
+use Rattle.report.specs.Attach.{pebCount, imageRules, whole}
 use Rattle.report.proofs.Choice.{chosen-at}
 use Rattle.report.proofs.Facts.{parts, none5678-at}
 use Rattle.report.proofs.First.{none-some}
 use Rattle.report.proofs.Map.{rebooked, rebook, map-moved}
 use Rattle.plan.specs.declared.Plan.{Plan}
-use Rattle.plan.specs.Headers.{newVid, newEc, oldCounter}
-use Rattle.plan.specs.Begin.{makePlan, planOf}
+use Rattle.plan.specs.Headers.{newVid}
+use Rattle.plan.specs.Begin.{makePlan}
 use Rattle.plan.specs.Write.{planGeometry, dataSteps, stepCount}
-use Rattle.plan.specs.Step.{stepRules, runnable, stepCut}
+use Rattle.plan.specs.Step.{stepRules, runnable}
 use Rattle.plan.proofs.Blocks.{peb-length}
 use Rattle.plan.proofs.Data.{all-ff}
 use Rattle.plan.proofs.Seen.{Read, ec-written, vid-erased}
-use Rattle.plan.proofs.Accepted.{Accepted, accepted, in-map-mappable, below-next}
+use Rattle.plan.proofs.Accepted.{Accepted, in-map-mappable, below-next}
 use Rattle.plan.proofs.Good.{Good, Moves, good-headers}
 use Rattle.plan.proofs.Bounds.{read, copy-widths, copy-rules, body-long, body-bytes, matches-is, highest-most, old-counter-most, image-small, size-fits}
-use Rattle.powercut.specs.Calls.{Stop, Course, toEnd, toStop, afterSteps, imageLeft}
+use Rattle.powercut.specs.Calls.{Stop, Course, toEnd, toStop, imageLeft}
 use Rattle.powercut.specs.Book.{ecAt, vidAt, runAt, headerWhole, runWhole, isWritten}
-use Rattle.powercut.specs.Premise.{premiseRules}
-use Rattle.powercut.proofs.Outcomes.{Ruled, slip-ruled, Chip, chip-placed, peb-above, count-is, image-ruled}
-use Rattle.powercut.proofs.Pebs.{vid-64, ec-64, Pair, Fits, step, steps, Within, Stored, Halt, cut-halts, further, whole-target, whole-old}
-use Rattle.powercut.proofs.Runs.{Runs, pair, Lands, ran, cut-ran}
+use Rattle.powercut.specs.Premise.{premiseRules, premiseOf}
+use Rattle.powercut.specs.Outcomes.{outcomeOf}
+use Rattle.powercut.specs.Claim.{Freed, Moved}
+use Rattle.powercut.proofs.Outcomes.{Ruled, slip-ruled, Chip, chip-placed, peb-above, count-is, image-ruled, attached}
+use Rattle.powercut.proofs.Pebs.{ec-64, Pair, Fits, step, steps, Stored, Halt, cut-halts, further, whole-target, whole-old}
+use Rattle.powercut.proofs.Runs.{Runs, pair, Lands, ran, cut-ran, all-go-on, all-done, same-byte}
+use Rattle.powercut.proofs.Octets.{left-octets}
 use Rattle.powercut.proofs.Stage.{Ready, Stopped, isWhole, Keeps, keeps}
 use Rattle.powercut.proofs.Look.{stopped, finished}
 
@@ -133,13 +133,15 @@ module _ (slip : List ℕ) (g : Geometry) (n : ℕ) (chip : Chip slip g n) (imag
   unfolding makePlan
   rules = R .rules
 
-  pub runs : Runs g n p
+  runs : Runs g n p
   unfolding makePlan
   runs = record {
-    fits = record { placed = P; same-unit = refl; data-fits = goods .data-fits };
-    old-there = at-o .0;
-    target-there = a .target-there;
-    apart = apart;
+    sited = record {
+      fits = record { placed = P; same-unit = refl; data-fits = goods .data-fits };
+      old-there = at-o .0;
+      target-there = a .target-there;
+      apart = apart;
+    };
     geometry = geometry-is;
     unstarted = refl;
     is-runnable = λ i len.
@@ -149,17 +151,20 @@ module _ (slip : List ℕ) (g : Geometry) (n : ℕ) (chip : Chip slip g n) (imag
 
   -- ---- the two PEBs at first
 
+  abbrev fits : Fits g p
+  fits = runs .sited .fits
+
   abbrev T : List ℕ
   T = pebAt g image (p .target)
 
   abbrev O : List ℕ
   O = pebAt g image (p .old)
 
-  pub lenT : length T ≡ g .«peb_size»
-  lenT = peb-length g n image (f .long) (p .target) (runs .target-there)
+  lenT : length T ≡ g .«peb_size»
+  lenT = peb-length g n image (f .long) (p .target) (runs .sited .target-there)
 
-  pub lenO : length O ≡ g .«peb_size»
-  lenO = peb-length g n image (f .long) (p .old) (runs .old-there)
+  lenO : length O ≡ g .«peb_size»
+  lenO = peb-length g n image (f .long) (p .old) (runs .sited .old-there)
 
   abbrev d : ℕ
   d = p .vid .«data_size»
@@ -169,7 +174,7 @@ module _ (slip : List ℕ) (g : Geometry) (n : ℕ) (chip : Chip slip g n) (imag
   read-O = read g P n image (f .bytes) (f .long) o (at-o .0) c (at-o .1)
 
   o-before : ecRefusal g (imageSeq n vs) (viewOf g O .ec) ≡ none
-  o-before = none5678-at g n vs (parts g n vs (f .unrefused) .none5678) (p .old) (runs .old-there) .0
+  o-before = none5678-at g n vs (parts g n vs (f .unrefused) .none5678) (p .old) (runs .sited .old-there) .0
 
   clean-T : allFF (drop 64 T) ≡ true
   unfolding makePlan viewOf
@@ -201,8 +206,8 @@ module _ (slip : List ℕ) (g : Geometry) (n : ℕ) (chip : Chip slip g n) (imag
 
   -- ---- an image in which the two PEBs are x, and all else as it was
 
-  abbrev pub HaltsAt : Pair → Type 0
-  HaltsAt x = Halt g p (runs .fits) T O lenT lenO x
+  abbrev HaltsAt : Pair → Type 0
+  HaltsAt x = Halt g p fits T O lenT lenO x
 
   module _ (image′ : List ℕ) (x : Pair) (la : Lands g n p runs image x image′) (ha : HaltsAt x) where
     abbrev vs′ : Views
@@ -228,14 +233,14 @@ module _ (slip : List ℕ) (g : Geometry) (n : ℕ) (chip : Chip slip g n) (imag
     keep st =
         keeps g n vs vs′ v l (p .old) (p .target) c (p .vid) (f .unrefused) ready (λ i k nt nq. ap (viewOf g) (la .elsewhere i nq nt)) same-ec st
 
-    all-run : Stored g p (runs .fits) T O lenT lenO d X → part (g .«data_start») d X ≡ part (g .«data_start») d O
+    all-run : Stored g p fits T O lenT lenO d X → part (g .«data_start») d X ≡ part (g .«data_start») d O
     all-run s = s .run ∙ take-all d (part (g .«data_start») d O) (rw length-take (omega arith))
 
     order : (Y ≡ O) ⊎ ((vidPart g X ≡ vidBytes (p .vid)) × (part (g .«data_start») d X ≡ part (g .«data_start») d O))
     order = ⊎-elim (λ e. inl e) (λ s. inr (s .header, all-run s)) (ha .order)
 
     -- a stopped move
-    pub kept-cut : allOf (premiseRules p image image′) ≡ true → Keeps g n vs vs′ v l (p .target) (headerWhole p image′ && runWhole p image image′)
+    kept-cut : allOf (premiseRules p image image′) ≡ true → Keeps g n vs vs′ v l (p .target) (headerWhole p image′ && runWhole p image image′)
     unfolding premiseRules headerWhole runWhole
     kept-cut pr =
         let r : (k : ℕ) → getD (premiseRules p image image′) k true ≡ true = each-holds (premiseRules p image image′) pr in
@@ -249,7 +254,7 @@ module _ (slip : List ℕ) (g : Geometry) (n : ℕ) (chip : Chip slip g n) (imag
         rw (vid-at image′ (p .target), run-at image′ (p .target), run-at image (p .old), peb-t, ← (st .1)) (keep (st .0))
 
     -- a move that is not cut
-    module _ (s : Stored g p (runs .fits) T O lenT lenO d X)
+    module _ (s : Stored g p fits T O lenT lenO d X)
         (y : Y ≡ put 0 (take (g .«peb_size») (ecBytes (p .ec))) (replicate (g .«peb_size») 0xFF)) where
       ec-all : take (g .«peb_size») (ecBytes (p .ec)) ≡ ecBytes (p .ec)
       ec-all = take-all (g .«peb_size») (ecBytes (p .ec)) (omega (arith, ec-64 (p .ec), P .vid-after-ec, P .data-after-vid, P .leb-fills))
@@ -270,14 +275,14 @@ module _ (slip : List ℕ) (g : Geometry) (n : ℕ) (chip : Chip slip g n) (imag
           ∙ drop-replicate 0xFF (g .«vid_start») (g .«peb_size»))
           ∙ take-replicate 0xFF 64 (g .«peb_size» - g .«vid_start») (omega (arith, P .data-after-vid, P .leb-fills))
 
-      pub kept-end : Keeps g n vs vs′ v l (p .target) true
+      kept-end : Keeps g n vs vs′ v l (p .target) true
       kept-end =
           let st =
           finished g n vs vs′ v l (p .old) (p .target) c p ready goods T O X Y blank-T read-O refl (ap (viewOf g) peb-t) (ap (viewOf g) peb-o)
           (ha .within .same-tail) o-before (s .header) (all-run s) end-ec end-vid in
           subst (Keeps g n vs vs′ v l (p .target)) (st .1) (keep (st .0))
 
-      pub end-free : classAt g n vs′ (p .old) ≡ 0
+      end-free : classAt g n vs′ (p .old) ≡ 0
       unfolding classAt
       end-free =
           let e : vs′ (p .old) .ec ≡ ecGood (p .ec) = rw peb-o (ec-written g Y (p .ec) (goods .ec-fits) (goods .ec-good) end-ec) in
@@ -285,7 +290,7 @@ module _ (slip : List ℕ) (g : Geometry) (n : ℕ) (chip : Chip slip g n) (imag
           rw (e, w)
 
     -- the map with the place written
-    pub map-after : (w : Bool) → Keeps g n vs vs′ v l (p .target) w
+    map-after : (w : Bool) → Keeps g n vs vs′ v l (p .target) w
         → entries g n vs′ ≡ cond w (rebook v l (p .target) (entries g n vs)) (entries g n vs)
     unfolding entries placesOf
     map-after w k = ap₂ mapOf (ap (tableRecords g n) (k .same-faces)) (k .new-places) ∙ go w
@@ -298,41 +303,87 @@ module _ (slip : List ℕ) (g : Geometry) (n : ℕ) (chip : Chip slip g n) (imag
 
   -- ---- what a course leaves
 
-  abbrev pub Ends : Course → Views → Type 0
+  abbrev left : Course → List ℕ
+  left course = imageLeft p image course
+
+  abbrev Ends : Course → Views → Type 0
   Ends (toEnd k) vs′ = classAt g n vs′ (p .old) ≡ 0
   Ends (toStop s) vs′ = Unit {0}
 
-  pub record Result (course : Course) : Type 0 where
-    pub x : Pair
-    pub lands : Lands g n p runs image x (imageLeft p image course)
-    pub kept : Keeps g n vs (viewsOf g (imageLeft p image course)) v l (p .target) (isWritten p image course)
-    pub new-map :
-        entries g n (viewsOf g (imageLeft p image course)) ≡ cond (isWritten p image course) (rebook v l (p .target) (entries g n vs)) (entries g n vs)
-    pub ends : Ends course (viewsOf g (imageLeft p image course))
+  record Result (course : Course) : Type 0 where
+    x : Pair
+    lands : Lands g n p runs image x (left course)
+    kept : Keeps g n vs (viewsOf g (left course)) v l (p .target) (isWritten p image course)
+    new-map : entries g n (viewsOf g (left course)) ≡ cond (isWritten p image course) (rebook v l (p .target) (entries g n vs)) (entries g n vs)
+    ends : Ends course (viewsOf g (left course))
 
   abbrev start : Pair
   start = pair g n p runs image
 
-  pub at-end : (k : ℕ) → Result (toEnd k)
+  at-end : (k : ℕ) → Result (toEnd k)
   unfolding imageLeft isWritten stepCount
   at-end k =
-      let m : ℕ = 3 + dataSteps p in
-      let x : Pair = steps g p start m in
-      let image′ : List ℕ = afterSteps p image (stepCount p + k) .image in
-      let la : Lands g n p runs image x image′ =
-      rw (further g p (runs .fits) T O lenT lenO k) at (ran g n p runs image (f .long) (m + k) .lands) in
-      let w = whole-target g p (runs .fits) T O lenT lenO in
+      let x : Pair = steps g p start (3 + dataSteps p) in
+      let la : Lands g n p runs image x (left (toEnd k)) =
+      rw (further g p fits T O lenT lenO k) at (ran g n p runs image (f .long) (3 + dataSteps p + k) .lands) in
+      let w = whole-target g p fits T O lenT lenO in
       let ha : HaltsAt x = record { within = w .0; order = inr (w .1) } in
-      let y = whole-old g p (runs .fits) T O lenT lenO in
-      let kp = kept-end image′ x la ha (w .1) y in
-      record { x = x; lands = la; kept = kp; new-map = map-after image′ x la ha true kp; ends = end-free image′ x la ha (w .1) y }
+      let y = whole-old g p fits T O lenT lenO in
+      let kp = kept-end (left (toEnd k)) x la ha (w .1) y in
+      record {
+        x = x;
+        lands = la;
+        kept = kp;
+        new-map = map-after (left (toEnd k)) x la ha true kp;
+        ends = end-free (left (toEnd k)) x la ha (w .1) y;
+      }
 
-  pub at-stop : (s : Stop) → allOf (premiseRules p image (imageLeft p image (toStop s))) ≡ true → Result (toStop s)
+  at-stop : (s : Stop) → allOf (premiseRules p image (left (toStop s))) ≡ true → Result (toStop s)
   unfolding imageLeft isWritten
   at-stop s pr =
+      let image′ : List ℕ = left (toStop s) in
       let x : Pair = step g p (s .before) (s .stored) (s .erased) (steps g p start (s .before)) in
-      let image′ : List ℕ = imageLeft p image (toStop s) in
       let la : Lands g n p runs image x image′ = cut-ran g n p runs image (f .long) (s .before) (s .stored) (s .erased) in
-      let ha : HaltsAt x = cut-halts g p (runs .fits) T O lenT lenO (s .before) (s .stored) (s .erased) in
+      let ha : HaltsAt x = cut-halts g p fits T O lenT lenO (s .before) (s .stored) (s .erased) in
       let kp = kept-cut image′ x la ha pr in
       record { x = x; lands = la; kept = kp; new-map = map-after image′ x la ha (headerWhole p image′ && runWhole p image image′) kp; ends = tt }
+
+  result : (course : Course) → premiseOf image course (left course) (given p) ≡ true → Result course
+  result (toEnd k) pr = at-end k
+  result (toStop s) pr = at-stop s pr
+
+  pub record After (course : Course) : Type 0 where
+    pub fine : Fine g n (imageLeft p image course)
+    pub same-faces : faces g n (viewsOf g (imageLeft p image course)) ≡ faces g n (viewsOf g image)
+    pub new-map : entries g n (viewsOf g (imageLeft p image course))
+        ≡ cond (isWritten p image course) (rebook v l t (entries g n (viewsOf g image))) (entries g n (viewsOf g image))
+    pub moved : Moved slip p course image (imageLeft p image course)
+
+  module _ (course : Course) (r : Result course) where
+    fine-left : Fine g n (left course)
+    fine-left = record { long = r .lands .long ∙ f .long; bytes = left-octets p image (f .bytes) course; unrefused = r .kept .attaches }
+
+    freed : Freed slip p course (left course)
+    freed = go course (r .ends) (attached slip g n chip (left course) (fine-left .long) (fine-left .unrefused))
+      where
+        go : (k : Course) → Ends k (viewsOf g (left course)) → outcomeOf slip (left course) ≡ whole g n (viewsOf g (left course)) → Freed slip p k (left course)
+        go (toEnd k) e q = rw (q, e)
+        go (toStop s) e q = tt
+
+    after-of : After course
+    unfolding makePlan
+    after-of = record {
+      fine = fine-left;
+      same-faces = r .kept .same-faces;
+      new-map = r .new-map;
+      moved = record {
+        same-length = r .lands .long;
+        elsewhere = same-byte g n p runs image (left course) (r .x) (f .long) (peb-above slip g n chip) (r .lands);
+        steps = record { go-on = all-go-on g n p runs image (f .long); are-done = all-done g n p runs image (f .long) };
+        freed = freed;
+      };
+    }
+
+  -- any course, with the premise if it was stopped
+  pub after : (course : Course) → premiseOf image course (imageLeft p image course) (given p) ≡ true → After course
+  after course pr = after-of course (result course pr)

@@ -1,12 +1,11 @@
 -- Bytes stay bytes, whatever is written. Assumes nothing.
-use mathlib.Core.Path.{_≡_, refl}
 use mathlib.Core.Bool.{Bool, true, false, cond}
-use mathlib.Core.List.{List, [], _∷_, _++_}
+use mathlib.Core.List.{List, [], _∷_}
 use Prim.Native.Nat.{ℕ, zero, suc, _+_, _*_, _-_, _<_, min}
 use native.Mathlib.Omega.{arith}
 use lib.Dec.{ltb, eqb, lit<}
-use lib.ListN.{length, take, drop, getD, replicate}
-use Rattle.base.specs.Lists.{part, put, Bytes}
+use lib.ListN.{take, replicate}
+use Rattle.base.specs.Lists.{part, Bytes}
 use Rattle.base.proofs.Lists.{bytes-take, bytes-part, EachByte, each-append, each-zero, bytes-each}
 use Rattle.base.proofs.Stores.{bytes-put}
 use Rattle.field.proofs.Laws.{each-toBe}

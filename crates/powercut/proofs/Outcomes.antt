@@ -1,12 +1,11 @@
 -- An image that attaches: with any tables that are long enough, and by its views. Assumes nothing.
-use mathlib.Core.Path.{_≡_, refl, sym, _∙_, ap, subst}
+use mathlib.Core.Path.{_≡_, refl, sym, _∙_, subst}
 use mathlib.Core.Bool.{Bool, true, false, cond, false≢true}
 use mathlib.Core.Option.{Option, none, some}
-use mathlib.Core.List.{List, [], _∷_}
-use Prim.Native.Nat.{ℕ, _+_, _*_, _/_, _%_, _≤_, _<_}
+use mathlib.Core.List.{List}
+use Prim.Native.Nat.{ℕ, _+_, _*_, _%_, _≤_, _<_}
 use native.Mathlib.Omega.{arith}
 use native.Mathlib.Nat.{div-le-self, div-add-mod', mul-div-cancel, mul-mod-left}
-use lib.Dec.{eqb, leb}
 use borrow.Author.Tests.{le-leb, leb-true, eqb-true, eq-eqb}
 use lib.ListN.{length, getD, length-replicate}
 use Rattle.base.specs.Answers.{Answer, given, refused, allOf}
@@ -19,21 +18,7 @@ use Rattle.geometry.proofs.Laws.{slip-placed}
 use Rattle.report.specs.View.{Views, viewsOf}
 use Rattle.report.specs.Scan.{Refusal}
 use Rattle.report.specs.Report.{refusal}
-use Rattle.report.specs.Attach.{
-  pebCount,
-  imageRules,
-  pebWordsNeeded,
-  mapWordsNeeded,
-  stateWordsNeeded,
-  longEnough,
-  Outcome,
-  early,
-  late,
-  whole,
-  byViews,
-  byGeometry,
-  attaching,
-}
+use Rattle.report.specs.Attach.{pebCount, imageRules, longEnough, early, whole, byViews, byGeometry, attaching}
 use Rattle.powercut.specs.Outcomes.{enough, outcomeOf, attaches}
 
 -- ---- tables long enough

@@ -1,25 +1,24 @@
 -- The steps of an accepted plan, called one by one: what they answer, and the image after any number of them. Assumes nothing.
 use mathlib.Core.Path.{_≡_, refl, sym, _∙_, ap, ap₂}
 use mathlib.Core.Logic.{_≢_}
-use mathlib.Core.Bool.{Bool, true, false, cond}
+use mathlib.Core.Bool.{Bool, true}
 use mathlib.Core.List.{List}
 use Prim.Native.Nat.{ℕ, zero, suc, _+_, _*_, _/_, _%_, _≤_, _<_, min}
 use native.Mathlib.Omega.{arith}
 use native.Mathlib.Nat.{div-add-mod', mod-lt}
 use native.Mathlib.Decide.{decLt}
-use lib.Dec.{ltb, eqb}
 use borrow.Author.Tests.{ne-eqb, lt-ltb, le-ltb}
 use lib.ListN.{length, drop, getD}
 use lib.Seq.{getD-take, getD-drop}
-use Rattle.base.specs.Answers.{Answer, given}
+use Rattle.base.specs.Answers.{given}
 use Rattle.geometry.specs.declared.Geometry.{Geometry}
 use Rattle.report.specs.View.{pebAt}
 use Rattle.plan.specs.declared.Plan.{Plan}
-use Rattle.plan.specs.Write.{nothing, appliedWhole, appliedCut, planGeometry, dataSteps, stepCount, unitBytes, writeAfter}
-use Rattle.plan.specs.Step.{stepRules, runnable, stepWrite, oneOn, Progress, on, done, stepAnswer, stepping, stepCut}
-use Rattle.powercut.specs.Calls.{Left, planLeft, nextStep, oneStep, afterSteps}
-use Rattle.powercut.proofs.Pebs.{Pair, Fits, step, steps}
-use Rattle.powercut.proofs.Images.{pairOf, Landed, landed-trans, cut-lands, whole-is-cut, nothing-lands}
+use Rattle.plan.specs.Write.{nothing, planGeometry, dataSteps, stepCount, unitBytes, writeAfter}
+use Rattle.plan.specs.Step.{stepRules, runnable, stepWrite, oneOn, on, done, stepAnswer, stepping, stepCut}
+use Rattle.powercut.specs.Calls.{planLeft, nextStep, oneStep, afterSteps}
+use Rattle.powercut.proofs.Pebs.{Pair, step, steps}
+use Rattle.powercut.proofs.Images.{Sited, pairOf, Landed, landed-trans, cut-lands, whole-is-cut, nothing-lands}
 
 -- the plan with k steps run
 abbrev pub atStep : Plan → ℕ → Plan
@@ -36,10 +35,7 @@ atStep p k = record {
 
 -- all that running a plan on images of n PEBs asks
 pub record Runs (g : Geometry) (n : ℕ) (p : Plan) : Type 0 where
-  pub fits : Fits g p
-  pub old-there : p .old < n
-  pub target-there : p .target < n
-  pub apart : p .old ≢ p .target
+  pub sited : Sited g n p
   pub geometry : planGeometry p ≡ g
   pub unstarted : p .steps ≡ 0
   pub is-runnable : (image : List ℕ) → length image ≡ n * g .«peb_size» → runnable p image ≡ true
@@ -63,10 +59,10 @@ late-write g p image (suc j) h =
 
 module _ (g : Geometry) (n : ℕ) (p : Plan) (r : Runs g n p) where
   abbrev pub pair : List ℕ → Pair
-  pair = pairOf g n p (r .fits) (r .old-there) (r .target-there) (r .apart)
+  pair = pairOf g n p (r .sited)
 
   abbrev pub Lands : List ℕ → Pair → List ℕ → Type 0
-  Lands = Landed g n p (r .fits) (r .old-there) (r .target-there) (r .apart)
+  Lands = Landed g n p (r .sited)
 
   -- the plan after k steps
   abbrev planAt : ℕ → Plan
@@ -120,8 +116,8 @@ module _ (g : Geometry) (n : ℕ) (p : Plan) (r : Runs g n p) where
     unfolding stepCut
     cut-at k x m set =
         let i : List ℕ = afterSteps p image k .image in
-        let c = cut-lands g n p (r .fits) (r .old-there) (r .target-there) (r .apart) i (ran-length k x) k m set in
-        landed-trans g n p (r .fits) (r .old-there) (r .target-there) (r .apart) image i _ (steps g p (pair image) k) _ (x .lands)
+        let c = cut-lands g n p (r .sited) i (ran-length k x) k m set in
+        landed-trans g n p (r .sited) image i _ (steps g p (pair image) k) _ (x .lands)
         (rw (write-at k x) (rw (x .lands .pair) at c))
 
     -- the next step, whole
@@ -134,7 +130,7 @@ module _ (g : Geometry) (n : ℕ) (p : Plan) (r : Runs g n p) where
     unfolding nextStep stepping stepCut
     image-at k x =
         let i : List ℕ = afterSteps p image k .image in
-        rw (write-at k x) (whole-is-cut g n p (r .fits) (r .old-there) (r .target-there) (r .apart) i (ran-length k x) k)
+        rw (write-at k x) (whole-is-cut g n p (r .sited) i (ran-length k x) k)
 
     plan-next : (k : ℕ) → Ran k → afterSteps p image (suc k) .plan ≡ planAt (suc k)
     unfolding afterSteps oneStep
@@ -155,7 +151,7 @@ module _ (g : Geometry) (n : ℕ) (p : Plan) (r : Runs g n p) where
         let e : min 0 (stepCount p) ≡ 0 = omega arith in
         record {
           plan = (λ i. atStep p (r .unstarted i)) ∙ rw e;
-          lands = nothing-lands g n p (r .fits) (r .old-there) (r .target-there) (r .apart) image len;
+          lands = nothing-lands g n p (r .sited) image len;
         }
     ran (suc k) =
         let x = ran k in

@@ -1,7 +1,7 @@
 -- A stopped move, seen on the views: the image still attaches, and what it says. Assumes nothing.
-use mathlib.Core.Path.{_≡_, refl, sym, _∙_, ap, fun-ext}
+use mathlib.Core.Path.{_≡_, refl, sym, _∙_, fun-ext}
 use mathlib.Core.Logic.{_≢_, _⊎_, inl, inr, ⊎-elim}
-use mathlib.Core.Bool.{Bool, true, false, _&&_, cond, and-false}
+use mathlib.Core.Bool.{Bool, true, false, _&&_, cond}
 use mathlib.Core.Option.{Option, none, some}
 use Prim.Native.Nat.{ℕ, _<_}
 use native.Mathlib.Omega.{arith}
@@ -11,7 +11,7 @@ use Rattle.base.proofs.Below.{eq-or-ne}
 use Rattle.geometry.specs.declared.Geometry.{Geometry}
 use Rattle.header.specs.declared.EcHeader.{EcHeader}
 use Rattle.header.specs.declared.VidHeader.{VidHeader}
-use Rattle.report.specs.View.{Copy, EcView, ecGood, VidView, vidGood, vidBlank, View, Views, ecs, copies, isMappable}
+use Rattle.report.specs.View.{Copy, ecGood, vidGood, vidBlank, Views, ecs, copies, isMappable}
 use Rattle.report.specs.Scan.{imageSeq, ecRefusal, vidRefusal, refusal5678}
 use Rattle.report.specs.Choice.{sound, repeats, refusal9, chosen}
 use Rattle.report.specs.Volumes.{faceOf, facesOf, placesOf, tableLeb}

@@ -1,11 +1,9 @@
 -- No power cut loses a block: demand 3. Assumes nothing.
 use mathlib.Core.Path.{_≡_, refl, sym, _∙_, ap, subst}
-use mathlib.Core.Bool.{Bool, true, false, cond}
-use mathlib.Core.Option.{Option, none, some}
+use mathlib.Core.Bool.{true}
+use mathlib.Core.Option.{some}
 use mathlib.Core.List.{List, [], _∷_}
-use Prim.Native.Nat.{ℕ, _*_}
-use native.Mathlib.Omega.{arith}
-use lib.ListN.{length}
+use Prim.Native.Nat.{ℕ}
 use Rattle.base.specs.Answers.{Answer, given, refused, mapO}
 use Rattle.base.specs.Lists.{table, Bytes}
 use Rattle.geometry.specs.declared.Geometry.{Geometry}
@@ -13,19 +11,16 @@ use Rattle.report.specs.View.{Copy, Views, viewsOf}
 use Rattle.report.specs.Volumes.{Face, Faces, tableLeb, tableRecords, tableMark, stateOf}
 use Rattle.report.specs.Report.{faces, stateAt, entries}
 use Rattle.report.specs.Attach.{Outcome, whole, stateWords}
-use Rattle.report.proofs.Map.{rebook}
 use Rattle.plan.specs.declared.Plan.{Plan}
-use Rattle.plan.specs.Begin.{makePlan, planOf, beginOn}
+use Rattle.plan.specs.Begin.{makePlan, planOf}
 use Rattle.plan.proofs.Accepted.{Accepted, accepted}
-use Rattle.powercut.specs.Outcomes.{outcomeOf, attaches, Table, tableIn, statesIn, mapIn, contentIn, classIn}
-use Rattle.powercut.specs.Calls.{Course, toEnd, toStop, Call, imageLeft}
-use Rattle.powercut.specs.Book.{isWritten, Booked, callLeft, begun, afterCall, atFirst, afterCalls, Each}
+use Rattle.powercut.specs.Outcomes.{outcomeOf, attaches, Table, tableIn, statesIn, mapIn, contentIn}
+use Rattle.powercut.specs.Calls.{Call, imageLeft}
+use Rattle.powercut.specs.Book.{Booked, callLeft, begun, afterCall, atFirst, afterCalls, Each}
 use Rattle.powercut.specs.Premise.{premiseOf, Premise}
-use Rattle.powercut.specs.Claim.{Freed, Moved, CallDone, Done, Kept, Claim}
-use Rattle.powercut.proofs.Outcomes.{Chip, peb-above, attached, Attached, has-attached}
-use Rattle.powercut.proofs.Runs.{same-byte, all-go-on, all-done}
-use Rattle.powercut.proofs.Octets.{left-octets}
-use Rattle.powercut.proofs.Move.{Fine, runs, Ends, Result, at-end, at-stop}
+use Rattle.powercut.specs.Claim.{Moved, CallDone, Done, Claim}
+use Rattle.powercut.proofs.Outcomes.{Chip, attached, has-attached}
+use Rattle.powercut.proofs.Move.{Fine, after}
 
 module _ (slip : List ℕ) (g : Geometry) (n : ℕ) (chip : Chip slip g n) where
   outcome-is : (image : List ℕ) → Fine g n image → outcomeOf slip image ≡ whole g n (viewsOf g image)
@@ -41,64 +36,17 @@ module _ (slip : List ℕ) (g : Geometry) (n : ℕ) (chip : Chip slip g n) where
     same-faces : faces g n (viewsOf g (x′ .image)) ≡ faces g n (viewsOf g (x .image))
     in-book : InBook x′
 
-  -- ---- an accepted call
+  -- ---- one call
 
-  module _ (x : Booked) (c : Call) (f : Fine g n (x .image)) (bk : InBook x) (o : ℕ) (cp : Copy)
-      (a : Accepted g n (viewsOf g (x .image)) (c .volume) (c .lnum) (c .target) o cp) where
-    abbrev vs : Views
-    vs = viewsOf g (x .image)
-
-    abbrev p : Plan
-    p = makePlan g n vs (c .target) o cp
-
-    abbrev left : Course → List ℕ
-    left course = imageLeft p (x .image) course
-
-    result : (course : Course) → premiseOf (x .image) course (left course) (given p) ≡ true
-        → Result slip g n chip (x .image) f (c .volume) (c .lnum) (c .target) o cp a course
-    result (toEnd k) pr = at-end slip g n chip (x .image) f (c .volume) (c .lnum) (c .target) o cp a k
-    result (toStop s) pr = at-stop slip g n chip (x .image) f (c .volume) (c .lnum) (c .target) o cp a s pr
-
-    module _ (course : Course) (r : Result slip g n chip (x .image) f (c .volume) (c .lnum) (c .target) o cp a course) where
-      fine-left : Fine g n (left course)
-      fine-left = record {
-        long = r .lands .long ∙ f .long;
-        bytes = left-octets p (x .image) (f .bytes) course;
-        unrefused = r .kept .attaches;
-      }
-
-      in-book-left : entries g n (viewsOf g (left course))
-          ≡ cond (isWritten p (x .image) course) (rebook (c .volume) (c .lnum) (c .target) (x .book)) (x .book)
-      unfolding makePlan
-      in-book-left = rw (← bk) (r .new-map)
-
-      freed : Freed slip p course (left course)
-      freed = go course (r .ends) (outcome-is (left course) fine-left)
-        where
-          go : (k : Course) → Ends slip g n chip (x .image) f (c .volume) (c .lnum) (c .target) o cp a k (viewsOf g (left course))
-              → outcomeOf slip (left course) ≡ whole g n (viewsOf g (left course)) → Freed slip p k (left course)
-          go (toEnd k) e q = rw (q, e)
-          go (toStop s) e q = tt
-
-      moved : Moved slip p course (x .image) (left course)
-      unfolding makePlan
-      moved =
-          let R = runs slip g n chip (x .image) f (c .volume) (c .lnum) (c .target) o cp a in
-          record {
-            same-length = r .lands .long;
-            elsewhere = same-byte g n p R (x .image) (left course) (r .x) (f .long) (peb-above slip g n chip) (r .lands);
-            steps = record { go-on = all-go-on g n p R (x .image) (f .long); are-done = all-done g n p R (x .image) (f .long) };
-            freed = freed;
-          }
-
-    accepted-call : premiseOf (x .image) (c .course) (left (c .course)) (given p) ≡ true
-        → Goes x (callLeft x c (given p)) × Moved slip p (c .course) (x .image) (left (c .course))
-    unfolding callLeft
-    accepted-call pr =
-        let r = result (c .course) pr in
-        (record { fine = fine-left (c .course) r; same-faces = r .kept .same-faces; in-book = in-book-left (c .course) r }, moved (c .course) r)
-
-  -- ---- any call
+  accepted-call : (x : Booked) (c : Call) (f : Fine g n (x .image)) → InBook x → (o : ℕ) (cp : Copy)
+      (a : Accepted g n (viewsOf g (x .image)) (c .volume) (c .lnum) (c .target) o cp)
+      → let p : Plan = makePlan g n (viewsOf g (x .image)) (c .target) o cp in
+      premiseOf (x .image) (c .course) (imageLeft p (x .image) (c .course)) (given p) ≡ true
+      → Goes x (callLeft x c (given p)) × Moved slip p (c .course) (x .image) (imageLeft p (x .image) (c .course))
+  unfolding callLeft
+  accepted-call x c f bk o cp a pr =
+      let r = after slip g n chip (x .image) f (c .volume) (c .lnum) (c .target) o cp a (c .course) pr in
+      (record { fine = r .fine; same-faces = r .same-faces; in-book = rw (← bk) (r .new-map) }, r .moved)
 
   one-call : (x : Booked) (c : Call) → Fine g n (x .image) → InBook x → Premise slip (x .image) c (afterCall slip x c .image)
       → Goes x (afterCall slip x c) × Done slip (x .image) c (afterCall slip x c .image)

@@ -5,7 +5,6 @@ use mathlib.Core.Option.{Option, none, some}
 use mathlib.Core.List.{List, []}
 use lib.ListN.{length, replicate}
 use Rattle.base.specs.Answers.{Answer, mapO}
-use Rattle.report.specs.View.{Views}
 use Rattle.report.specs.Volumes.{Face, Entry}
 use Rattle.report.specs.Report.{faces, records, taken, mark, entries, classAt}
 use Rattle.report.specs.Attach.{Outcome, early, late, whole, attaching, stateWords}
