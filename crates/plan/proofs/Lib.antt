@@ -4,3 +4,4 @@ pub mod Seen
 pub mod Accepted
 pub mod Good
 pub mod Bounds
+pub mod Bench

@@ -6,20 +6,21 @@ use mathlib.Core.List.{List, [], _∷_}
 use Prim.Native.Nat.{ℕ}
 use Rattle.base.specs.Answers.{Answer, given, refused, mapO}
 use Rattle.base.specs.Lists.{table, Bytes}
+use Rattle.geometry.specs.Slip.{slipGeometry}
 use Rattle.geometry.specs.declared.Geometry.{Geometry}
 use Rattle.report.specs.View.{Copy, Views, viewsOf}
 use Rattle.report.specs.Volumes.{Face, Faces, tableLeb, tableRecords, tableMark, stateOf}
 use Rattle.report.specs.Report.{faces, stateAt, entries}
-use Rattle.report.specs.Attach.{Outcome, whole, stateWords}
+use Rattle.report.specs.Attach.{pebCount, longEnough, Outcome, whole, stateWords}
 use Rattle.plan.specs.declared.Plan.{Plan}
-use Rattle.plan.specs.Begin.{makePlan, planOf}
+use Rattle.plan.specs.Begin.{makePlan, planOf, beginning}
 use Rattle.plan.proofs.Accepted.{Accepted, accepted}
 use Rattle.powercut.specs.Outcomes.{outcomeOf, attaches, Table, tableIn, statesIn, mapIn, contentIn}
 use Rattle.powercut.specs.Calls.{Call, imageLeft}
 use Rattle.powercut.specs.Book.{Booked, callLeft, begun, afterCall, atFirst, afterCalls, Each}
 use Rattle.powercut.specs.Premise.{premiseOf, Premise}
 use Rattle.powercut.specs.Claim.{Moved, CallDone, Done, Claim}
-use Rattle.powercut.proofs.Outcomes.{Chip, attached, has-attached}
+use Rattle.powercut.proofs.Outcomes.{any-tables, Chip, attached, has-attached}
 use Rattle.powercut.proofs.Move.{Fine, after}
 
 module _ (slip : List ℕ) (g : Geometry) (n : ℕ) (chip : Chip slip g n) where
@@ -123,3 +124,10 @@ no-cut-loses-a-block slip image calls bytes at pr =
       };
       each = r .1;
     }
+
+-- a call's beginning, with any lent tables that are long enough (`any-tables` of Outcomes says the same of attaching)
+pub any-beginning : (slip image pebs map states : List ℕ) (g : Geometry) → slipGeometry slip ≡ given g
+    → longEnough (pebCount g image) pebs map states ≡ true → (c : Call)
+    → beginning slip image pebs map states (c .volume) (c .lnum) (c .target) ≡ begun slip image c
+unfolding beginning begun
+any-beginning slip image pebs map states g e h c = rw (any-tables slip image pebs map states g e h)
