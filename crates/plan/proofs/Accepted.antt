@@ -1,22 +1,22 @@
 -- What the beginning of an accepted move has established. Assumes nothing.
 use mathlib.Core.Path.{_≡_, refl, sym, subst}
-use mathlib.Core.Logic.{_≢_, _⊎_, inl, inr, ⊎-elim}
-use mathlib.Core.Bool.{Bool, true, false, not, _&&_, _||_, cond, false≢true}
+use mathlib.Core.Logic.{_≢_, _⊎_, inl, inr}
+use mathlib.Core.Bool.{Bool, true, false, not, _&&_, _||_, cond}
 use mathlib.Core.Option.{Option, none, some}
-use mathlib.Core.List.{List, [], _∷_, List·Memᴰ, List·Memᴰ·head, List·Memᴰ·tail}
+use mathlib.Core.List.{List}
 use Prim.Native.Nat.{ℕ, _+_, _-_, _^_, _<_}
 use native.Mathlib.Omega.{arith}
 use lib.Dec.{eqb, ltb}
 use borrow.Author.Tests.{eqb-true, eqb-false, ltb-true, lt-ltb, eq-eqb, not-false}
 use Rattle.base.specs.Answers.{Answer, given}
-use Rattle.base.proofs.Answers.{and-left, and-right, or-left, or-right, or-true-cases, or-true-right}
+use Rattle.base.proofs.Answers.{or-left, or-right, or-true-right}
 use Rattle.base.proofs.Highest.{max-at}
 use Rattle.geometry.specs.declared.Geometry.{Geometry}
 use Rattle.header.specs.Vid.{layoutVolume}
 use Rattle.header.specs.declared.EcHeader.{EcHeader}
 use Rattle.report.specs.View.{Copy, EcView, ecGood, ecNewer, ecBlank, ecLost, VidView, vidGood, vidNewer, vidBlank, vidBad, Views, copies, isMappable}
 use Rattle.report.specs.Choice.{sound, chosen}
-use Rattle.report.specs.Volumes.{Places, Entry, recordFor, reservedOf, mapOf}
+use Rattle.report.specs.Volumes.{Places, recordFor, reservedOf, mapOf}
 use Rattle.report.specs.Report.{isPlace, staysIn, classOf, highestOf, sequenceOr0, places, records, classAt, entries}
 use Rattle.report.proofs.First.{none-some}
 use Rattle.report.proofs.Facts.{when-none}
@@ -24,21 +24,9 @@ use Rattle.report.proofs.Map.{in-map}
 use Rattle.plan.specs.Headers.{isStatic, oldCounter}
 use Rattle.plan.specs.Begin.{isIn, unlessRefused, refusal13, mapped, refusal15, refusal16, refusal17, makePlan, planFor, planOf}
 use Rattle.plan.specs.declared.Plan.{Plan}
+use Rattle.plan.proofs.Mapped.{in-list}
 
 -- ---- the map
-
-in-list : (v l : ℕ) (es : List Entry) → isIn v l es ≡ true → (e : Entry) × List·Memᴰ e es × (e .volume ≡ v) × (e .lnum ≡ l)
-in-list v l [] q = absurd (false≢true q)
-in-list v l (e ∷ es) q =
-    ⊎-elim
-    (λ (h : eqb (e .volume) v && eqb (e .lnum) l ≡ true). (
-      e,
-      List·Memᴰ·head refl,
-      eqb-true (e .volume) v (and-left (eqb (e .volume) v) (eqb (e .lnum) l) h),
-      eqb-true (e .lnum) l (and-right (eqb (e .volume) v) (eqb (e .lnum) l) h),
-    ))
-    (λ (h : isIn v l es ≡ true). let r = in-list v l es h in (r .0, List·Memᴰ·tail (r .1), r .2, r .3))
-    (or-true-cases (eqb (e .volume) v && eqb (e .lnum) l) (isIn v l es) q)
 
 -- a LEB in the map is a user LEB below reserved, or a layout LEB
 abbrev pub InMap : List ℕ → ℕ → ℕ → Type 0
