@@ -13,7 +13,7 @@ use Rattle.report.specs.Volumes.{Face, Faces, tableLeb, tableRecords, tableMark
 use Rattle.report.specs.Report.{faces, stateAt, entries}
 use Rattle.report.specs.Attach.{pebCount, longEnough, Outcome, whole, stateWords}
 use Rattle.plan.specs.declared.Plan.{Plan}
-use Rattle.plan.specs.Begin.{makePlan, planOf, beginning}
+use Rattle.plan.specs.Begin.{makePlan, planOf, beginOn, beginning}
 use Rattle.plan.proofs.Accepted.{Accepted, accepted}
 use Rattle.powercut.specs.Outcomes.{outcomeOf, attaches, Table, tableIn, statesIn, mapIn, contentIn}
 use Rattle.powercut.specs.Calls.{Call, imageLeft}
@@ -39,6 +39,10 @@ module _ (slip : List ℕ) (g : Geometry) (n : ℕ) (chip : Chip slip g n) where
 
   -- ---- one call
 
+  begun-is : (image : List ℕ) (f : Fine g n image) (c : Call) → begun slip image c ≡ planOf g n (viewsOf g image) (c .volume) (c .lnum) (c .target)
+  unfolding begun beginning outcomeOf
+  begun-is image f c = ap (λ (y : Outcome). beginOn y (c .volume) (c .lnum) (c .target)) (outcome-is image f)
+
   accepted-call : (x : Booked) (c : Call) (f : Fine g n (x .image)) → InBook x → (o : ℕ) (cp : Copy)
       (a : Accepted g n (viewsOf g (x .image)) (c .volume) (c .lnum) (c .target) o cp)
       → let p : Plan = makePlan g n (viewsOf g (x .image)) (c .target) o cp in
@@ -51,7 +55,7 @@ module _ (slip : List ℕ) (g : Geometry) (n : ℕ) (chip : Chip slip g n) where
 
   one-call : (x : Booked) (c : Call) → Fine g n (x .image) → InBook x → Premise slip (x .image) c (afterCall slip x c .image)
       → Goes x (afterCall slip x c) × Done slip (x .image) c (afterCall slip x c .image)
-  unfolding afterCall Premise Done callLeft begun
+  unfolding afterCall Premise Done callLeft
   one-call x c f bk pr = by (begun slip (x .image) c) refl pr
     where
       vs : Views
@@ -61,8 +65,7 @@ module _ (slip : List ℕ) (g : Geometry) (n : ℕ) (chip : Chip slip g n) where
           → Goes x (callLeft x c y) × CallDone slip (x .image) (c .course) (callLeft x c y .image) y
       by (refused k q) e pr = (record { fine = f; same-faces = refl; in-book = bk }, refl)
       by (given p) e pr =
-          let is : planOf g n vs (c .volume) (c .lnum) (c .target) ≡ given p = rw (outcome-is (x .image) f) at e in
-          let a = accepted g n vs (c .volume) (c .lnum) (c .target) p is in
+          let a = accepted g n vs (c .volume) (c .lnum) (c .target) p (sym (begun-is (x .image) f c) ∙ e) in
           subst
           (λ (q : Plan). premiseOf (x .image) (c .course) (imageLeft q (x .image) (c .course)) (given q) ≡ true
           → Goes x (callLeft x c (given q)) × Moved slip q (c .course) (x .image) (imageLeft q (x .image) (c .course)))
@@ -129,5 +132,6 @@ no-cut-loses-a-block slip image calls bytes at pr =
 pub any-beginning : (slip image pebs map states : List ℕ) (g : Geometry) → slipGeometry slip ≡ given g
     → longEnough (pebCount g image) pebs map states ≡ true → (c : Call)
     → beginning slip image pebs map states (c .volume) (c .lnum) (c .target) ≡ begun slip image c
-unfolding beginning begun
-any-beginning slip image pebs map states g e h c = rw (any-tables slip image pebs map states g e h)
+unfolding beginning begun outcomeOf
+any-beginning slip image pebs map states g e h c =
+    ap (λ (y : Outcome). beginOn y (c .volume) (c .lnum) (c .target)) (any-tables slip image pebs map states g e h)

@@ -10,9 +10,9 @@ use Rattle.report.specs.View.{vidPart, pebAt}
 use Rattle.report.specs.Volumes.{Entry}
 use Rattle.report.proofs.Map.{rebook}
 use Rattle.plan.specs.declared.Plan.{Plan}
-use Rattle.plan.specs.Begin.{beginOn}
+use Rattle.plan.specs.Begin.{beginning}
 use Rattle.plan.specs.Write.{planGeometry}
-use Rattle.powercut.specs.Outcomes.{outcomeOf, mapIn}
+use Rattle.powercut.specs.Outcomes.{enough, outcomeOf, mapIn}
 use Rattle.powercut.specs.Calls.{Course, toEnd, toStop, Call, imageLeft}
 
 -- ---- the bytes of a move
@@ -59,9 +59,9 @@ callLeft x c (given p) = record {
 }
 
 module _ (slip : List ℕ) where
-  -- what the beginning of a call answers
+  -- what the beginning of a call answers, with tables long enough
   unfoldable pub begun : List ℕ → Call → Answer Plan
-  begun image c = beginOn (outcomeOf slip image) (c .volume) (c .lnum) (c .target)
+  begun image c = beginning slip image (enough image) (enough image) (enough image) (c .volume) (c .lnum) (c .target)
 
   unfoldable pub afterCall : Booked → Call → Booked
   afterCall x c = callLeft x c (begun (x .image) c)

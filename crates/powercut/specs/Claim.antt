@@ -14,14 +14,14 @@ use Rattle.powercut.specs.Outcomes.{outcomeOf, attaches, tableIn, states
 use Rattle.powercut.specs.Calls.{Course, toEnd, toStop, Call, afterSteps, nextStep}
 use Rattle.powercut.specs.Book.{Booked, begun, atFirst, afterCalls, Each}
 
-module _ (slip : List ℕ) where
-  -- "Moving .. takes .. steps": none of a plan's steps is refused, as many as 01 gives go on, and "Further steps answer done and change
-  -- nothing."
-  pub record Steps (p : Plan) (image : List ℕ) : Type 0 where
-    pub go-on : (k : ℕ) → k < stepCount p → nextStep (afterSteps p image k) .answer ≡ given (on (afterSteps p image (suc k) .plan))
-    pub are-done : (k : ℕ) → stepCount p ≤ k
-        → (nextStep (afterSteps p image k) .answer ≡ given done) × (nextStep (afterSteps p image k) .image ≡ afterSteps p image k .image)
+-- the steps of an accepted move, called one by one: none is refused; the first go on, as many as 01 gives; "Further steps answer done
+-- and change nothing."
+pub record Steps (p : Plan) (image : List ℕ) : Type 0 where
+  pub go-on : (k : ℕ) → k < stepCount p → nextStep (afterSteps p image k) .answer ≡ given (on (afterSteps p image (suc k) .plan))
+  pub are-done : (k : ℕ) → stepCount p ≤ k
+      → (nextStep (afterSteps p image k) .answer ≡ given done) × (nextStep (afterSteps p image k) .image ≡ afterSteps p image k .image)
 
+module _ (slip : List ℕ) where
   -- an accepted move that was not cut ended with its old block in class 0
   abbrev pub Freed : Plan → Course → List ℕ → Type 0
   Freed p (toEnd further) last = classIn (outcomeOf slip last) (p .old) ≡ some 0

@@ -9,8 +9,8 @@ use Rattle.report.specs.Volumes.{Face, Entry}
 use Rattle.report.specs.Report.{faces, records, taken, mark, entries, classAt}
 use Rattle.report.specs.Attach.{Outcome, early, late, whole, attaching, stateWords}
 
--- "attaching is judged with tables long enough": no image needs more words than these (proofs/Tables.antt: all tables that are long
--- enough come to the same)
+-- "attaching is judged with tables long enough": no image needs more words than these. All tables that are long enough come
+-- to the same: `any-tables` of proofs/Outcomes.antt, `any-beginning` of proofs/Theorem.antt
 unfoldable pub enough : List ℕ → List ℕ
 enough image = replicate (length image * 3 + 128) 0
 
