@@ -26,7 +26,7 @@ abbrev pub afterSlip : Answer Geometry → Outcome
 afterSlip (refused k p) = early k
 afterSlip (given g) = early 3
 
--- the tables that the program lends: 61,420 bytes are 59 PEBs at the most
+-- the tables that the program lends: 61,420 bytes are 59 PEBs at the most, so they are never too short (`tables-suffice` of proofs/Bounds.antt)
 unfoldable pub pebTable : List ℕ
 pebTable = replicate 118 0
 
@@ -49,7 +49,7 @@ textFor o = textOf (answerOf o) (pebsAfter o pebTable) (mapAfter o mapTable) (st
 unfoldable pub listingOf : List ℕ → Bool → List ℕ
 listingOf input more = textFor (judging input more)
 
--- the text's length, or refusal 4: the "buffer is too short"
+-- the text's length, or refusal 4, here for the text's buffer
 unfoldable pub listed : List ℕ → Bool → List ℕ → Answer ℕ
 listed input more out = cond (leb (length (listingOf input more)) (length out)) (given (length (listingOf input more))) (refused 4 0)
 

@@ -17,7 +17,7 @@ tablesHold (given r) pebs map states = allOf (leb (r .«peb_count» * 2) (length
 tablesHold (refused k p) pebs map states = true
 
 module _ (a : Answer Report) (pebs map states out : List ℕ) where
-  -- refusal 4: "a lent table or header buffer is too short"
+  -- refusal 4: "a lent table .. is too short", and so here the text's buffer
   unfoldable pub hasRoom : Bool
   hasRoom = tablesHold a pebs map states && leb (length (textOf a pebs map states)) (length out)
 

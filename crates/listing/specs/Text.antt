@@ -1,4 +1,4 @@
--- 01 'Bench values': the text of a listing, "from a report and its three tables". Assumes nothing.
+-- 01 'Bench values': the text of a listing, from a report and its three tables. Assumes nothing.
 use Prim.Native.Nat.{ℕ, zero, suc, _+_, _*_, _/_, _%_}
 use Prim.Native.Char.{code}
 use Prim.Native.String.{String, [] as empty, _∷_ as _then_}

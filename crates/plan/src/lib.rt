@@ -15,7 +15,7 @@ pub struct Plan {
     // the target's VID header, and the old PEB's EC header once it is erased
     pub vid: VidHeader,
     pub ec: EcHeader,
-    // the steps that were run
+    // the number of steps run
     pub steps: u32,
 }
 

@@ -27,7 +27,8 @@ use Rattle.report.specs.Attach.{pebCount, imageRules, whole}
 use Rattle.report.proofs.Choice.{chosen-at}
 use Rattle.report.proofs.Facts.{parts, none5678-at}
 use Rattle.report.proofs.First.{none-some}
-use Rattle.report.proofs.Map.{rebooked, rebook, map-moved}
+use Rattle.report.specs.Volumes.{placeWritten}
+use Rattle.report.proofs.Map.{placesWith, map-moved}
 use Rattle.plan.specs.declared.Plan.{Plan}
 use Rattle.plan.specs.Headers.{newVid}
 use Rattle.plan.specs.Begin.{makePlan}
@@ -291,13 +292,13 @@ module _ (slip : List ℕ) (g : Geometry) (n : ℕ) (chip : Chip slip g n) (imag
 
     -- the map with the place written
     map-after : (w : Bool) → Keeps g n vs vs′ v l (p .target) w
-        → entries g n vs′ ≡ cond w (rebook v l (p .target) (entries g n vs)) (entries g n vs)
+        → entries g n vs′ ≡ cond w (placeWritten v l (p .target) (entries g n vs)) (entries g n vs)
     unfolding entries placesOf
     map-after w k = ap₂ mapOf (ap (tableRecords g n) (k .same-faces)) (k .new-places) ∙ go w
       where
         go : (w : Bool)
-            → mapOf (records g n vs) (cond w (rebooked v l (p .target) (places g n vs)) (places g n vs))
-            ≡ cond w (rebook v l (p .target) (mapOf (records g n vs) (places g n vs))) (mapOf (records g n vs) (places g n vs))
+            → mapOf (records g n vs) (cond w (placesWith v l (p .target) (places g n vs)) (places g n vs))
+            ≡ cond w (placeWritten v l (p .target) (mapOf (records g n vs) (places g n vs))) (mapOf (records g n vs) (places g n vs))
         go true = map-moved v l (p .target) (places g n vs) (p .old) (rw (ready .is-chosen)) (records g n vs)
         go false = refl
 
@@ -314,7 +315,7 @@ module _ (slip : List ℕ) (g : Geometry) (n : ℕ) (chip : Chip slip g n) (imag
     x : Pair
     lands : Lands g n p runs image x (left course)
     kept : Keeps g n vs (viewsOf g (left course)) v l (p .target) (isWritten p image course)
-    new-map : entries g n (viewsOf g (left course)) ≡ cond (isWritten p image course) (rebook v l (p .target) (entries g n vs)) (entries g n vs)
+    new-map : entries g n (viewsOf g (left course)) ≡ cond (isWritten p image course) (placeWritten v l (p .target) (entries g n vs)) (entries g n vs)
     ends : Ends course (viewsOf g (left course))
 
   abbrev start : Pair
@@ -356,7 +357,7 @@ module _ (slip : List ℕ) (g : Geometry) (n : ℕ) (chip : Chip slip g n) (imag
     pub fine : Fine g n (imageLeft p image course)
     pub same-faces : faces g n (viewsOf g (imageLeft p image course)) ≡ faces g n (viewsOf g image)
     pub new-map : entries g n (viewsOf g (imageLeft p image course))
-        ≡ cond (isWritten p image course) (rebook v l t (entries g n (viewsOf g image))) (entries g n (viewsOf g image))
+        ≡ cond (isWritten p image course) (placeWritten v l t (entries g n (viewsOf g image))) (entries g n (viewsOf g image))
     pub moved : Moved slip p course image (imageLeft p image course)
 
   module _ (course : Course) (r : Result course) where

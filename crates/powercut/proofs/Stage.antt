@@ -17,7 +17,7 @@ use Rattle.report.specs.Choice.{sound, repeats, refusal9, chosen}
 use Rattle.report.specs.Volumes.{faceOf, facesOf, placesOf, tableLeb}
 use Rattle.report.specs.Report.{faces, places, records, refusal}
 use Rattle.report.proofs.Choice.{Moving, chosen-at, chosen-cong, chosen-unsound, chosen-moved, chosen-other, key-or}
-use Rattle.report.proofs.Map.{rebooked}
+use Rattle.report.proofs.Map.{placesWith}
 use Rattle.report.proofs.Facts.{Parts, parts, of-parts, first-some, none5678-at, no-5678, none9-at, no-9, no-10}
 use Rattle.report.proofs.Tables.{no-1112}
 
@@ -115,7 +115,7 @@ isWhole (whole new a b c d e f k) = true
 pub record Keeps (g : Geometry) (n : ℕ) (vs vs′ : Views) (v l t : ℕ) (w : Bool) : Type 0 where
   pub attaches : refusal g n vs′ ≡ none
   pub same-faces : faces g n vs′ ≡ faces g n vs
-  pub new-places : places g n vs′ ≡ cond w (rebooked v l t (places g n vs)) (places g n vs)
+  pub new-places : places g n vs′ ≡ cond w (placesWith v l t (places g n vs)) (places g n vs)
 
 key-miss : {A : Type 0} (v l v′ l′ : ℕ) → ((v ≡ v′) → (l ≡ l′) → ⊥) → (x y : A) → cond (eqb v v′ && eqb l l′) x y ≡ y
 key-miss {A} v l v′ l′ ne x y = go (eqb v v′) refl (eqb l l′) refl
@@ -155,7 +155,7 @@ module _ (g : Geometry) (n : ℕ) (vs vs′ : Views) (v l o t : ℕ) (old : Copy
 
   -- what is left: no refusal 9, the same faces, the places
   finish : (w : Bool) (i : ℕ) (c : Copy) → i < n → copies vs′ i ≡ some c → refusal5678 g n vs′ ≡ none → refusal9 n (copies vs′) ≡ none
-      → faces g n vs′ ≡ faces g n vs → places g n vs′ ≡ cond w (rebooked v l t (places g n vs)) (places g n vs) → Keeps g n vs vs′ v l t w
+      → faces g n vs′ ≡ faces g n vs → places g n vs′ ≡ cond w (placesWith v l t (places g n vs)) (places g n vs) → Keeps g n vs vs′ v l t w
   finish w i c k q r58 r9 fe pe = record {
     attaches = of-parts g n vs′ (record {
       none5678 = r58;
@@ -231,7 +231,7 @@ module _ (g : Geometry) (n : ℕ) (vs vs′ : Views) (v l o t : ℕ) (old : Copy
       face-at v′ l′ (inl e) = rw (← (e .0), ← (e .1), chosen-moved n (copies vs) (copies vs′) v l o t old new m s left, b .is-chosen, fe)
       face-at v′ l′ (inr ne) = rw (chosen-other n (copies vs) (copies vs′) v l o t old new m s left v′ l′ ne)
 
-      place-at : (v′ l′ : ℕ) → ((v ≡ v′) × (l ≡ l′)) ⊎ ((v ≡ v′) → (l ≡ l′) → ⊥) → places g n vs′ v′ l′ ≡ rebooked v l t (places g n vs) v′ l′
+      place-at : (v′ l′ : ℕ) → ((v ≡ v′) × (l ≡ l′)) ⊎ ((v ≡ v′) → (l ≡ l′) → ⊥) → places g n vs′ v′ l′ ≡ placesWith v l t (places g n vs) v′ l′
       place-at v′ l′ (inl e) =
           rw (← (e .0), ← (e .1), chosen-moved n (copies vs) (copies vs′) v l o t old new m s left, eq-eqb v v refl, eq-eqb l l refl)
       place-at v′ l′ (inr ne) =

@@ -7,8 +7,7 @@ use Rattle.base.specs.Answers.{Answer, given, refused}
 use Rattle.base.specs.Lists.{part, eqs}
 use Rattle.header.specs.Vid.{vidBytes}
 use Rattle.report.specs.View.{vidPart, pebAt}
-use Rattle.report.specs.Volumes.{Entry}
-use Rattle.report.proofs.Map.{rebook}
+use Rattle.report.specs.Volumes.{Entry, placeWritten}
 use Rattle.plan.specs.declared.Plan.{Plan}
 use Rattle.plan.specs.Begin.{beginning}
 use Rattle.plan.specs.Write.{planGeometry}
@@ -49,13 +48,12 @@ pub record Booked : Type 0 where
   pub image : List ℕ
   pub book : List Entry
 
--- what a call leaves, by the answer of its beginning; "a refused one writes nothing". `rebook` is the book with the PEB written for
--- the LEB
+-- what a call leaves, by the answer of its beginning; "a refused one writes nothing".
 unfoldable pub callLeft : Booked → Call → Answer Plan → Booked
 callLeft x c (refused k q) = x
 callLeft x c (given p) = record {
   image = imageLeft p (x .image) (c .course);
-  book = cond (isWritten p (x .image) (c .course)) (rebook (c .volume) (c .lnum) (c .target) (x .book)) (x .book);
+  book = cond (isWritten p (x .image) (c .course)) (placeWritten (c .volume) (c .lnum) (c .target) (x .book)) (x .book);
 }
 
 module _ (slip : List ℕ) where

@@ -28,7 +28,7 @@ use Rattle.base.specs.Below.{sumBelow, concatBelow}
 use Rattle.base.proofs.Answers.{and-left, and-right}
 use Rattle.base.proofs.Below.{below-suc}
 use Rattle.header.specs.Vid.{layoutVolume}
-use Rattle.report.specs.Volumes.{Places, recordFor, reservedOf, Entry, entryAt, mapUpTo, mapOf}
+use Rattle.report.specs.Volumes.{Places, recordFor, reservedOf, Entry, entryAt, mapUpTo, mapOf, placeWritten}
 use Rattle.report.proofs.First.{none-some}
 
 -- ---- joined lists
@@ -254,20 +254,17 @@ module _ (k m : ℕ) (t : List ℕ) (ps : Places) where
 
 -- ---- after a LEB's place changed
 
--- the places with PEB p written for the LEB (v, l), and a map so
-abbrev pub rebooked : ℕ → ℕ → ℕ → Places → Places
-rebooked v l p ps v′ l′ = cond (eqb v v′ && eqb l l′) (some p) (ps v′ l′)
-
-abbrev pub rebook : ℕ → ℕ → ℕ → List Entry → List Entry
-rebook v l p = map (λ (e : Entry). record { volume = e .volume; lnum = e .lnum; peb = cond (eqb v (e .volume) && eqb l (e .lnum)) p (e .peb) })
+-- the places with PEB p written for the LEB (v, l)
+abbrev pub placesWith : ℕ → ℕ → ℕ → Places → Places
+placesWith v l p ps v′ l′ = cond (eqb v v′ && eqb l l′) (some p) (ps v′ l′)
 
 module _ (v l p : ℕ) (ps : Places) (o : ℕ) (has : ps v l ≡ some o) where
-  -- an entry that is there stays there; its place changes with the book
-  entry-moved : (v′ l′ : ℕ) → rebook v l p (entryAt v′ l′ (ps v′ l′)) ≡ entryAt v′ l′ (rebooked v l p ps v′ l′)
+  -- an entry that is there stays there; its place changes
+  entry-moved : (v′ l′ : ℕ) → placeWritten v l p (entryAt v′ l′ (ps v′ l′)) ≡ entryAt v′ l′ (placesWith v l p ps v′ l′)
   entry-moved v′ l′ = go (ps v′ l′) (eqb v v′ && eqb l l′) refl refl
     where
       go : (x : Option ℕ) (b : Bool) → eqb v v′ && eqb l l′ ≡ b → ps v′ l′ ≡ x
-          → rebook v l p (entryAt v′ l′ x) ≡ entryAt v′ l′ (cond (eqb v v′ && eqb l l′) (some p) x)
+          → placeWritten v l p (entryAt v′ l′ x) ≡ entryAt v′ l′ (cond (eqb v v′ && eqb l l′) (some p) x)
       go none true q k =
           let a : v ≡ v′ = eqb-true v v′ (and-left _ (eqb l l′) q) in
           let b : l ≡ l′ = eqb-true l l′ (and-right (eqb v v′) _ q) in
@@ -276,10 +273,10 @@ module _ (v l p : ℕ) (ps : Places) (o : ℕ) (has : ps v l ≡ some o) where
       go (some r) true q k = rw q
       go (some r) false q k = rw q
 
-  entries-moved : (v′ r : ℕ) → rebook v l p (entriesOf ps v′ r) ≡ entriesOf (rebooked v l p ps) v′ r
+  entries-moved : (v′ r : ℕ) → placeWritten v l p (entriesOf ps v′ r) ≡ entriesOf (placesWith v l p ps) v′ r
   entries-moved v′ r = map-concat _ r (λ l. entryAt v′ l (ps v′ l)) ∙ concat-cong r _ _ (λ l′ _. entry-moved v′ l′)
 
-  map-moved-upto : (k m : ℕ) (t : List ℕ) → mapUpTo k m t (rebooked v l p ps) ≡ rebook v l p (mapUpTo k m t ps)
+  map-moved-upto : (k m : ℕ) (t : List ℕ) → mapUpTo k m t (placesWith v l p ps) ≡ placeWritten v l p (mapUpTo k m t ps)
   unfolding mapUpTo
   map-moved-upto k m t =
       sym
@@ -288,6 +285,6 @@ module _ (v l p : ℕ) (ps : Places) (o : ℕ) (has : ps v l ≡ some o) where
       (map-concat _ k (users t ps) ∙ concat-cong k _ _ (λ v′ _. entries-moved v′ (reservedOf (recordFor t v′))))
       (entries-moved layoutVolume m))
 
-  pub map-moved : (t : List ℕ) → mapOf t (rebooked v l p ps) ≡ rebook v l p (mapOf t ps)
+  pub map-moved : (t : List ℕ) → mapOf t (placesWith v l p ps) ≡ placeWritten v l p (mapOf t ps)
   unfolding mapOf
   map-moved t = map-moved-upto 128 2 t

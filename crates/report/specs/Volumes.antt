@@ -3,7 +3,7 @@
 use Prim.Native.Nat.{ℕ, _-_}
 use mathlib.Core.Bool.{Bool, true, false, not, _&&_, _||_, cond}
 use mathlib.Core.Option.{Option, none, some}
-use mathlib.Core.List.{List, [], _∷_, _++_}
+use mathlib.Core.List.{List, [], _∷_, _++_, map}
 use lib.Bits.{bitAnd}
 use lib.Dec.{eqb, ltb}
 use lib.ListN.{take}
@@ -101,6 +101,10 @@ mapUpTo k m t ps =
 
 unfoldable pub mapOf : List ℕ → Places → List Entry
 mapOf t ps = mapUpTo 128 2 t ps
+
+-- 01 'The mover's steps': the place book, a map, in which a move "writes its target for its LEB"
+abbrev pub placeWritten : ℕ → ℕ → ℕ → List Entry → List Entry
+placeWritten v l p = map (λ (e : Entry). record { volume = e .volume; lnum = e .lnum; peb = cond (eqb v (e .volume) && eqb l (e .lnum)) p (e .peb) })
 
 -- used LEBs of the "volume's first entry"
 unfoldable pub usedOf : List ℕ → Faces → ℕ → Option ℕ
