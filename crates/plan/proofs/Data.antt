@@ -1,15 +1,16 @@
 -- The data of a move: what lies behind its end is 0xFF. Assumes nothing.
 use mathlib.Core.Path.{_≡_, refl, sym, _∙_, ap, ap₂}
-use mathlib.Core.Bool.{Bool, true, false, cond}
+use mathlib.Core.Logic.{_≢_}
+use mathlib.Core.Bool.{Bool, true, false, _&&_, cond, and-true, and-assoc}
 use mathlib.Core.List.{List, [], _∷_, _++_}
 use Prim.Native.Nat.{ℕ, zero, suc, _+_, _-_, _*_, _/_, _%_, _≤_, _<_}
 use native.Mathlib.Nat.{div-add-mod'}
 use native.Mathlib.Omega.{arith}
 use lib.Dec.{eqb}
-use borrow.Author.Tests.{eqb-true}
-use lib.ListN.{length, take, drop, replicate}
+use borrow.Author.Tests.{eqb-true, eq-eqb}
+use lib.ListN.{length, take, drop, getD, replicate}
 use lib.Seq.{take-add, length-take-le}
-use Rattle.base.proofs.Answers.{and-left, and-right}
+use Rattle.base.proofs.Answers.{clash, and-left, and-right}
 use Rattle.base.proofs.Stores.{drop-replicate, take-replicate}
 use Rattle.geometry.specs.Geometry.{roundUp}
 use Rattle.geometry.proofs.Laws.{round-least}
@@ -20,6 +21,16 @@ pub all-ff : (l : List ℕ) → allFF l ≡ true → l ≡ replicate (length l) 
 unfolding allFF
 all-ff [] e = refl
 all-ff (b ∷ l) e = ap₂ _∷_ (eqb-true b 0xFF (and-left (eqb b 0xFF) (allFF l) e)) (all-ff l (and-right (eqb b 0xFF) (allFF l) e))
+
+-- nothing but 0xFF where the end is 0
+none-left : (l : List ℕ) → dataEnd l ≡ 0 → allFF l ≡ true
+unfolding dataEnd allFF
+none-left [] e = refl
+none-left (b ∷ l) e = go (allFF (b ∷ l)) refl e
+  where
+    go : (c : Bool) → allFF (b ∷ l) ≡ c → cond c 0 (suc (dataEnd l)) ≡ 0 → allFF (b ∷ l) ≡ true
+    go true q e = q
+    go false q e = absurd (omega arith)
 
 pub end-within : (l : List ℕ) → dataEnd l ≤ length l
 unfolding dataEnd
@@ -45,6 +56,41 @@ end-rest (b ∷ l) s h = go (allFF (b ∷ l)) refl h (end-rest l)
         below : (s : ℕ) → suc (dataEnd l) ≤ s → drop s (b ∷ l) ≡ replicate (length (b ∷ l) - s) 0xFF
         below zero h = absurd (omega arith)
         below (suc s) h = let q : suc (length l) - suc s ≡ length l - s = omega arith in rw q (ih s (omega arith))
+
+-- the byte before the end is not 0xFF
+pub end-last : (l : List ℕ) (k : ℕ) → dataEnd l ≡ suc k → getD l k 0 ≢ 0xFF
+unfolding dataEnd allFF
+end-last [] k e = absurd (omega arith)
+end-last (b ∷ l) k e = go (allFF (b ∷ l)) refl k e (end-last l)
+  where
+    go : (c : Bool) → allFF (b ∷ l) ≡ c → (k : ℕ) → cond c 0 (suc (dataEnd l)) ≡ suc k
+        → ((k : ℕ) → dataEnd l ≡ suc k → getD l k 0 ≢ 0xFF) → getD (b ∷ l) k 0 ≢ 0xFF
+    go true q k e ih = absurd (omega arith)
+    go false q zero e ih = λ (z : b ≡ 0xFF). clash q (rw (eq-eqb b 0xFF z) (none-left l (omega arith)))
+    go false q (suc k) e ih = ih k (omega arith)
+
+-- one byte more: an end that is found by a loop
+all-ff-snoc : (l : List ℕ) (b : ℕ) → allFF (l ++ (b ∷ [])) ≡ allFF l && eqb b 0xFF
+unfolding allFF
+all-ff-snoc [] b = and-true (eqb b 0xFF)
+all-ff-snoc (x ∷ l) b = rw (all-ff-snoc l b) (sym (and-assoc (eqb x 0xFF) (allFF l) (eqb b 0xFF)))
+
+pub end-snoc : (l : List ℕ) (b : ℕ) → dataEnd (l ++ (b ∷ [])) ≡ cond (eqb b 0xFF) (dataEnd l) (suc (length l))
+unfolding dataEnd allFF
+end-snoc [] b = go (eqb b 0xFF)
+  where
+    go : (c : Bool) → cond {A = ℕ} (c && true) 0 1 ≡ cond c 0 1
+    go true = refl
+    go false = refl
+end-snoc (x ∷ l) b = rw (all-ff-snoc l b, end-snoc l b) (go (eqb x 0xFF) (allFF l) (eqb b 0xFF))
+  where
+    go : (p q c : Bool) → cond (p && (q && c)) 0 (suc (cond c (dataEnd l) (suc (length l)))) ≡ cond c (cond (p && q) 0 (suc (dataEnd l))) (suc (suc (length l)))
+    go true true true = refl
+    go true true false = refl
+    go true false true = refl
+    go true false false = refl
+    go false q true = refl
+    go false q false = refl
 
 drop-take : (m s : ℕ) (b : List ℕ) → s ≤ m → m ≤ length b → drop s (take m b) ≡ take (m - s) (drop s b)
 drop-take m zero b k l = let e : m - 0 ≡ m = omega arith in rw e

@@ -4,6 +4,6 @@ pub mod Images
 pub mod Runs
 pub mod Octets
 pub mod Stage
-pub mod Look
+pub mod Stops
 pub mod Move
 pub mod Theorem

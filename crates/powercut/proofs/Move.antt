@@ -50,7 +50,7 @@ use Rattle.powercut.proofs.Pebs.{ec-64, Pair, Fits, step, steps, Stored
 use Rattle.powercut.proofs.Runs.{Runs, pair, Lands, ran, cut-ran, all-go-on, all-done, same-byte}
 use Rattle.powercut.proofs.Octets.{left-octets}
 use Rattle.powercut.proofs.Stage.{Ready, Stopped, isWhole, Keeps, keeps}
-use Rattle.powercut.proofs.Look.{stopped, finished}
+use Rattle.powercut.proofs.Stops.{stopped, finished}
 
 runnable-by : (p : Plan) (g : Geometry) (image : List ℕ) (n : ℕ) → allOf (geometryRules (p .«peb_size») (p .unit) (p .«sub_unit»)) ≡ true
     → planGeometry p ≡ g → allOf (imageRules g image) ≡ true → pebCount g image ≡ n → p .old < n → p .target < n → p .old ≢ p .target

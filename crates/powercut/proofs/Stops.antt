@@ -143,23 +143,23 @@ module _ (g : Geometry) (n : ℕ) (vs vs′ : Views) (v l o t : ℕ) (old : Copy
   torn-now eo (inl q) = torn (o-same eo) (rw (is-t′, q)) (rw (is-t′, q))
   torn-now eo (inr q) = torn (o-same eo) (rw (is-t′, q)) (rw (is-t′, q))
 
-  abbrev hw : Bool
-  hw = eqs (vidPart g X) (vidBytes (p .vid))
+  abbrev header-whole : Bool
+  header-whole = eqs (vidPart g X) (vidBytes (p .vid))
 
-  abbrev rw′ : Bool
-  rw′ = eqs run dataRun
+  abbrev run-whole : Bool
+  run-whole = eqs run dataRun
 
   -- a stopped move: the old PEB is touched only when the new one is whole, and the premise holds
   pub stopped : (Y ≡ O) ⊎ ((vidPart g X ≡ vidBytes (p .vid)) × (run ≡ dataRun))
-      → unlike hw (vidPart g X) ≡ true
-      → implies hw (rw′ || not (eqb (crcOf run) (p .vid .«data_crc»))) ≡ true
+      → unlike header-whole (vidPart g X) ≡ true
+      → implies header-whole (run-whole || not (eqb (crcOf run) (p .vid .«data_crc»))) ≡ true
       → unlike (eqs (take 64 Y) (take 64 O) || eqs (take 64 Y) (ecBytes (p .ec))) (take 64 Y) ≡ true
       → unlike (eqs (vidPart g Y) (vidPart g O)) (vidPart g Y) ≡ true
-      → (st : Stopped g n vs vs′ o t old (p .vid)) × (isWhole st ≡ hw && rw′)
+      → (st : Stopped g n vs vs′ o t old (p .vid)) × (isWhole st ≡ header-whole && run-whole)
   unfolding torn-now whole-now
-  stopped order c1 c2 c3 c4 = go hw refl rw′ refl c1 c2
+  stopped order c1 c2 c3 c4 = go header-whole refl run-whole refl c1 c2
     where
-      untouched : hw && rw′ ≡ false → Y ≡ O
+      untouched : header-whole && run-whole ≡ false → Y ≡ O
       untouched ne =
           ⊎-elim (λ (e : Y ≡ O). e)
           (λ w. clash ne (rw (w .0, w .1, eqs-refl (vidBytes (p .vid))) (eqs-refl dataRun))) order
@@ -168,7 +168,7 @@ module _ (g : Geometry) (n : ℕ) (vs vs′ : Views) (v l o t : ℕ) (old : Copy
       torn-false e (inl q) = refl
       torn-false e (inr q) = refl
 
-      go : (h : Bool) → hw ≡ h → (d : Bool) → rw′ ≡ d → unlike h (vidPart g X) ≡ true
+      go : (h : Bool) → header-whole ≡ h → (d : Bool) → run-whole ≡ d → unlike h (vidPart g X) ≡ true
           → implies h (d || not (eqb (crcOf run) (p .vid .«data_crc»))) ≡ true → (st : Stopped g n vs vs′ o t old (p .vid)) × (isWhole st ≡ h && d)
       go false eh d ed c1 c2 =
           let eo = untouched (rw eh) in
