@@ -1,9 +1,5 @@
 // Attaches the image of each frame, and prints the answer and all lent words after it.
-ghost use Prim.Native.Nat.{_+_, _≤_, _<_};
-ghost use lib.ListN.{length};
 use frames::Frame;
-use report::Attached;
-use report::Report;
 
 fn main() {
     let mut buf = [0u8; 65536];
@@ -70,90 +66,11 @@ fn answer(payload: &[u8], image: &mut [u8], pebs: &mut [u32], map: &mut [u32], s
 }
 
 fn show(slip: &[u8], image: &[u8], pebs: &mut [u32], map: &mut [u32], states: &mut [u32]) {
-    mark(pebs);
-    mark(map);
-    mark(states);
-    print_answer(attach::attach(slip, image, pebs, map, states));
-    print_words(b"pebs", pebs);
-    print_words(b"map", map);
-    print_words(b"states", states);
-}
-
-// Words that the call has to leave or to write over.
-fn mark(words: &mut [u32]) {
-    let mut i: usize = 0;
-    while i < words.len() {
-        words[i] = 0xDEADBEEF;
-        i += 1;
-    }
-}
-
-fn print_answer(r: Attached) {
-    match r {
-        Attached::Given(report) => print_report(report),
-        Attached::Refused { number, place } => print_refusal(number, place),
-    }
-    frames::line_end();
-}
-
-fn print_refusal(number: u32, place: u32) {
-    frames::word(b"refused");
-    frames::next_number(number as u64);
-    frames::word(b" at");
-    frames::next_number(place as u64);
-}
-
-fn print_report(r: Report) {
-    frames::word(b"attached");
-    frames::next_number(r.peb_count as u64);
-    frames::word(b" entries");
-    frames::next_number(r.entries as u64);
-    frames::word(b" mean");
-    frames::next_number(r.mean as u64);
-    frames::word(b" highest");
-    frames::next_number(r.highest);
-    frames::word(b" readonly");
-    frames::next_number(if r.read_only { 1 } else { 0 });
-    frames::word(b" table");
-    frames::next_number(r.table as u64);
-    frames::word(b" copies");
-    frames::next_number(r.copies_mark as u64);
-    frames::word(b" grade");
-    frames::next_number(r.grade as u64);
-}
-
-fn print_words(name: &[u8], words: &[u32]) {
-    frames::word(name);
-    let mut i: usize = 0;
-    while i < words.len() {
-        let n = run(words, i);
-        print_run(words[i], n);
-        i += n;
-    }
-    frames::line_end();
-}
-
-// A word, and how often it stands there.
-fn print_run(w: u32, n: usize) {
-    frames::next_number(w as u64);
-    if n == 1 {
-        return;
-    }
-    frames::word(b"*");
-    frames::number(n as u64);
-}
-
-// How many words from i on are equal.
-fn run(words: &[u32], i: usize) -> usize
-    requires { ⌜ i < length (now words) ⌝ }
-    ensures { λ r. ⌜ (0 < r) × (i + r ≤ length (now (words .entry))) ⌝ }
-{
-    let mut n: usize = 1;
-    while i + n < words.len() {
-        if words[i + n] != words[i] {
-            return n;
-        }
-        n += 1;
-    }
-    n
+    frames::mark(pebs);
+    frames::mark(map);
+    frames::mark(states);
+    show::answer(attach::attach(slip, image, pebs, map, states));
+    frames::words(b"pebs", pebs);
+    frames::words(b"map", map);
+    frames::words(b"states", states);
 }

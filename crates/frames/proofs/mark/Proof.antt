@@ -1,13 +1,13 @@
--- `test_attach::mark` is safe and ends. Assumes nothing.
+-- `frames::mark` is safe and ends. Assumes nothing.
 use mathlib.Core.Path.{_≡_}
 use Prim.Native.Nat.{_≤_, _-_}
 use native.Mathlib.Omega.{arith}
 use borrow.Author.Needs.{needs}
 use lib.ListN.{length}
-use Rattle.test_attach.proofs.mark.Statement.{statement}
-use Rattle.test_attach.proofs.mark.Tie as tie
-use Rattle.test_attach.proofs.mark.Reads as reads
-use Rattle.test_attach.proofs.mark.Lts as lts
+use Rattle.frames.proofs.mark.Statement.{statement}
+use Rattle.frames.proofs.mark.Tie as tie
+use Rattle.frames.proofs.mark.Reads as reads
+use Rattle.frames.proofs.mark.Lts as lts
 
 abbrev Inv-loop : tie.InvT-loop
 Inv-loop words₀ i₀ words i = (i ≤ length words₀) × (length words ≡ length words₀)

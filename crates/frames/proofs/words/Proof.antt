@@ -1,15 +1,15 @@
--- `test_attach::print_words` is safe and ends. Assumes nothing.
+-- `frames::words` is safe and ends. Assumes nothing.
 use Prim.Native.Nat.{_≤_, _-_}
 use borrow.Author.Needs.{needs}
 use lib.ListN.{length}
-use Rattle.test_attach.proofs.print_words.Statement.{statement}
-use Rattle.test_attach.proofs.print_words.Tie as tie
-use Rattle.test_attach.proofs.print_words.Reads as reads
-use Rattle.test_attach.proofs.print_words.Lts as lts
+use Rattle.frames.proofs.words.Statement.{statement}
+use Rattle.frames.proofs.words.Tie as tie
+use Rattle.frames.proofs.words.Reads as reads
+use Rattle.frames.proofs.words.Lts as lts
 use Rattle.frames.proofs.line_end.Reads as line-end-reads
 use Rattle.frames.proofs.word.Reads as word-reads
-use Rattle.test_attach.proofs.print_run.Reads as print-run-reads
-use Rattle.test_attach.proofs.run.Reads as run-reads
+use Rattle.frames.proofs.run_of.Reads as run-of-reads
+use Rattle.frames.proofs.run.Reads as run-reads
 
 abbrev Inv-loop : tie.InvT-loop
 Inv-loop name words i₀ i = i ≤ length words
@@ -26,14 +26,14 @@ loop-holds c = search needs
 run-requires : tie.Need-run-requires Inv-loop μ-loop
 run-requires c κs = search needs
 
-mul-print-run : tie.Need-mul-print-run Inv-loop μ-loop
-mul-print-run c = search needs
+mul-run-of : tie.Need-mul-run-of Inv-loop μ-loop
+mul-run-of c = search needs
 
-shared-slice-read-print-run : tie.Need-shared-slice-read-print-run Inv-loop μ-loop
-shared-slice-read-print-run c = search needs
+shared-slice-read-run-of : tie.Need-shared-slice-read-run-of Inv-loop μ-loop
+shared-slice-read-run-of c = search needs
 
-print-run-requires : tie.Need-print-run-requires Inv-loop μ-loop
-print-run-requires c κs = search needs
+run-of-requires : tie.Need-run-of-requires Inv-loop μ-loop
+run-of-requires c κs = search needs
 
 add-i : tie.Need-add-i Inv-loop μ-loop
 add-i c = search needs
@@ -50,8 +50,8 @@ line-end-requires c κs = search needs
 returns : tie.Need-returns Inv-loop μ-loop
 returns c = search needs
 
-pub print-words-spec : {M : Type 1} → statement M
-print-words-spec =
+pub words-spec : {M : Type 1} → statement M
+words-spec =
     tie.close
     (tie.spec
     Inv-loop
@@ -59,9 +59,9 @@ print-words-spec =
     word-requires
     loop-holds
     run-requires
-    mul-print-run
-    shared-slice-read-print-run
-    print-run-requires
+    mul-run-of
+    shared-slice-read-run-of
+    run-of-requires
     add-i
     loop-less
     loop-again

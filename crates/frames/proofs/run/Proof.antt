@@ -1,11 +1,11 @@
--- `test_attach::run` meets its contract. Assumes nothing.
+-- `frames::run` meets its contract. Assumes nothing.
 use Prim.Native.Nat.{_≤_, _<_, _-_, _+_}
 use borrow.Author.Needs.{needs}
 use lib.ListN.{length}
-use Rattle.test_attach.proofs.run.Statement.{statement}
-use Rattle.test_attach.proofs.run.Tie as tie
-use Rattle.test_attach.proofs.run.Reads as reads
-use Rattle.test_attach.proofs.run.Lts as lts
+use Rattle.frames.proofs.run.Statement.{statement}
+use Rattle.frames.proofs.run.Tie as tie
+use Rattle.frames.proofs.run.Reads as reads
+use Rattle.frames.proofs.run.Lts as lts
 
 abbrev Inv-loop : tie.InvT-loop
 Inv-loop words i n₀ n = (0 < n) × (i + n ≤ length words)

@@ -1,0 +1,39 @@
+// Answers of attaching as the test programs print them.
+use report::Attached;
+use report::Report;
+
+// A report, or a refusal, and the end of the line.
+pub fn answer(r: Attached) {
+    match r {
+        Attached::Given(report) => print_report(report),
+        Attached::Refused { number, place } => refusal(number, place),
+    }
+    frames::line_end();
+}
+
+// A refusal.
+pub fn refusal(number: u32, place: u32) {
+    frames::word(b"refused");
+    frames::next_number(number as u64);
+    frames::word(b" at");
+    frames::next_number(place as u64);
+}
+
+fn print_report(r: Report) {
+    frames::word(b"attached");
+    frames::next_number(r.peb_count as u64);
+    frames::word(b" entries");
+    frames::next_number(r.entries as u64);
+    frames::word(b" mean");
+    frames::next_number(r.mean as u64);
+    frames::word(b" highest");
+    frames::next_number(r.highest);
+    frames::word(b" readonly");
+    frames::next_number(if r.read_only { 1 } else { 0 });
+    frames::word(b" table");
+    frames::next_number(r.table as u64);
+    frames::word(b" copies");
+    frames::next_number(r.copies_mark as u64);
+    frames::word(b" grade");
+    frames::next_number(r.grade as u64);
+}
