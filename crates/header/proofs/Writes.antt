@@ -44,3 +44,20 @@ module _ (out : List ℕ) {a b d : List ℕ} (long : 64 ≤ length out) where
   vid-wrote size h g p q r s u =
       rw (le-ltb _ _ long, g)
       (u ∙ ap withSum (s ∙ ap (dataStored h) (r ∙ ap (placeStored h) (q ∙ ap (kindStored h) p)) ∙ vid-head (drop 64 out) h) ∙ vid-sum (drop 64 out) h)
+
+-- a header is 64 bytes, and one that is good is stored over the first 64
+pub ec-64 : (h : EcHeader) → length (ecBytes h) ≡ 64
+unfolding ecBytes ecHead toBeOn
+ec-64 h = refl
+
+pub vid-64 : (h : VidHeader) → length (vidBytes h) ≡ 64
+unfolding vidBytes vidHead toBeOn
+vid-64 h = refl
+
+pub ec-over : (h : EcHeader) (out : List ℕ) → 64 ≤ length out → isGood (judgeEc h) ≡ true → ecOut h out ≡ ecBytes h ++ drop 64 out
+unfolding ecOut
+ec-over h out l g = rw (le-ltb _ _ l, g)
+
+pub vid-over : (size : ℕ) (h : VidHeader) (out : List ℕ) → 64 ≤ length out → isGood (judgeVid size h) ≡ true → vidOut size h out ≡ vidBytes h ++ drop 64 out
+unfolding vidOut
+vid-over size h out l g = rw (le-ltb _ _ l, g)

@@ -64,7 +64,7 @@ pub fn read_ec(header: &[u8]) -> EcRead
 }
 
 // Would the reader call the header good?
-fn ec_readable(h: EcHeader) -> bool
+pub fn ec_readable(h: EcHeader) -> bool
     ensures { λ r. ⌜ r ≡ isGood (judgeEc h) ⌝ }
 {
     if h.version != 1 {

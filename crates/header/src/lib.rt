@@ -4,9 +4,11 @@ mod fields;
 mod vid_header;
 mod vid_rules;
 
+pub use ec_header::ec_readable;
 pub use ec_header::read_ec;
 pub use ec_header::write_ec;
 pub use vid_header::read_vid;
+pub use vid_header::vid_readable;
 pub use vid_header::write_vid;
 
 // Where a field stands in a header, and how many bytes it has.

@@ -77,7 +77,7 @@ pub fn read_vid(header: &[u8], leb_size: u32) -> VidRead
 }
 
 // Would the reader call the header good?
-fn vid_readable(h: VidHeader, leb_size: u32) -> bool
+pub fn vid_readable(h: VidHeader, leb_size: u32) -> bool
     ensures { λ r. ⌜ r ≡ isGood (judgeVid «leb_size» h) ⌝ }
 {
     if h.version != 1 {

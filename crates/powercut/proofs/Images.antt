@@ -20,7 +20,8 @@ use Rattle.plan.specs.declared.Plan.{Plan}
 use Rattle.plan.specs.Write.{Write, store, erase, nothing, appliedWhole, appliedCut, erasedIn, dataSteps, pebStart, unitBytes, writeAfter}
 use Rattle.base.proofs.Stores.{put-all, part-take}
 use Rattle.plan.proofs.Blocks.{room, peb-length, put-length, put-here, put-else}
-use Rattle.powercut.proofs.Pebs.{vid-64, ec-64, length-erased, erased-all, Pair, Fits, unitOf, step, unit-within}
+use Rattle.header.proofs.Writes.{vid-64, ec-64}
+use Rattle.powercut.proofs.Pebs.{length-erased, erased-all, Pair, Fits, unitOf, step, unit-within}
 
 -- ---- a plan's writes on the image
 

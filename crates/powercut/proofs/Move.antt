@@ -46,7 +46,8 @@ use Rattle.powercut.specs.Premise.{premiseRules, premiseOf}
 use Rattle.powercut.specs.Outcomes.{outcomeOf}
 use Rattle.powercut.specs.Claim.{Freed, Moved}
 use Rattle.powercut.proofs.Outcomes.{Ruled, slip-ruled, Chip, chip-placed, peb-above, count-is, image-ruled, attached}
-use Rattle.powercut.proofs.Pebs.{ec-64, Pair, Fits, step, steps, Stored, Halt, cut-halts, further, whole-target, whole-old}
+use Rattle.header.proofs.Writes.{ec-64}
+use Rattle.powercut.proofs.Pebs.{Pair, Fits, step, steps, Stored, Halt, cut-halts, further, whole-target, whole-old}
 use Rattle.powercut.proofs.Runs.{Runs, pair, Lands, ran, cut-ran, all-go-on, all-done, same-byte}
 use Rattle.powercut.proofs.Octets.{left-octets}
 use Rattle.powercut.proofs.Stage.{Ready, Stopped, isWhole, Keeps, keeps}

@@ -12,27 +12,17 @@ use lib.ListN.{length, take, drop, replicate, length-take, length-drop}
 use lib.Seq.{take-at, take-add, take-all, drop-drop, length-take-le}
 use Rattle.base.specs.Lists.{part, put}
 use Rattle.base.proofs.Below.{below-suc}
-use Rattle.field.specs.Be.{toBeOn}
 use Rattle.geometry.specs.Placed.{Placed}
 use Rattle.geometry.specs.declared.Geometry.{Geometry}
-use Rattle.header.specs.Ec.{ecHead, ecBytes}
-use Rattle.header.specs.Vid.{vidHead, vidBytes}
-use Rattle.header.specs.declared.EcHeader.{EcHeader}
-use Rattle.header.specs.declared.VidHeader.{VidHeader}
+use Rattle.header.specs.Ec.{ecBytes}
+use Rattle.header.specs.Vid.{vidBytes}
+use Rattle.header.proofs.Writes.{vid-64, ec-64}
 use Rattle.report.specs.View.{vidPart}
 use Rattle.plan.specs.declared.Plan.{Plan}
 use Rattle.plan.specs.Write.{erasedIn, dataSteps}
 use Rattle.base.proofs.Stores.{length-put, put-from, put-before, put-behind, part-take}
 
--- ---- headers, erased bytes
-
-pub vid-64 : (h : VidHeader) → length (vidBytes h) ≡ 64
-unfolding vidBytes vidHead toBeOn
-vid-64 h = refl
-
-pub ec-64 : (h : EcHeader) → length (ecBytes h) ≡ 64
-unfolding ecBytes ecHead toBeOn
-ec-64 h = refl
+-- ---- erased bytes
 
 pub length-erased : (set : ℕ → Bool) (l : List ℕ) → length (erasedIn set l) ≡ length l
 length-erased set [] = refl

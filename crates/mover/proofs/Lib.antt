@@ -1,0 +1,3 @@
+-- The laws that proofs here cite. Assumes nothing.
+pub mod StepWrites
+pub mod StepRules

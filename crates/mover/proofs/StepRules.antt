@@ -1,0 +1,151 @@
+-- Laws of refusal 18. Assumes nothing.
+use mathlib.Core.Path.{_≡_, refl, sym, ap, _∙_, subst}
+use mathlib.Core.Logic.{_≢_}
+use mathlib.Core.Bool.{Bool, true, false, not, cond, false≢true, and-true}
+use mathlib.Core.List.{List}
+use Prim.Native.Nat.{ℕ, _+_, _-_, _*_, _/_, _%_, _≤_, _<_}
+use native.Mathlib.Nat.{div-add-mod', mul-le-mul-right, div-lt-iff-lt-mul}
+use native.Mathlib.Omega.{arith}
+use lib.Dec.{eqb, ltb}
+use lib.ListN.{length, getD}
+use borrow.Author.Tests.{lt-ltb, le-ltb, le-leb, lt-leb, eq-eqb, ne-eqb, ltb-true, leb-true, eqb-true, eqb-false, not-false}
+use Rattle.base.specs.Answers.{Answer, given, refused, allOf}
+use Rattle.base.proofs.Answers.{one-broken, each-holds, cond-yes}
+use Rattle.geometry.specs.Geometry.{geometryRules, geometryOf, makeGeometry}
+use Rattle.geometry.specs.declared.Geometry.{Geometry}
+use Rattle.geometry.proofs.Laws.{placed, unit-range}
+use Rattle.header.specs.Fields.{good, bad, newer, judged, isGood}
+use Rattle.header.specs.Ec.{judgeEc}
+use Rattle.header.specs.Vid.{judgeVid, vidRules}
+use Rattle.header.specs.declared.VidHeader.{VidHeader}
+use Rattle.report.specs.Attach.{imageRules}
+use Rattle.plan.specs.Write.{planGeometry}
+use Rattle.plan.specs.Step.{stepRules, runnable}
+use Rattle.plan.specs.declared.Plan.{Plan}
+use Rattle.mover.specs.Running.{Measured, Running}
+
+-- ---- a rule that does not hold
+
+module _ (g : Geometry) (p : Plan) (m : Measured g p) (image : List ℕ) where
+  broken : (k : ℕ) → getD (stepRules p image) k true ≡ false → false ≡ runnable p image
+  unfolding runnable
+  broken k e = sym (one-broken (stepRules p image) k e)
+
+  image-broken : (k : ℕ) → getD (imageRules g image) k true ≡ false → false ≡ runnable p image
+  unfolding stepRules
+  image-broken k e = broken 1 (rw (← (m .is)) (one-broken (imageRules g image) k e))
+
+  pub not-whole : length image % g .«peb_size» ≢ 0 → false ≡ runnable p image
+  unfolding imageRules
+  not-whole h = image-broken 0 (ne-eqb _ _ h)
+
+  pub too-few : length image / g .«peb_size» < 2 → false ≡ runnable p image
+  unfolding imageRules
+  too-few h = image-broken 1 (lt-leb _ _ h)
+
+  pub too-many : 4096 < length image / g .«peb_size» → false ≡ runnable p image
+  unfolding imageRules
+  too-many h = image-broken 2 (lt-leb _ _ h)
+
+  pub old-absent : length image / g .«peb_size» ≤ p .old → false ≡ runnable p image
+  unfolding stepRules
+  old-absent h = broken 2 (rw (← (m .is)) (le-ltb _ _ h))
+
+  pub target-absent : length image / g .«peb_size» ≤ p .target → false ≡ runnable p image
+  unfolding stepRules
+  target-absent h = broken 3 (rw (← (m .is)) (le-ltb _ _ h))
+
+  pub one-peb : p .old ≡ p .target → false ≡ runnable p image
+  unfolding stepRules
+  one-peb h = broken 4 (rw (eq-eqb _ _ h))
+
+  pub vid-not-good : isGood (judgeVid (g .«leb_size») (p .vid)) ≡ false → false ≡ runnable p image
+  unfolding stepRules
+  vid-not-good h = broken 5 (rw (← (m .is)) h)
+
+  -- with the other rules met, the last one decides
+  pub last-rule : {r : Bool} → length image % g .«peb_size» ≡ 0 → 2 ≤ length image / g .«peb_size» → length image / g .«peb_size» ≤ 4096
+      → p .old < length image / g .«peb_size» → p .target < length image / g .«peb_size» → p .old ≢ p .target
+      → isGood (judgeVid (g .«leb_size») (p .vid)) ≡ true → r ≡ isGood (judgeEc (p .ec)) → r ≡ runnable p image
+  unfolding runnable stepRules imageRules
+  last-rule w f t o n ne v e =
+      e ∙ rw (← (m .is), m .inside, eq-eqb _ _ w, le-leb _ _ f, le-leb _ _ t, lt-ltb _ _ o, lt-ltb _ _ n, ne-eqb _ _ ne, v)
+      (sym (and-true (isGood (judgeEc (p .ec)))))
+
+-- ---- what the rules give
+
+good-rules : {A : Type 0} (v : ℕ) (rules : List Bool) (x : A) → isGood (judged v rules x) ≡ true → allOf rules ≡ true
+good-rules v rules x e = go (eqb v 1) (eqb v 0) (allOf rules) e
+  where
+    go : (one zero r : Bool) → isGood (cond one (cond r (good x) bad) (cond zero bad newer)) ≡ true → r ≡ true
+    go true zero true e = refl
+    go true zero false e = e
+    go false true r e = absurd (false≢true e)
+    go false false r e = absurd (false≢true e)
+
+size-most : (size : ℕ) (h : VidHeader) → isGood (judgeVid size h) ≡ true → h .«data_size» ≤ size
+unfolding judgeVid vidRules
+size-most size h e =
+    let r = leb-true (h .«data_size») (size - h .«data_pad») (each-holds (vidRules size h) (good-rules (h .version) (vidRules size h) h e) 6) in
+    omega arith
+
+room : (i size len : ℕ) → i < len / size → i * size + size ≤ len
+room i size len h = omega (arith, div-add-mod' len size, mul-le-mul-right size h)
+
+pub running : (g : Geometry) (p : Plan) → Measured g p → (image : List ℕ) → runnable p image ≡ true → Running g p image
+unfolding runnable stepRules imageRules
+running g p m image e =
+    let r : (k : ℕ) → getD (stepRules p image) k true ≡ true = each-holds (stepRules p image) e in
+    let most = leb-true (length image / g .«peb_size») 4096 (each-holds (imageRules g image) (rw (m .is) (r 1)) 2) in
+    let o = ltb-true (p .old) (length image / g .«peb_size») (rw (m .is) (r 2)) in
+    let t = ltb-true (p .target) (length image / g .«peb_size») (rw (m .is) (r 3)) in
+    let v : isGood (judgeVid (g .«leb_size») (p .vid)) ≡ true = rw (m .is) (r 5) in
+    record {
+      measured = m;
+      runs = e;
+      old-below = omega arith;
+      target-below = omega arith;
+      old-room = room (p .old) (g .«peb_size») (length image) o;
+      target-room = room (p .target) (g .«peb_size») (length image) t;
+      apart = eqb-false (p .old) (p .target) (not-true′ (eqb (p .old) (p .target)) (r 4));
+      vid-good = v;
+      ec-good = r 6;
+      size-fits = size-most (g .«leb_size») (p .vid) v;
+    }
+  where
+    not-true′ : (b : Bool) → not b ≡ true → b ≡ false
+    not-true′ true e = sym e
+    not-true′ false e = refl
+
+-- ---- the geometry
+
+module _ (p : Plan) where
+  given-is : {a b : Geometry} → _≡_ {A = Answer Geometry} (given a) (given b) → a ≡ b
+  given-is e = cc
+
+  refused-not : {g : Geometry} → _≡_ {A = Answer Geometry} (refused 2 0) (given g) → ⊥
+  refused-not e = let z : _≡_ {A = ℕ} 0 1 = cc in omega arith
+
+  pub measured : (g : Geometry) → geometryOf (p .«peb_size») (p .unit) (p .«sub_unit») ≡ given g → Measured g p
+  unfolding geometryOf geometryRules makeGeometry planGeometry
+  measured g e =
+      let c = cond-yes (allOf (geometryRules (p .«peb_size») (p .unit) (p .«sub_unit»))) refused-not e in
+      let is : planGeometry p ≡ g = given-is (c .1) in
+      let u = unit-range (p .unit) (each-holds (geometryRules (p .«peb_size») (p .unit) (p .«sub_unit»)) (c .0) 0) in
+      let same : p .unit ≡ g .unit = ap (λ (x : Geometry). x .unit) is in
+      record { is = sym is; inside = c .0; placed = placed (p .«peb_size») (p .unit) (p .«sub_unit») g e; same-unit = same; unit-most = omega arith }
+
+  pub outside : (k : ℕ) (image : List ℕ) → geometryOf (p .«peb_size») (p .unit) (p .«sub_unit») ≡ refused k 0 → runnable p image ≡ false
+  unfolding geometryOf runnable stepRules
+  outside k image e = one-broken (stepRules p image) 0 (go (allOf (geometryRules (p .«peb_size») (p .unit) (p .«sub_unit»))) e)
+    where
+      go : (b : Bool) → cond b (given (makeGeometry (p .«peb_size») (p .unit) (p .«sub_unit»))) (refused 2 0) ≡ refused k 0 → b ≡ false
+      go true e = absurd (let z : _≡_ {A = ℕ} 0 1 = cc in omega arith)
+      go false e = refl
+
+-- ---- the steps that store data
+
+pub steps-most : (d u : ℕ) → d ≤ 262144 → 0 < u → (d + (u - 1)) / u ≤ 262144
+steps-most d u h k =
+    let e : (d + (u - 1)) / u < 262145 = div-lt-iff-lt-mul k .1 (omega (arith, mul-le-mul-right 262145 k)) in
+    omega arith

@@ -1,0 +1,22 @@
+-- `mover::steps::peb_start` meets its contract. Assumes nothing.
+use mathlib.Core.Path.{_≡_, refl, sym, ap, _∙_}
+use Prim.Native.Nat.{_≤_, _<_, _-_, _+_}
+use native.Mathlib.Omega.{arith}
+use borrow.Author.Needs.{needs}
+use native.Mathlib.Nat.{mul-le-mul}
+use Rattle.mover.proofs.steps.peb_start.Statement.{statement}
+use Rattle.mover.proofs.steps.peb_start.Tie as tie
+use Rattle.mover.proofs.steps.peb_start.Reads as reads
+use Rattle.mover.proofs.steps.peb_start.Lts as lts
+
+cast-result : tie.Need-cast-result
+cast-result c = search needs
+
+mul-result : tie.Need-mul-result
+mul-result c = ?
+
+returns : tie.Need-returns
+returns c = search needs
+
+pub peb-start-spec : {M : Type 1} → statement M
+peb-start-spec = tie.close (tie.spec cast-result mul-result returns)

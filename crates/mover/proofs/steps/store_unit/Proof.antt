@@ -1,0 +1,65 @@
+-- `mover::steps::store_unit` meets its contract. Assumes nothing.
+use mathlib.Core.Path.{_≡_, refl, sym, ap, _∙_}
+use Prim.Native.Nat.{_≤_, _<_, _-_, _+_}
+use native.Mathlib.Omega.{arith}
+use borrow.Author.Needs.{needs}
+use Rattle.mover.proofs.steps.store_unit.Statement.{statement}
+use Rattle.mover.proofs.steps.store_unit.Tie as tie
+use Rattle.mover.proofs.steps.store_unit.Reads as reads
+use Rattle.mover.proofs.steps.store_unit.Lts as lts
+use Rattle.mover.proofs.step_writes.copy_run.Reads as copy-run-reads
+use Rattle.mover.proofs.steps.peb_start.Reads as peb-start-reads
+use Rattle.mover.proofs.steps.unit_length.Reads as unit-length-reads
+
+cast-done : tie.Need-cast-done
+cast-done c = search needs
+
+mul-done : tie.Need-mul-done
+mul-done c = ?
+
+unit-length-requires : tie.Need-unit-length-requires
+unit-length-requires c κs = ?
+
+cast-at : tie.Need-cast-at
+cast-at c = search needs
+
+add-at : tie.Need-add-at
+add-at c = ?
+
+peb-start-requires : tie.Need-peb-start-requires
+peb-start-requires c κs = search needs
+
+add-from : tie.Need-add-from
+add-from c = ?
+
+peb-start-requires-2 : tie.Need-peb-start-requires-2
+peb-start-requires-2 c κs = search needs
+
+add-to : tie.Need-add-to
+add-to c = ?
+
+copy-run-requires : tie.Need-copy-run-requires
+copy-run-requires c κs = ?
+
+same-length : tie.Need-same-length
+same-length c = search needs
+
+returns : tie.Need-returns
+returns c = ?
+
+pub store-unit-spec : {M : Type 1} → statement M
+store-unit-spec =
+    tie.close
+    (tie.spec
+    cast-done
+    mul-done
+    unit-length-requires
+    cast-at
+    add-at
+    peb-start-requires
+    add-from
+    peb-start-requires-2
+    add-to
+    copy-run-requires
+    same-length
+    returns)

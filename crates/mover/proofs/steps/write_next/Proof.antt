@@ -1,0 +1,96 @@
+-- `mover::steps::write_next` meets its contract. Assumes nothing.
+use mathlib.Core.Path.{_≡_, refl, sym, ap, _∙_}
+use Prim.Native.Nat.{_≤_, _<_, _-_, _+_}
+use native.Mathlib.Omega.{arith}
+use borrow.Author.Needs.{needs}
+use Rattle.mover.proofs.steps.write_next.Statement.{statement}
+use Rattle.mover.proofs.steps.write_next.Tie as tie
+use Rattle.mover.proofs.steps.write_next.Reads as reads
+use Rattle.mover.proofs.steps.write_next.Lts as lts
+use Rattle.mover.proofs.step_writes.erase.Reads as erase-reads
+use Rattle.mover.proofs.step_writes.store_ec.Reads as store-ec-reads
+use Rattle.mover.proofs.step_writes.store_vid.Reads as store-vid-reads
+use Rattle.mover.proofs.steps.data_steps.Reads as data-steps-reads
+use Rattle.mover.proofs.steps.peb_start.Reads as peb-start-reads
+use Rattle.mover.proofs.steps.store_unit.Reads as store-unit-reads
+
+peb-start-requires : tie.Need-peb-start-requires
+peb-start-requires c κs = search needs
+
+cast-at : tie.Need-cast-at
+cast-at c = search needs
+
+add-at : tie.Need-add-at
+add-at c = search needs
+
+store-vid-requires : tie.Need-store-vid-requires
+store-vid-requires c κs = search needs
+
+same-length : tie.Need-same-length
+same-length c = search needs
+
+returns : tie.Need-returns
+returns c = ?
+
+sub-j : tie.Need-sub-j
+sub-j c = search needs
+
+data-steps-requires : tie.Need-data-steps-requires
+data-steps-requires c κs = search needs
+
+store-unit-requires : tie.Need-store-unit-requires
+store-unit-requires c κs = search needs
+
+same-length-2 : tie.Need-same-length-2
+same-length-2 c = search needs
+
+returns-2 : tie.Need-returns-2
+returns-2 c = ?
+
+peb-start-requires-2 : tie.Need-peb-start-requires-2
+peb-start-requires-2 c κs = search needs
+
+cast-erase : tie.Need-cast-erase
+cast-erase c = search needs
+
+erase-requires : tie.Need-erase-requires
+erase-requires c κs = search needs
+
+same-length-3 : tie.Need-same-length-3
+same-length-3 c = search needs
+
+returns-3 : tie.Need-returns-3
+returns-3 c = ?
+
+store-ec-requires : tie.Need-store-ec-requires
+store-ec-requires c κs = search needs
+
+same-length-4 : tie.Need-same-length-4
+same-length-4 c = search needs
+
+returns-4 : tie.Need-returns-4
+returns-4 c = ?
+
+pub write-next-spec : {M : Type 1} → statement M
+write-next-spec =
+    tie.close
+    (tie.spec
+    peb-start-requires
+    cast-at
+    add-at
+    store-vid-requires
+    same-length
+    returns
+    sub-j
+    data-steps-requires
+    store-unit-requires
+    same-length-2
+    returns-2
+    peb-start-requires-2
+    cast-erase
+    erase-requires
+    same-length-3
+    returns-3
+    store-ec-requires
+    same-length-4
+    returns-4)
