@@ -1,3 +1,5 @@
 -- The laws that proofs here cite. Assumes nothing.
 pub mod StepWrites
 pub mod StepRules
+pub mod StepUnits
+pub mod StepWhole

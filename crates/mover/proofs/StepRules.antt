@@ -149,3 +149,10 @@ pub steps-most : (d u : ℕ) → d ≤ 262144 → 0 < u → (d + (u - 1)) / u �
 steps-most d u h k =
     let e : (d + (u - 1)) / u < 262145 = div-lt-iff-lt-mul k .1 (omega (arith, mul-le-mul-right 262145 k)) in
     omega arith
+
+pub data-bounds : {g : Geometry} {p : Plan} {image : List ℕ} → Running g p image
+    → (p .vid .«data_size» ≤ 262144) × ((0 < p .unit) × (p .unit ≤ 262144))
+data-bounds r =
+    let m = r .measured in
+    let P = m .placed in
+    (omega (arith, r .size-fits, P .leb-fills, P .peb-most), (omega (arith, m .same-unit, P .unit-above), omega (arith, m .same-unit, m .unit-most)))

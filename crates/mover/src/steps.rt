@@ -132,8 +132,9 @@ pub fn step(plan: Plan, image: &mut [u8]) -> Stepped
     ensures image { λ _. ⌜ now (image .exit) ≡ stepping plan (now (image .entry)) .image ⌝ }
 {
     let r = geometry::check_geometry(plan.peb_size, plan.unit, plan.sub_unit);
-    let GeometryRead::Good(g) = r else {
-        return Stepped::Refused;
-    };
-    step_measured(plan, g, image)
+    match r {
+        GeometryRead::Good(g) => return step_measured(plan, g, image),
+        GeometryRead::Malformed => return Stepped::Refused,
+        GeometryRead::Outside => return Stepped::Refused,
+    }
 }

@@ -6,3 +6,4 @@ pub mod Accepted
 pub mod Good
 pub mod Bounds
 pub mod Bench
+pub mod Steps

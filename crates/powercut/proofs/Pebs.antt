@@ -20,6 +20,7 @@ use Rattle.header.proofs.Writes.{vid-64, ec-64}
 use Rattle.report.specs.View.{vidPart}
 use Rattle.plan.specs.declared.Plan.{Plan}
 use Rattle.plan.specs.Write.{erasedIn, dataSteps}
+use Rattle.plan.proofs.Data.{unit-starts}
 use Rattle.base.proofs.Stores.{length-put, put-from, put-before, put-behind, part-take}
 
 -- ---- erased bytes
@@ -116,10 +117,7 @@ module _ (g : Geometry) (p : Plan) where
     unfolding dataSteps
     unit-within j h =
         let k : j < (d + (g .unit - 1)) / g .unit = rw (f .same-unit) at h in
-        let e = div-add-mod' (d + (g .unit - 1)) (g .unit) in
-        let b = mul-le-mul-right (g .unit) k in
-        let u = f .placed .unit-above in
-        omega arith
+        unit-starts j d (g .unit) (f .placed .unit-above) k
 
     module _ (T O : List ℕ) (lenT : length T ≡ g .«peb_size») (lenO : length O ≡ g .«peb_size») where
       abbrev start : Pair

@@ -16,6 +16,7 @@ use Rattle.report.specs.View.{pebAt}
 use Rattle.plan.specs.declared.Plan.{Plan}
 use Rattle.plan.specs.Write.{nothing, planGeometry, dataSteps, stepCount, unitBytes, writeAfter}
 use Rattle.plan.specs.Step.{stepRules, runnable, stepWrite, oneOn, on, done, stepAnswer, stepping, stepCut}
+use Rattle.plan.proofs.Steps.{late-write}
 use Rattle.powercut.specs.Calls.{planLeft, nextStep, oneStep, afterSteps}
 use Rattle.powercut.proofs.Pebs.{Pair, step, steps}
 use Rattle.powercut.proofs.Images.{Sited, pairOf, Landed, landed-trans, cut-lands, whole-is-cut, nothing-lands}
@@ -49,13 +50,6 @@ same-write g p image j (suc k) = refl
 same-runnable : (p : Plan) (image : List ℕ) (j : ℕ) → runnable (atStep p j) image ≡ runnable p image
 unfolding runnable stepRules planGeometry
 same-runnable p image j = refl
-
--- further steps write nothing
-late-write : (g : Geometry) (p : Plan) (image : List ℕ) (k : ℕ) → stepCount p ≤ k → writeAfter g p image k ≡ nothing
-unfolding writeAfter stepCount
-late-write g p image zero h = absurd (omega arith)
-late-write g p image (suc j) h =
-    rw (le-ltb j (dataSteps p) (omega arith), ne-eqb j (dataSteps p) (omega arith), ne-eqb j (dataSteps p + 1) (omega arith))
 
 module _ (g : Geometry) (n : ℕ) (p : Plan) (r : Runs g n p) where
   abbrev pub pair : List ℕ → Pair

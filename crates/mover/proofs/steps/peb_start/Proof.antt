@@ -1,6 +1,6 @@
 -- `mover::steps::peb_start` meets its contract. Assumes nothing.
 use mathlib.Core.Path.{_≡_, refl, sym, ap, _∙_}
-use Prim.Native.Nat.{_≤_, _<_, _-_, _+_}
+use Prim.Native.Nat.{_≤_, _<_, _-_, _+_, _*_}
 use native.Mathlib.Omega.{arith}
 use borrow.Author.Needs.{needs}
 use native.Mathlib.Nat.{mul-le-mul}
@@ -13,7 +13,7 @@ cast-result : tie.Need-cast-result
 cast-result c = search needs
 
 mul-result : tie.Need-mul-result
-mul-result c = ?
+mul-result c = let a = c .before .args in let z : a .i * a .g .«peb_size» ≤ 4096 * 262144 = mul-le-mul {n₂ = 4096} {m₂ = 262144} (omega arith) (omega arith) in omega arith
 
 returns : tie.Need-returns
 returns c = search needs

@@ -3,6 +3,11 @@ use mathlib.Core.Path.{_≡_, refl, sym, ap, _∙_}
 use Prim.Native.Nat.{_≤_, _<_, _-_, _+_}
 use native.Mathlib.Omega.{arith}
 use borrow.Author.Needs.{needs}
+use borrow.Author.Tests.{not-true, not-false}
+use Rattle.plan.specs.Write.{stepCount}
+use Rattle.plan.specs.Step.{oneOn, runnable}
+use Rattle.mover.proofs.StepRules.{running, data-bounds}
+use Rattle.mover.proofs.StepWhole.{step-refused, step-done, step-on}
 use Rattle.mover.proofs.steps.step_measured.Statement.{statement}
 use Rattle.mover.proofs.steps.step_measured.Tie as tie
 use Rattle.mover.proofs.steps.step_measured.Reads as reads
@@ -18,10 +23,10 @@ same-length : tie.Need-same-length
 same-length c = search needs
 
 returns : tie.Need-returns
-returns c = ?
+returns c = let a = c .before .before .before .before .args in step-refused (a .plan) (a .image .now) (sym (c .before .may-run .ensures) ∙ not-true _ (c .if1 .taken))
 
 data-steps-requires : tie.Need-data-steps-requires
-data-steps-requires c κs = ?
+data-steps-requires c κs = let a = c .before .before .before .before .args in data-bounds (running (a .g) (a .plan) (c .before .before .before .before .pre) (a .image .now) (sym (c .before .may-run .ensures) ∙ not-false _ (c .if1 .left)))
 
 add-if2 : tie.Need-add-if2
 add-if2 c = search needs
@@ -30,10 +35,12 @@ same-length-2 : tie.Need-same-length-2
 same-length-2 c = search needs
 
 returns-2 : tie.Need-returns-2
-returns-2 c = ?
+unfolding stepCount
+returns-2 c = let a = c .before .before .before .before .before .before .before .args in step-done (a .plan) (a .image .now) (sym (c .before .before .before .before .may-run .ensures) ∙ not-false _ (c .before .before .before .if1 .left)) (rw (← (c .before .before .data-steps .ensures .0)) (c .if2 .taken))
 
 write-next-requires : tie.Need-write-next-requires
-write-next-requires c κs = ?
+unfolding stepCount
+write-next-requires c κs = let a = c .before .before .before .before .before .before .before .before .args in (running (a .g) (a .plan) (c .before .before .before .before .before .before .before .before .pre) (a .image .now) (sym (c .before .before .before .before .before .may-run .ensures) ∙ not-false _ (c .before .before .before .before .if1 .left)), rw (← (c .before .before .before .data-steps .ensures .0)) (c .before .if2 .left))
 
 add-next : tie.Need-add-next
 add-next c = search needs
@@ -42,7 +49,8 @@ same-length-3 : tie.Need-same-length-3
 same-length-3 c = search needs
 
 returns-3 : tie.Need-returns-3
-returns-3 c = ?
+unfolding stepCount oneOn
+returns-3 c = let a = c .before .before .before .before .before .before .before .before .before .before .before .before .args in step-on (a .plan) (a .image .now) (a .g) (c .before .before .before .before .before .before .before .before .before .before .before .before .pre .is) (sym (c .before .before .before .before .before .before .before .before .before .may-run .ensures) ∙ not-false _ (c .before .before .before .before .before .before .before .before .if1 .left)) (rw (← (c .before .before .before .before .before .before .before .data-steps .ensures .0)) (c .before .before .before .before .before .if2 .left)) (c .before .before .before .write-next .ensures)
 
 pub step-measured-spec : {M : Type 1} → statement M
 step-measured-spec =

@@ -3,6 +3,7 @@ use mathlib.Core.Path.{_≡_, refl, sym, ap, _∙_}
 use Prim.Native.Nat.{_≤_, _<_, _-_, _+_}
 use native.Mathlib.Omega.{arith}
 use borrow.Author.Needs.{needs}
+use Rattle.mover.proofs.StepWhole.{left-vid, left-unit, left-erase, left-ec}
 use Rattle.mover.proofs.steps.write_next.Statement.{statement}
 use Rattle.mover.proofs.steps.write_next.Tie as tie
 use Rattle.mover.proofs.steps.write_next.Reads as reads
@@ -30,7 +31,7 @@ same-length : tie.Need-same-length
 same-length c = search needs
 
 returns : tie.Need-returns
-returns c = ?
+returns c = let a = c .before .before .before .before .before .before .before .before .before .args in left-vid (a .g) (a .plan) (a .image .now) (c .before .before .before .before .before .before .if1 .taken) (c .before .before .before .before .before .peb-start .ensures) (c .before .before .store-vid .ensures)
 
 sub-j : tie.Need-sub-j
 sub-j c = search needs
@@ -45,7 +46,7 @@ same-length-2 : tie.Need-same-length-2
 same-length-2 c = search needs
 
 returns-2 : tie.Need-returns-2
-returns-2 c = ?
+returns-2 c = let a = c .before .before .before .before .before .before .before .before .before .before .args in left-unit (a .g) (a .plan) (a .image .now) (c .before .before .before .before .before .before .before .if1 .left) (c .before .before .before .before .before .data-steps .ensures .0) (c .before .before .before .before .if2 .taken) (c .before .before .store-unit .ensures)
 
 peb-start-requires-2 : tie.Need-peb-start-requires-2
 peb-start-requires-2 c κs = search needs
@@ -60,7 +61,7 @@ same-length-3 : tie.Need-same-length-3
 same-length-3 c = search needs
 
 returns-3 : tie.Need-returns-3
-returns-3 c = ?
+returns-3 c = let a = c .before .before .before .before .before .before .before .before .before .before .before .before .before .args in left-erase (a .g) (a .plan) (a .image .now) (c .before .before .before .before .before .before .before .before .before .before .if1 .left) (c .before .before .before .before .before .before .before .before .data-steps .ensures .0) (c .before .before .before .before .before .if3 .taken) (c .before .before .before .before .before .before .peb-start2 .ensures) (c .before .before .erase .ensures)
 
 store-ec-requires : tie.Need-store-ec-requires
 store-ec-requires c κs = search needs
@@ -69,7 +70,7 @@ same-length-4 : tie.Need-same-length-4
 same-length-4 c = search needs
 
 returns-4 : tie.Need-returns-4
-returns-4 c = ?
+returns-4 c = let a = c .before .before .before .before .before .before .before .before .before .before .before .before .args in left-ec (a .g) (a .plan) (a .image .now) (c .before .before .before .before .before .before .before .before .before .if1 .left) (c .before .before .before .before .before .before .before .data-steps .ensures .0) (c .before .before .before .before .before .before .if2 .left) (c .before .before .before .before .if3 .left) (c .before .before .before .before .before .before .before .before .before .before .before .before .pre .1) (c .before .before .before .before .before .peb-start2 .ensures) (c .before .before .store-ec .ensures)
 
 pub write-next-spec : {M : Type 1} → statement M
 write-next-spec =

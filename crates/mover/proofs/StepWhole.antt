@@ -1,0 +1,64 @@
+-- Laws of a whole step: what it answers, and the image after it. Assumes nothing.
+use mathlib.Core.Path.{_≡_, refl, sym, ap, _∙_}
+use mathlib.Core.Bool.{true, false}
+use mathlib.Core.List.{List}
+use Prim.Native.Nat.{ℕ, suc, _+_, _-_, _*_, _≤_, _<_}
+use native.Mathlib.Omega.{arith}
+use borrow.Author.Tests.{lt-ltb, le-ltb}
+use lib.ListN.{replicate}
+use Rattle.base.specs.Answers.{Answer, given, refused}
+use Rattle.base.specs.Lists.{put}
+use Rattle.geometry.specs.declared.Geometry.{Geometry}
+use Rattle.header.specs.Ec.{ecBytes}
+use Rattle.header.specs.Vid.{vidBytes}
+use Rattle.plan.specs.Write.{Write, appliedWhole, planGeometry, dataSteps, stepCount, pebStart, unitBytes, writeAfter}
+use Rattle.plan.specs.Step.{on, done, runnable, stepWrite, oneOn, stepAnswer, stepping}
+use Rattle.plan.specs.declared.Plan.{Plan}
+use Rattle.plan.proofs.Steps.{unit-write, erase-write, ec-write, late-write}
+
+-- ---- the write, where one is left
+
+module _ (g : Geometry) (p : Plan) (image : List ℕ) where
+  -- the image after it
+  abbrev pub Left : List ℕ → Type 0
+  Left y = y ≡ appliedWhole (writeAfter g p image (p .steps)) image
+
+  by : {y : List ℕ} (k : ℕ) (w : Write) → p .steps ≡ k → writeAfter g p image k ≡ w → y ≡ appliedWhole w image → Left y
+  by k w h e q = q ∙ sym (ap (λ (x : Write). appliedWhole x image) (ap (writeAfter g p image) h ∙ e))
+
+  pub left-vid : {y : List ℕ} {s : ℕ} → p .steps ≡ 0 → s ≡ p .target * g .«peb_size» → y ≡ put (s + g .«vid_start») (vidBytes (p .vid)) image → Left y
+  unfolding writeAfter
+  left-vid h z e = rw h (rw z at e)
+
+  module _ (started : p .steps ≡ 0 → ⊥) where
+    next : p .steps ≡ suc (p .steps - 1)
+    next = omega arith
+
+    pub left-unit : {y : List ℕ} {d : ℕ} → d ≡ dataSteps p → p .steps - 1 < d
+        → y ≡ put (pebStart g (p .target) + (g .«data_start» + (p .steps - 1) * g .unit)) (unitBytes g p image (p .steps - 1)) image → Left y
+    left-unit z h e = by (suc (p .steps - 1)) _ next (unit-write g p image (p .steps - 1) (omega arith)) e
+
+    pub left-erase : {y : List ℕ} {d s : ℕ} → d ≡ dataSteps p → p .steps - 1 ≡ d → s ≡ p .old * g .«peb_size»
+        → y ≡ put s (replicate (g .«peb_size») 0xFF) image → Left y
+    left-erase z h q e = by (suc (p .steps - 1)) _ next (erase-write g p image (p .steps - 1) (omega arith)) (rw q at e)
+
+    pub left-ec : {y : List ℕ} {d s : ℕ} → d ≡ dataSteps p → d ≤ p .steps - 1 → (p .steps - 1 ≡ d → ⊥) → p .steps < stepCount p → s ≡ p .old * g .«peb_size»
+        → y ≡ put s (ecBytes (p .ec)) image → Left y
+    unfolding stepCount
+    left-ec z h n l q e = by (suc (p .steps - 1)) _ next (ec-write g p image (p .steps - 1) (omega arith)) (rw q at e)
+
+-- ---- the step
+
+module _ (p : Plan) (image : List ℕ) where
+  pub step-refused : runnable p image ≡ false → (refused 18 0 ≡ stepping p image .answer) × (image ≡ stepping p image .image)
+  unfolding stepping stepAnswer stepWrite
+  step-refused e = (rw e, rw e)
+
+  pub step-done : runnable p image ≡ true → stepCount p ≤ p .steps → (given done ≡ stepping p image .answer) × (image ≡ stepping p image .image)
+  unfolding stepping stepAnswer stepWrite
+  step-done e h = (rw (e, le-ltb _ _ h), rw (e, late-write (planGeometry p) p image (p .steps) h))
+
+  pub step-on : (g : Geometry) {y : List ℕ} → g ≡ planGeometry p → runnable p image ≡ true → p .steps < stepCount p
+      → y ≡ appliedWhole (writeAfter g p image (p .steps)) image → (given (on (oneOn p)) ≡ stepping p image .answer) × (y ≡ stepping p image .image)
+  unfolding stepping stepAnswer stepWrite
+  step-on g is e h q = (rw (e, lt-ltb _ _ h), rw (e, ← is) q)
