@@ -3,3 +3,4 @@ pub mod StepWrites
 pub mod StepRules
 pub mod StepUnits
 pub mod StepWhole
+pub mod StepFinish

@@ -1,0 +1,65 @@
+-- Laws of a move that is run to its end. Assumes nothing.
+use mathlib.Core.Path.{_≡_, refl, sym, ap, _∙_, subst}
+use mathlib.Core.Logic.{_⊎_, inl, inr}
+use mathlib.Core.Bool.{Bool, true, false, cond}
+use mathlib.Core.List.{List}
+use Prim.Native.Nat.{ℕ, zero, suc, _+_, _-_, _≤_, _<_}
+use native.Mathlib.Omega.{arith}
+use lib.Dec.{ltb}
+use borrow.Author.Tests.{ltb-true}
+use Rattle.base.specs.Answers.{Answer, given, refused}
+use Rattle.plan.specs.Write.{dataSteps, stepCount}
+use Rattle.plan.specs.Step.{Progress, on, done, runnable, oneOn, stepAnswer, Stepping, stepping}
+use Rattle.plan.specs.declared.Plan.{Plan}
+use Rattle.mover.specs.Finish.{followed, runFor, finishing}
+
+-- a step that goes on
+pub record Went (p q : Plan) : Type 0 where
+  pub is : q ≡ oneOn p
+  pub left : p .steps < stepCount p
+
+pub went : (p q : Plan) (image : List ℕ) → given (on q) ≡ stepping p image .answer → Went p q
+unfolding stepping stepAnswer
+went p q image e = go (runnable p image) (ltb (p .steps) (stepCount p)) refl e
+  where
+    go : (r b : Bool) → ltb (p .steps) (stepCount p) ≡ b
+        → _≡_ {A = Answer Progress} (given (on q)) (cond r (given (cond b (on (oneOn p)) done)) (refused 18 0)) → Went p q
+    go true true h e = record { is = cc; left = ltb-true (p .steps) (stepCount p) h }
+    go true false h e = absurd (let z : _≡_ {A = ℕ} 0 1 = cc in omega arith)
+    go false b h e = absurd (let z : _≡_ {A = ℕ} 0 1 = cc in omega arith)
+
+same-count : (p : Plan) → stepCount (oneOn p) ≡ stepCount p
+unfolding oneOn stepCount dataSteps
+same-count p = refl
+
+one-more : (p : Plan) → oneOn p .steps ≡ p .steps + 1
+unfolding oneOn
+one-more p = refl
+
+-- fewer are left
+pub fewer : (p q : Plan) → Went p q → stepCount q - q .steps < stepCount p - p .steps
+fewer p q w =
+    let e = ap stepCount (w .is) ∙ same-count p in
+    let f = ap (λ (x : Plan). x .steps) (w .is) ∙ one-more p in
+    omega (arith, w .left)
+
+-- what is left after it
+pub finish-on : (p q : Plan) (image : List ℕ) {y : List ℕ} → given (on q) ≡ stepping p image .answer → y ≡ stepping p image .image
+    → finishing q y ≡ finishing p image
+unfolding finishing runFor
+finish-on p q image {y} e i =
+    let w = went p q image e in
+    let c = ap stepCount (w .is) ∙ same-count p in
+    let f = ap (λ (x : Plan). x .steps) (w .is) ∙ one-more p in
+    let k : stepCount p - p .steps ≡ suc (stepCount q - q .steps) = omega (arith, w .left) in
+    rw (k, ← e, ← i)
+
+-- the last step
+module _ (p : Plan) (image : List ℕ) {a : Answer Progress} {y : List ℕ} (e : a ≡ stepping p image .answer) (i : y ≡ stepping p image .image) where
+  ended : (a ≡ given done) ⊎ (a ≡ refused 18 0) → (a ≡ finishing p image .answer) × (y ≡ finishing p image .image)
+  unfolding finishing runFor
+  ended (inl d) = (rw (← e, d), rw (← e, d) i)
+  ended (inr d) = (rw (← e, d), rw (← e, d) i)
+
+  pub finish-last : {s : Stepping} → (a ≡ given done) ⊎ (a ≡ refused 18 0) → finishing p image ≡ s → (a ≡ s .answer) × (y ≡ s .image)
+  finish-last d f = let r = ended d in (r .0 ∙ ap (λ (x : Stepping). x .answer) f, r .1 ∙ ap (λ (x : Stepping). x .image) f)

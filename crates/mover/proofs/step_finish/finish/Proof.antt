@@ -1,0 +1,75 @@
+-- `mover::step_finish::finish` meets its contract. Assumes nothing.
+use mathlib.Core.Path.{_≡_, refl, sym, ap, _∙_}
+use Prim.Native.Nat.{_≤_, _<_, _-_, _+_}
+use native.Mathlib.Omega.{arith}
+use borrow.Author.Needs.{needs}
+use lib.ListN.{length}
+use Rattle.plan.specs.Write.{stepCount}
+use Rattle.plan.specs.Step.{steppedAnswer}
+use Rattle.mover.specs.Finish.{finishing}
+use Rattle.mover.proofs.StepFinish.{went, fewer, finish-on, finish-last}
+use mathlib.Core.Logic.{inl, inr}
+use Rattle.mover.proofs.step_finish.finish.Statement.{statement}
+use Rattle.mover.proofs.step_finish.finish.Tie as tie
+use Rattle.mover.proofs.step_finish.finish.Reads as reads
+use Rattle.mover.proofs.step_finish.finish.Lts as lts
+use Rattle.mover.proofs.steps.step.Reads as step-reads
+
+abbrev Inv-loop : tie.InvT-loop
+Inv-loop image₀ p₀ image p = (length image ≡ length image₀) × (finishing p image ≡ finishing p₀ image₀)
+
+abbrev μ-loop : tie.MeasureT-loop
+μ-loop image₀ p₀ image p = stepCount p - p .steps
+
+loop-holds : tie.Need-loop-holds Inv-loop μ-loop
+loop-holds c = (refl, refl)
+
+step-requires : tie.Need-step-requires Inv-loop μ-loop
+step-requires c κs = search needs
+
+enum-known-s : tie.Need-enum-known-s Inv-loop μ-loop
+enum-known-s c = search needs
+
+loop-less : tie.Need-loop-less Inv-loop μ-loop
+loop-less c = let l = c .before .before .before .before .before .before .before .loop in let q = c .before .s .given in fewer (l .p) (q .0 .0) (went (l .p) (q .0 .0) (l .image) (sym (ap steppedAnswer (q .1)) ∙ c .before .before .before .before .before .step .ensures .0))
+
+loop-again : tie.Need-loop-again Inv-loop μ-loop
+loop-again c = let l = c .before .before .before .before .before .before .before .loop in
+    let q = c .before .s .given in
+    (c .before .before .before .before .image .given ∙ l .inv .0, finish-on (l .p) (q .0 .0) (l .image) (sym (ap steppedAnswer (q .1)) ∙ c .before .before .before .before .before .step .ensures .0) (c .before .before .before .before .before .step .ensures .1) ∙ l .inv .1)
+
+enum-told : tie.Need-enum-told Inv-loop μ-loop
+enum-told c = search needs
+
+same-length : tie.Need-same-length Inv-loop μ-loop
+same-length c = search needs
+
+returns : tie.Need-returns Inv-loop μ-loop
+returns c = let l = c .before .before .before .before .before .before .loop in finish-last (l .p) (l .image) (sym (ap steppedAnswer (c .enum-told .given .1)) ∙ c .before .before .before .before .step .ensures .0) (c .before .before .before .before .step .ensures .1) (inl refl) (l .inv .1)
+
+enum-told-2 : tie.Need-enum-told-2 Inv-loop μ-loop
+enum-told-2 c = search needs
+
+same-length-2 : tie.Need-same-length-2 Inv-loop μ-loop
+same-length-2 c = search needs
+
+returns-2 : tie.Need-returns-2 Inv-loop μ-loop
+returns-2 c = let l = c .before .before .before .before .before .before .loop in finish-last (l .p) (l .image) (sym (ap steppedAnswer (c .enum-told2 .given .1)) ∙ c .before .before .before .before .step .ensures .0) (c .before .before .before .before .step .ensures .1) (inr refl) (l .inv .1)
+
+pub finish-spec : {M : Type 1} → statement M
+finish-spec =
+    tie.close
+    (tie.spec
+    Inv-loop
+    μ-loop
+    loop-holds
+    step-requires
+    enum-known-s
+    loop-less
+    loop-again
+    enum-told
+    same-length
+    returns
+    enum-told-2
+    same-length-2
+    returns-2)
