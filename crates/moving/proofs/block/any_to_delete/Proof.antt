@@ -1,0 +1,59 @@
+-- `moving::block::any_to_delete` meets its contract. Assumes nothing.
+use mathlib.Core.Path.{_≡_, refl, sym, ap, _∙_}
+use Prim.Native.Nat.{_≤_, _<_, _-_, _+_}
+use native.Mathlib.Omega.{arith}
+use borrow.Author.Needs.{needs}
+use Prim.Native.Nat.{ℕ}
+use mathlib.Core.Bool.{Bool, true, false}
+use Rattle.base.proofs.Below.{one-more, none-intro, any-intro}
+use Rattle.report.specs.View.{viewsOf, copies}
+use Rattle.report.specs.Report.{isInternal}
+use Rattle.moving.proofs.block.any_to_delete.Statement.{statement}
+use Rattle.moving.proofs.block.any_to_delete.Tie as tie
+use Rattle.moving.proofs.block.any_to_delete.Reads as reads
+use Rattle.moving.proofs.block.any_to_delete.Lts as lts
+use Rattle.moving.proofs.block.to_delete_at.Reads as to-delete-at-reads
+
+abbrev Inv-loop : tie.InvT-loop
+Inv-loop image g n pebs i₀ i = (i ≤ n) × ((j : ℕ) → j < i → isInternal 1 (copies (viewsOf g image) j) ≡ false)
+
+abbrev μ-loop : tie.MeasureT-loop
+μ-loop image g n pebs i₀ i = n - i
+
+loop-holds : tie.Need-loop-holds Inv-loop μ-loop
+loop-holds c = (omega arith, λ j h. absurd (omega arith))
+
+to-delete-at-requires : tie.Need-to-delete-at-requires Inv-loop μ-loop
+to-delete-at-requires c κs = search needs
+
+returns : tie.Need-returns Inv-loop μ-loop
+returns c = let a = c .before .before .before .before .before .before .args in
+    sym (any-intro (a .n) (λ (j : ℕ). isInternal 1 (copies (viewsOf (a .g) (a .image .now)) j)) (c .before .before .before .loop .i) (omega arith) (sym (c .before .to-delete-at .ensures) ∙ c .if1 .taken))
+
+add-i : tie.Need-add-i Inv-loop μ-loop
+add-i c = search needs
+
+loop-less : tie.Need-loop-less Inv-loop μ-loop
+loop-less c = search needs
+
+loop-again : tie.Need-loop-again Inv-loop μ-loop
+loop-again c = let a = c .before .before .before .before .before .before .args in
+    (omega arith, one-more (λ (j : ℕ). isInternal 1 (copies (viewsOf (a .g) (a .image .now)) j) ≡ false) (c .before .before .before .loop .i) (c .before .before .before .loop .inv .1) (sym (c .before .to-delete-at .ensures) ∙ c .if1 .left))
+
+returns-2 : tie.Need-returns-2 Inv-loop μ-loop
+returns-2 c = let a = c .before .before .before .before .args in
+    sym (none-intro (a .n) (λ (j : ℕ). isInternal 1 (copies (viewsOf (a .g) (a .image .now)) j)) (λ j h. c .before .loop .inv .1 j (omega arith)))
+
+pub any-to-delete-spec : {M : Type 1} → statement M
+any-to-delete-spec =
+    tie.close
+    (tie.spec
+    Inv-loop
+    μ-loop
+    loop-holds
+    to-delete-at-requires
+    returns
+    add-i
+    loop-less
+    loop-again
+    returns-2)

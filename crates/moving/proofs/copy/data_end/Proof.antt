@@ -1,0 +1,59 @@
+-- `moving::copy::data_end` meets its contract. Assumes nothing.
+use mathlib.Core.Path.{_≡_, refl, sym, ap, _∙_}
+use Prim.Native.Nat.{_≤_, _<_, _-_, _+_}
+use native.Mathlib.Omega.{arith}
+use borrow.Author.Needs.{needs}
+use lib.ListN.{length, take}
+use lib.Seq.{take-all}
+use Rattle.plan.specs.Headers.{dataEnd}
+use Rattle.moving.proofs.Data.{end-go, end-stop}
+use Rattle.moving.proofs.copy.data_end.Statement.{statement}
+use Rattle.moving.proofs.copy.data_end.Tie as tie
+use Rattle.moving.proofs.copy.data_end.Reads as reads
+use Rattle.moving.proofs.copy.data_end.Lts as lts
+
+abbrev Inv-loop : tie.InvT-loop
+Inv-loop s i₀ i = (i ≤ length s) × (dataEnd (take i s) ≡ dataEnd s)
+
+abbrev μ-loop : tie.MeasureT-loop
+μ-loop s i₀ i = i
+
+loop-holds : tie.Need-loop-holds Inv-loop μ-loop
+loop-holds c = let s = c .args .s .now in (omega arith, ap dataEnd (take-all (length s) s (omega arith)))
+
+sub-if1 : tie.Need-sub-if1 Inv-loop μ-loop
+sub-if1 c = search needs
+
+shared-slice-read-if1 : tie.Need-shared-slice-read-if1 Inv-loop μ-loop
+shared-slice-read-if1 c = search needs
+
+returns : tie.Need-returns Inv-loop μ-loop
+returns c = (end-stop (c .before .before .before .before .args .s .now) (c .before .before .before .loop .i) (omega arith) (omega arith) (c .if1 .taken) ∙ c .before .before .before .loop .inv .1, omega arith)
+
+sub-i : tie.Need-sub-i Inv-loop μ-loop
+sub-i c = search needs
+
+loop-less : tie.Need-loop-less Inv-loop μ-loop
+loop-less c = search needs
+
+loop-again : tie.Need-loop-again Inv-loop μ-loop
+loop-again c = (omega arith, end-go (c .before .before .before .before .args .s .now) (c .before .before .before .loop .i) (omega arith) (omega arith) (c .if1 .left) ∙ c .before .before .before .loop .inv .1)
+
+returns-2 : tie.Need-returns-2 Inv-loop μ-loop
+unfolding dataEnd
+returns-2 c = let e : c .before .loop .i ≡ 0 = omega arith in (rw e at (c .before .loop .inv .1), omega arith)
+
+pub data-end-spec : {M : Type 1} → statement M
+data-end-spec =
+    tie.close
+    (tie.spec
+    Inv-loop
+    μ-loop
+    loop-holds
+    sub-if1
+    shared-slice-read-if1
+    returns
+    sub-i
+    loop-less
+    loop-again
+    returns-2)

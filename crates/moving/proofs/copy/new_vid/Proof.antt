@@ -1,0 +1,77 @@
+-- `moving::copy::new_vid` meets its contract. Assumes nothing.
+use mathlib.Core.Path.{_≡_, refl, sym, ap, _∙_}
+use Prim.Native.Nat.{_≤_, _<_, _-_, _+_}
+use native.Mathlib.Omega.{arith}
+use borrow.Author.Needs.{needs}
+use Rattle.moving.proofs.copy.new_vid.Statement.{statement}
+use Rattle.moving.proofs.copy.new_vid.Tie as tie
+use Rattle.moving.proofs.copy.new_vid.Reads as reads
+use Rattle.moving.proofs.copy.new_vid.Lts as lts
+use Rattle.crc32.proofs.crc32.Reads as crc32-reads
+use Rattle.moving.proofs.copy.content_size.Reads as content-size-reads
+use Rattle.moving.proofs.copy.renewed.Reads as renewed-reads
+
+add-sequence : tie.Need-add-sequence
+add-sequence c = search needs
+
+renewed-requires : tie.Need-renewed-requires
+renewed-requires c κs = search needs
+
+returns : tie.Need-returns
+returns c = ?
+
+content-size-requires : tie.Need-content-size-requires
+content-size-requires c κs = search needs
+
+renewed-requires-2 : tie.Need-renewed-requires-2
+renewed-requires-2 c κs = search needs
+
+returns-2 : tie.Need-returns-2
+returns-2 c = ?
+
+cast-at : tie.Need-cast-at
+cast-at c = search needs
+
+add-crc32 : tie.Need-add-crc32
+add-crc32 c = ?
+
+sub-crc32 : tie.Need-sub-crc32
+sub-crc32 c = search needs
+
+part-crc32-start : tie.Need-part-crc32-start
+part-crc32-start c = search needs
+
+part-crc32-end : tie.Need-part-crc32-end
+part-crc32-end c = ?
+
+crc32-requires : tie.Need-crc32-requires
+crc32-requires c κs = search needs
+
+cast-renewed : tie.Need-cast-renewed
+cast-renewed c = ?
+
+renewed-requires-3 : tie.Need-renewed-requires-3
+renewed-requires-3 c κs = search needs
+
+returns-3 : tie.Need-returns-3
+returns-3 c = ?
+
+pub new-vid-spec : {M : Type 1} → statement M
+new-vid-spec =
+    tie.close
+    (tie.spec
+    add-sequence
+    renewed-requires
+    returns
+    content-size-requires
+    renewed-requires-2
+    returns-2
+    cast-at
+    add-crc32
+    sub-crc32
+    part-crc32-start
+    part-crc32-end
+    crc32-requires
+    cast-renewed
+    renewed-requires-3
+    returns-3)
