@@ -2,7 +2,7 @@
 use mathlib.Core.Path.{_≡_, refl, sym, ap, _∙_}
 use mathlib.Core.Bool.{Bool, true, false, not, _&&_, _||_, cond}
 use mathlib.Core.List.{List, [], _∷_, _++_}
-use Prim.Native.Nat.{ℕ, suc, _+_, _-_, _*_, _≤_, _<_}
+use Prim.Native.Nat.{ℕ, suc, _+_, _-_, _*_, _/_, _≤_, _<_}
 use native.Mathlib.Omega.{arith}
 use borrow.Author.Tests.{eq-eqb, ne-eqb}
 use lib.Dec.{eqb}
@@ -115,3 +115,13 @@ module _ (g : Geometry) (p : List ℕ) (h : VidHeader) (highest : ℕ) where
         let d : at + size - at ≡ size = omega arith in
         let z : crc ≡ crcOf (take size (drop (g .«data_start») p)) = rw (d, a) at e in
         rw (z, ne-eqb (h .«vol_type») 2 dynamic, ← size-is, ne-eqb size 0 k)
+
+-- the data's end in whole units, of what was read
+pub rounded : (g : Geometry) (p : List ℕ) (pad : ℕ) {at end : ℕ} → at ≡ g .«data_start»
+    → end ≡ dataEnd (take (at + (g .«leb_size» - pad) - at) (drop at p))
+    → (end + (g .unit - 1)) / g .unit * g .unit ≡ roundUp (g .unit) (dataEnd (take (g .«leb_size» - pad) (drop (g .«data_start») p)))
+unfolding roundUp
+rounded g p pad {at} {end} a e =
+    let d : at + (g .«leb_size» - pad) - at ≡ g .«leb_size» - pad = omega arith in
+    let z : end ≡ dataEnd (take (g .«leb_size» - pad) (drop (g .«data_start») p)) = rw (d, a) at e in
+    rw z

@@ -3,6 +3,9 @@ use mathlib.Core.Path.{_≡_, refl, sym, ap, _∙_}
 use Prim.Native.Nat.{_≤_, _<_, _-_, _+_}
 use native.Mathlib.Omega.{arith}
 use borrow.Author.Needs.{needs}
+use Rattle.geometry.specs.Geometry.{roundUp}
+use Rattle.geometry.proofs.Laws.{round-below}
+use Rattle.moving.proofs.Data.{rounded}
 use Rattle.moving.proofs.copy.content_size.Statement.{statement}
 use Rattle.moving.proofs.copy.content_size.Tie as tie
 use Rattle.moving.proofs.copy.content_size.Reads as reads
@@ -46,10 +49,11 @@ div-result : tie.Need-div-result
 div-result c = search needs
 
 mul-result : tie.Need-mul-result
-mul-result c = ?
+unfolding roundUp
+mul-result c = let d = c .before .before .before .before .before .before in record { fits = omega (arith, round-below (d .args .g .unit) (c .before .data-end .result) (d .pre .0 .unit-above), c .before .data-end .ensures .1) }
 
 returns : tie.Need-returns
-returns c = ?
+returns c = let a = c .before .before .before .before .before .before .args in rounded (a .g) (a .p .now) (a .pad) refl (c .before .data-end .ensures .0)
 
 pub content-size-spec : {M : Type 1} → statement M
 content-size-spec =

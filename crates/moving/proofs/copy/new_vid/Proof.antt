@@ -3,6 +3,9 @@ use mathlib.Core.Path.{_≡_, refl, sym, ap, _∙_}
 use Prim.Native.Nat.{_≤_, _<_, _-_, _+_}
 use native.Mathlib.Omega.{arith}
 use borrow.Author.Needs.{needs}
+use Rattle.plan.specs.Headers.{newSize}
+use Rattle.report.specs.View.{copyOf}
+use Rattle.moving.proofs.Data.{static-header, size-is, empty-header, dynamic-header}
 use Rattle.moving.proofs.copy.new_vid.Statement.{statement}
 use Rattle.moving.proofs.copy.new_vid.Tie as tie
 use Rattle.moving.proofs.copy.new_vid.Reads as reads
@@ -18,7 +21,7 @@ renewed-requires : tie.Need-renewed-requires
 renewed-requires c κs = search needs
 
 returns : tie.Need-returns
-returns c = ?
+returns c = let a = c .before .before .before .before .args in c .renewed .ensures ∙ static-header (a .g) (a .p .now) (a .h) (a .highest) (c .before .if1 .taken)
 
 content-size-requires : tie.Need-content-size-requires
 content-size-requires c κs = search needs
@@ -27,13 +30,17 @@ renewed-requires-2 : tie.Need-renewed-requires-2
 renewed-requires-2 c κs = search needs
 
 returns-2 : tie.Need-returns-2
-returns-2 c = ?
+returns-2 c = let a = c .before .before .before .before .before .before .args in c .renewed2 .ensures ∙ empty-header (a .g) (a .p .now) (a .h) (a .highest) (c .before .before .before .if1 .left) (c .before .before .content-size .ensures) (c .before .if2 .taken)
 
 cast-at : tie.Need-cast-at
 cast-at c = search needs
 
 add-crc32 : tie.Need-add-crc32
-add-crc32 c = ?
+add-crc32 c = let d = c .before .before .before .before .before .before in
+    let a = d .args in
+    let s = size-is (a .g) (a .p .now) (a .h) (a .highest) (c .before .before .before .if1 .left) (c .before .before .content-size .ensures) in
+    let m = d .pre .1 .1 .1 .0 in
+    record { fits = omega (arith, s, m, d .pre .0 .leb-fills, d .pre .0 .peb-most, d .pre .1 .0) }
 
 sub-crc32 : tie.Need-sub-crc32
 sub-crc32 c = search needs
@@ -42,19 +49,27 @@ part-crc32-start : tie.Need-part-crc32-start
 part-crc32-start c = search needs
 
 part-crc32-end : tie.Need-part-crc32-end
-part-crc32-end c = ?
+part-crc32-end c = let d = c .before .before .before .before .before .before in
+    let a = d .args in
+    let s = size-is (a .g) (a .p .now) (a .h) (a .highest) (c .before .before .before .if1 .left) (c .before .before .content-size .ensures) in
+    let m = d .pre .1 .1 .1 .0 in
+    omega (arith, s, m, d .pre .0 .leb-fills, d .pre .0 .peb-most, d .pre .1 .0)
 
 crc32-requires : tie.Need-crc32-requires
 crc32-requires c κs = search needs
 
 cast-renewed : tie.Need-cast-renewed
-cast-renewed c = ?
+cast-renewed c = let d = c .before .before .before .before .before .before .before .before in
+    let a = d .args in
+    let s = size-is (a .g) (a .p .now) (a .h) (a .highest) (c .before .before .before .before .before .if1 .left) (c .before .before .before .before .content-size .ensures) in
+    let m = d .pre .1 .1 .1 .0 in
+    record { fits = omega (arith, s, m, d .pre .0 .leb-fills, d .pre .0 .peb-most, d .pre .1 .0) }
 
 renewed-requires-3 : tie.Need-renewed-requires-3
 renewed-requires-3 c κs = search needs
 
 returns-3 : tie.Need-returns-3
-returns-3 c = ?
+returns-3 c = let a = c .before .before .before .before .before .before .before .before .before .args in c .renewed3 .ensures ∙ dynamic-header (a .g) (a .p .now) (a .h) (a .highest) (c .before .before .before .before .before .before .if1 .left) (c .before .before .before .before .before .content-size .ensures) (c .before .before .before .before .if2 .left) refl (c .before .crc32 .ensures)
 
 pub new-vid-spec : {M : Type 1} → statement M
 new-vid-spec =
