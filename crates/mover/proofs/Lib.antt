@@ -1,4 +1,5 @@
 -- The laws that proofs here cite. Assumes nothing.
+pub mod Begins
 pub mod StepWrites
 pub mod StepRules
 pub mod StepUnits

@@ -1,7 +1,9 @@
-// A move of one logical block: its steps on the lent image.
+// Moving one logical block to another physical block: its beginning, and its steps on the lent image.
+mod begin;
 mod step_finish;
 mod step_writes;
 mod steps;
 
+pub use begin::begin;
 pub use step_finish::finish;
 pub use steps::step;

@@ -10,17 +10,18 @@ use borrow.Author.Tests.{le-ltb, lt-ltb, eq-eqb, ne-eqb}
 use lib.Dec.{eqb, ltb}
 use lib.ListN.{length, take, drop, length-drop}
 use lib.Seq.{drop-drop}
+use Rattle.base.specs.Answers.{mapO}
 use Rattle.base.specs.Lists.{part}
 use Rattle.base.proofs.Lists.{to-end, length-part}
 use Rattle.base.proofs.Stores.{part-take}
 use Rattle.geometry.specs.Placed.{Placed}
 use Rattle.geometry.specs.declared.Geometry.{Geometry}
 use Rattle.header.specs.declared.EcHeader.{EcHeader}
-use Rattle.report.specs.View.{Copy, EcView, ecGood, ecNewer, ecBlank, ecLost, VidView, vidGood, vidNewer, vidBlank, vidBad, Views, viewOf, viewsOf, pebAt, allFF, ecs, copies, goodVid, isMappable}
-use Rattle.report.specs.Volumes.{Places}
+use Rattle.report.specs.View.{Copy, EcView, ecGood, ecNewer, ecBlank, ecLost, VidView, vidGood, vidNewer, vidBlank, vidBad, Views, viewOf, viewsOf, pebAt, allFF, goodEc, ecs, copies, goodVid, isMappable}
+use Rattle.report.specs.Volumes.{Places, orZero}
 use Rattle.report.specs.Report.{noWord, classOf, classAt, counterOr, counterAt, isInternal, meanOf, records, places, isPlace, staysIn}
 use Rattle.plan.specs.Headers.{dataEnd, oldCounter}
-use Rattle.moving.specs.Reported.{Reported, isNoTarget}
+use Rattle.moving.specs.Reported.{Reported, isNoTarget, ecWith}
 use Rattle.moving.proofs.Data.{clean-end}
 
 -- ---- the class word
@@ -101,3 +102,10 @@ lent-is i size s = let e : i * size + size - i * size ≡ size = omega arith in 
 
 pub lent-long : (i size : ℕ) (s : List ℕ) → i * size + size ≤ length s → length (take (i * size + size - i * size) (drop (i * size) s)) ≡ size
 lent-long i size s h = rw (lent-is i size s) (length-part (i * size) size s h)
+
+-- the EC header with the image sequence that was read
+pub new-ec-is : (g : Geometry) (image : List ℕ) (t counter : ℕ) {seq : ℕ}
+    → seq ≡ orZero (mapO (λ (h : EcHeader). h .«image_seq») (goodEc (viewOf g (take (t * g .«peb_size» + g .«peb_size» - t * g .«peb_size») (drop (t * g .«peb_size») image)) .ec)))
+    → _≡_ {A = EcHeader} (record { version = 1; counter = counter + 1; «vid_start» = g .«vid_start»; «data_start» = g .«data_start»; «image_seq» = seq })
+    (ecWith g counter (ecs (viewsOf g image) t))
+new-ec-is g image t counter e = rw (e, lent-is t (g .«peb_size») image)

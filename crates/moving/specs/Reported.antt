@@ -2,16 +2,19 @@
 use mathlib.Core.Path.{_≡_}
 use Prim.Native.Nat.{ℕ, _+_, _*_, _≤_, _<_}
 use mathlib.Core.Bool.{Bool, not, _&&_, _||_}
-use mathlib.Core.Option.{none}
+use mathlib.Core.Option.{Option, none}
 use lib.Dec.{eqb, ltb}
 use mathlib.Core.List.{List}
 use lib.ListN.{length, getD}
+use Rattle.base.specs.Answers.{mapO}
 use Rattle.base.specs.Lists.{Bytes}
 use Rattle.geometry.specs.declared.Geometry.{Geometry}
 use Rattle.geometry.specs.Placed.{Placed}
+use Rattle.header.specs.declared.EcHeader.{EcHeader}
 use Rattle.header.specs.declared.VidHeader.{VidHeader}
 use Rattle.report.specs.View.{Copy, viewsOf}
 use Rattle.report.specs.Choice.{sound}
+use Rattle.report.specs.Volumes.{orZero}
 use Rattle.report.specs.Report.{refusal, classAt, counterAt}
 use Rattle.plan.specs.Headers.{isStatic}
 
@@ -48,4 +51,14 @@ renewedAs h flag size crc sequence = record {
   «data_pad» = h .«data_pad»;
   «data_crc» = crc;
   sequence = sequence;
+}
+
+-- an EC header with the counter after this one, and the image sequence of another
+abbrev pub ecWith : Geometry → ℕ → Option EcHeader → EcHeader
+ecWith g counter e = record {
+  version = 1;
+  counter = counter + 1;
+  «vid_start» = g .«vid_start»;
+  «data_start» = g .«data_start»;
+  «image_seq» = orZero (mapO (λ (h : EcHeader). h .«image_seq») e);
 }

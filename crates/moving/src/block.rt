@@ -1,20 +1,21 @@
 // What a move asks of the blocks of an image that attached.
 ghost use mathlib.Core.Path.{_≡_};
 ghost use mathlib.Core.Bool.{not, _&&_};
-ghost use Prim.Native.Nat.{ℕ, _≤_, _<_};
+ghost use Prim.Native.Nat.{ℕ, _+_, _*_, _≤_, _<_};
 ghost use lib.Dec.{eqb};
 ghost use lib.ListN.{length};
 ghost use Rattle.base.specs.Answers.{mapO};
 ghost use Rattle.base.specs.Below.{anyBelow};
 ghost use Rattle.geometry.specs.Placed.{Placed};
 ghost use Rattle.header.specs.declared.EcHeader.{EcHeader};
-ghost use Rattle.report.specs.View.{viewOf, viewsOf, goodVid, goodEc, copies, isMappable};
+ghost use Rattle.report.specs.View.{viewOf, viewsOf, goodVid, goodEc, ecs, copies, isMappable};
 ghost use Rattle.report.specs.Volumes.{orZero};
 ghost use Rattle.report.specs.Report.{isInternal, meanOf};
 ghost use Rattle.plan.specs.Headers.{oldCounter};
-ghost use Rattle.moving.specs.Reported.{Reported, isNoTarget};
+ghost use Rattle.moving.specs.Reported.{Reported, isNoTarget, ecWith};
 use crate::copy::data_end;
 use geometry::Geometry;
+use header::EcHeader;
 use header::VidHeader;
 use scan::EcSeen;
 use scan::VidSeen;
@@ -104,7 +105,7 @@ pub fn old_counter(image: &[u8], g: Geometry, n: usize, pebs: &[u32], mean: u32,
 }
 
 // The image sequence in the EC header of the PEB with the bytes p, 0 if that is not good.
-pub fn image_seq(p: &[u8], g: Geometry) -> u32
+fn image_seq(p: &[u8], g: Geometry) -> u32
     requires { ⌜ (Placed g) × (length (now p) ≡ g .«peb_size») ⌝ }
     ensures { λ r. ⌜ r ≡ orZero (mapO (λ (h : EcHeader). h .«image_seq») (goodEc (viewOf g (now (p .entry)) .ec))) ⌝ }
 {
@@ -114,5 +115,22 @@ pub fn image_seq(p: &[u8], g: Geometry) -> u32
         EcSeen::Newer => return 0,
         EcSeen::Blank => return 0,
         EcSeen::Lost => return 0,
+    }
+}
+
+// The EC header of an erased PEB that had this counter. All good EC headers of an image that attached have one image sequence,
+// and the target's is good.
+pub fn new_ec(image: &[u8], g: Geometry, target: u32, counter: u32) -> EcHeader
+    requires { ⌜ (Placed g) × (target * g .«peb_size» + g .«peb_size» ≤ length (now image)) ⌝ }
+    ensures { λ r. ⌜ r ≡ ecWith g counter (ecs (viewsOf g (now (image .entry))) target) ⌝ }
+{
+    let size = g.peb_size as usize;
+    let at = target as usize * size;
+    EcHeader {
+        version: 1,
+        counter: counter as u64 + 1,
+        vid_start: g.vid_start,
+        data_start: g.data_start,
+        image_seq: image_seq(&image[at..at + size], g),
     }
 }

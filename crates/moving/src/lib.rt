@@ -3,8 +3,8 @@ mod block;
 mod copy;
 
 pub use block::any_to_delete;
-pub use block::image_seq;
 pub use block::is_no_target;
+pub use block::new_ec;
 pub use block::old_counter;
 pub use copy::is_damaged;
 pub use copy::new_vid;
