@@ -155,7 +155,7 @@ def read_pebs(image, geometry):
 
 
 def is_erased(data):
-    return all(byte == 0xFF for byte in data)
+    return data == b"\xff" * len(data)
 
 
 def is_copy_of_leb(peb):

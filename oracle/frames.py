@@ -162,12 +162,14 @@ NOT_ERASED = re.compile(b"[^\xff]+(?:\xff{1,6}[^\xff]+)*")
 
 
 def as_patches(data):
-    """The length of the bytes, and their runs of other bytes than 0xFF.
+    """The length of the bytes, and their runs of other bytes than 0xFF."""
+    return len(data).to_bytes(4, "big") + b"".join(patches_of(data))
 
-    A few bytes of 0xFF within a run are fewer than a patch's own numbers.
-    """
-    return len(data).to_bytes(4, "big") + b"".join(
-        patch(run.start(), run.group()) for run in NOT_ERASED.finditer(data))
+
+def patches_of(data):
+    """A few bytes of 0xFF within a run are fewer than a patch's numbers."""
+    return [patch(run.start(), run.group())
+            for run in NOT_ERASED.finditer(data)]
 
 
 def patch(offset, data):
@@ -180,10 +182,15 @@ def patched(fields, most):
     assert size <= most
     data = bytearray(b"\xff" * size)
     while not fields.at_end():
-        offset, length = fields.number(4), fields.number(2)
-        assert offset + length <= size, "patch beyond the image"
-        data[offset:offset + length] = fields.bytes(length)
+        apply_patch(fields, data)
     return bytes(data)
+
+
+def apply_patch(fields, data):
+    """The next patch of a payload, written over the bytes."""
+    offset, length = fields.number(4), fields.number(2)
+    assert offset + length <= len(data), "patch beyond the image"
+    data[offset:offset + length] = fields.bytes(length)
 
 
 # ---------------------------------------------------------------- attach

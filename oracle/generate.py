@@ -15,12 +15,14 @@ sys.path.insert(0, HERE)
 
 import attach  # noqa: E402
 import listing  # noqa: E402
+import mover  # noqa: E402
 import samples  # noqa: E402
 import ubi  # noqa: E402
 from cases_attach import attach_cases  # noqa: E402
 from cases_crc import crc_cases  # noqa: E402
 from cases_header import header_cases  # noqa: E402
 from cases_listing import listing_cases  # noqa: E402
+from cases_mover import mover_cases  # noqa: E402
 from cases_slip import slip_cases  # noqa: E402
 from cases_table import table_cases  # noqa: E402
 
@@ -28,9 +30,9 @@ ROOT = os.path.dirname(HERE)
 
 # For each test program: its cases, the bytes its input stays below, and how
 # many cases there are of each kind of answer; an answer of test_attach or
-# test_listing is of several kinds. The numbers stand here so that a
-# generator that loses a case does not go unseen; who adds cases counts them
-# again.
+# test_listing is of several kinds, and of test_mover each operation is
+# counted. The numbers stand here so that a generator that loses a case does
+# not go unseen; who adds cases counts them again.
 PROGRAMS = (
     ("test_crc", crc_cases, 500000, {
         "bytes": 814,
@@ -153,6 +155,37 @@ PROGRAMS = (
         "text just fits": 79,
         "text too long": 151,
     }),
+    ("test_mover", mover_cases, 3000000, {
+        "attach attached": 912,
+        "attach refused 11": 17,
+        "attach refused 12": 2,
+        "attach refused 9": 2,
+        "begin planned": 768,
+        "begin refused 1": 4,
+        "begin refused 10": 2,
+        "begin refused 11": 10,
+        "begin refused 12": 6,
+        "begin refused 13": 53,
+        "begin refused 14": 86,
+        "begin refused 15": 40,
+        "begin refused 16": 177,
+        "begin refused 17": 56,
+        "begin refused 2": 4,
+        "begin refused 3": 10,
+        "begin refused 4": 8,
+        "begin refused 5": 4,
+        "begin refused 6": 2,
+        "begin refused 7": 2,
+        "begin refused 8": 2,
+        "begin refused 9": 2,
+        "cut": 371,
+        "run done": 566,
+        "run on": 211,
+        "run refused 18": 44,
+        "step done": 64,
+        "step on": 172,
+        "step refused 18": 661,
+    }),
 )
 
 
@@ -167,14 +200,17 @@ def self_check(name, cases, limit, expected):
     assert len(stdin) < limit, "%s: %d bytes" % (name, len(stdin))
     assert len(stdout) < STDOUT_LIMIT, "%s: %d bytes" % (name, len(stdout))
     assert len(cases.payloads) == len(unframe(stdin))
+    kinds = cases.kinds()
     if name == "test_listing":
         # As many lines as the text has, and then one of its own.
         assert stdout.count(b"\nend\n") == len(cases.payloads)
+    elif name == "test_mover":
+        # The image's checksum once for each operation.
+        assert stdout.count(b" image ") == sum(kinds.values())
     else:
         lines = LINES_OF_ANSWER.get(name, 1)
         assert stdout.count(b"\n") == lines * len(cases.payloads)
     assert b" \n" not in stdout and b"  " not in stdout
-    kinds = cases.kinds()
     for kind in sorted(set(kinds) | set(expected)):
         found, wanted = kinds.get(kind, 0), expected.get(kind, 0)
         assert found == wanted and found > 0, (
@@ -198,6 +234,7 @@ def generate():
     ubi.self_test()
     attach.self_test()
     listing.self_test()
+    mover.self_test()
     samples.self_test()
     files = samples.sample_files()
     for name, make_cases, limit, expected in PROGRAMS:
