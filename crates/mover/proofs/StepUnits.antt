@@ -43,11 +43,13 @@ module _ (g : Geometry) (p : Plan) (image : List ℕ) (r : Running g p image) (j
     end-within = omega (arith, unit-within, r .size-fits, r .measured .placed .leb-fills)
 
     pub copyable : (f + at + n ≤ length image) × ((t + at + n ≤ length image) × ((f + at + n ≤ t + at) ⊎ (t + at + n ≤ f + at)))
-    copyable =
-        (omega (arith, end-within, r .old-room), (
-          omega (arith, end-within, r .target-room),
-          rw (is-f, is-t) (apart (p .old) (p .target) (g .«peb_size») at n (r .apart) end-within),
-        ))
+    copyable = (
+      omega (arith, end-within, r .old-room),
+      (
+        omega (arith, end-within, r .target-room),
+        rw (is-f, is-t) (apart (p .old) (p .target) (g .«peb_size») at n (r .apart) end-within),
+      ),
+    )
 
     pub unit-stored : {y : List ℕ} → y ≡ put (t + at) (part (f + at) n image) image → y ≡ put (pebStart g (p .target) + at) (unitBytes g p image j) image
     unfolding unitBytes
