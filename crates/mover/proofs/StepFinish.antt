@@ -1,9 +1,9 @@
 -- Laws of a move that is run to its end. Assumes nothing.
-use mathlib.Core.Path.{_≡_, refl, sym, ap, _∙_, subst}
+use mathlib.Core.Path.{_≡_, refl, ap, _∙_}
 use mathlib.Core.Logic.{_⊎_, inl, inr}
 use mathlib.Core.Bool.{Bool, true, false, cond}
 use mathlib.Core.List.{List}
-use Prim.Native.Nat.{ℕ, zero, suc, _+_, _-_, _≤_, _<_}
+use Prim.Native.Nat.{ℕ, zero, suc, _+_, _-_, _<_}
 use native.Mathlib.Omega.{arith}
 use lib.Dec.{ltb}
 use borrow.Author.Tests.{ltb-true}
@@ -27,6 +27,15 @@ went p q image e = go (runnable p image) (ltb (p .steps) (stepCount p)) refl e
     go true true h e = record { is = cc; left = ltb-true (p .steps) (stepCount p) h }
     go true false h e = absurd (let z : _≡_ {A = ℕ} 0 1 = cc in omega arith)
     go false b h e = absurd (let z : _≡_ {A = ℕ} 0 1 = cc in omega arith)
+
+refused-18 : (k r : ℕ) (p : Plan) (image : List ℕ) → refused k r ≡ stepping p image .answer → _≡_ {A = Answer Progress} (refused k r) (refused 18 0)
+unfolding stepping stepAnswer
+refused-18 k r p image e = go (runnable p image) e
+  where
+    go : (b : Bool) → _≡_ {A = Answer Progress} (refused k r) (cond b (given (cond (ltb (p .steps) (stepCount p)) (on (oneOn p)) done)) (refused 18 0))
+        → _≡_ {A = Answer Progress} (refused k r) (refused 18 0)
+    go true e = absurd (let z : _≡_ {A = ℕ} 0 1 = cc in omega arith)
+    go false e = e
 
 same-count : (p : Plan) → stepCount (oneOn p) ≡ stepCount p
 unfolding oneOn stepCount dataSteps
@@ -63,3 +72,23 @@ module _ (p : Plan) (image : List ℕ) {a : Answer Progress} {y : List ℕ} (e :
 
   pub finish-last : {s : Stepping} → (a ≡ given done) ⊎ (a ≡ refused 18 0) → finishing p image ≡ s → (a ≡ s .answer) × (y ≡ s .image)
   finish-last d f = let r = ended d in (r .0 ∙ ap (λ (x : Stepping). x .answer) f, r .1 ∙ ap (λ (x : Stepping). x .image) f)
+
+-- it ends: done, or refused
+ends : (a : Answer Progress) (n : ℕ) (p : Plan) (image y : List ℕ) → a ≡ stepping p image .answer
+    → ((q : Plan) → given (on q) ≡ a → (runFor n q y .answer ≡ given done) ⊎ (runFor n q y .answer ≡ refused 18 0))
+    → (followed (runFor n) y a .answer ≡ given done) ⊎ (followed (runFor n) y a .answer ≡ refused 18 0)
+ends (given (on q)) n p image y e ih = ih q refl
+ends (given done) n p image y e ih = inl refl
+ends (refused k r) n p image y e ih = inr (refused-18 k r p image e)
+
+within : (n : ℕ) (p : Plan) (image : List ℕ) → stepCount p - p .steps < n
+    → (runFor n p image .answer ≡ given done) ⊎ (runFor n p image .answer ≡ refused 18 0)
+unfolding runFor
+within zero p image h = absurd (omega arith)
+within (suc n) p image h =
+    ends (stepping p image .answer) n p image (stepping p image .image) refl
+    (λ q e. within n q (stepping p image .image) (omega (arith, fewer p q (went p q image e))))
+
+pub finish-ends : (p : Plan) (image : List ℕ) → (finishing p image .answer ≡ given done) ⊎ (finishing p image .answer ≡ refused 18 0)
+unfolding finishing
+finish-ends p image = within (suc (stepCount p - p .steps)) p image (omega arith)

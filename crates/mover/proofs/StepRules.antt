@@ -1,14 +1,14 @@
 -- Laws of refusal 18. Assumes nothing.
-use mathlib.Core.Path.{_≡_, refl, sym, ap, _∙_, subst}
+use mathlib.Core.Path.{_≡_, refl, sym, ap, _∙_}
 use mathlib.Core.Logic.{_≢_}
 use mathlib.Core.Bool.{Bool, true, false, not, cond, false≢true, and-true}
 use mathlib.Core.List.{List}
 use Prim.Native.Nat.{ℕ, _+_, _-_, _*_, _/_, _%_, _≤_, _<_}
 use native.Mathlib.Nat.{div-add-mod', mul-le-mul-right, div-lt-iff-lt-mul}
 use native.Mathlib.Omega.{arith}
-use lib.Dec.{eqb, ltb}
+use lib.Dec.{eqb}
 use lib.ListN.{length, getD}
-use borrow.Author.Tests.{lt-ltb, le-ltb, le-leb, lt-leb, eq-eqb, ne-eqb, ltb-true, leb-true, eqb-true, eqb-false, not-false}
+use borrow.Author.Tests.{lt-ltb, le-ltb, le-leb, lt-leb, eq-eqb, ne-eqb, ltb-true, leb-true, eqb-false}
 use Rattle.base.specs.Answers.{Answer, given, refused, allOf}
 use Rattle.base.proofs.Answers.{one-broken, each-holds, cond-yes}
 use Rattle.geometry.specs.Geometry.{geometryRules, geometryOf, makeGeometry}
@@ -102,7 +102,6 @@ running g p m image e =
     let v : isGood (judgeVid (g .«leb_size») (p .vid)) ≡ true = rw (m .is) (r 5) in
     record {
       measured = m;
-      runs = e;
       old-below = omega arith;
       target-below = omega arith;
       old-room = room (p .old) (g .«peb_size») (length image) o;

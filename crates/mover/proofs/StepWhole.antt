@@ -1,12 +1,12 @@
 -- Laws of a whole step: what it answers, and the image after it. Assumes nothing.
-use mathlib.Core.Path.{_≡_, refl, sym, ap, _∙_}
+use mathlib.Core.Path.{_≡_, sym, ap, _∙_}
 use mathlib.Core.Bool.{true, false}
 use mathlib.Core.List.{List}
 use Prim.Native.Nat.{ℕ, suc, _+_, _-_, _*_, _≤_, _<_}
 use native.Mathlib.Omega.{arith}
 use borrow.Author.Tests.{lt-ltb, le-ltb}
 use lib.ListN.{replicate}
-use Rattle.base.specs.Answers.{Answer, given, refused}
+use Rattle.base.specs.Answers.{given, refused}
 use Rattle.base.specs.Lists.{put}
 use Rattle.geometry.specs.declared.Geometry.{Geometry}
 use Rattle.header.specs.Ec.{ecBytes}

@@ -14,7 +14,6 @@ use Rattle.header.specs.Fields.{isGood}
 use Rattle.header.specs.Ec.{judgeEc}
 use Rattle.header.specs.Vid.{judgeVid}
 use Rattle.plan.specs.Write.{planGeometry}
-use Rattle.plan.specs.Step.{runnable}
 use Rattle.plan.specs.declared.Plan.{Plan}
 
 -- the geometry is the plan's, and within the rules
@@ -27,7 +26,6 @@ pub record Measured (g : Geometry) (p : Plan) : Type 0 where
 
 pub record Running (g : Geometry) (p : Plan) (image : List ℕ) : Type 0 where
   pub measured : Measured g p
-  pub runs : runnable p image ≡ true
   pub old-below : p .old < 4096
   pub target-below : p .target < 4096
   pub old-room : p .old * g .«peb_size» + g .«peb_size» ≤ length image

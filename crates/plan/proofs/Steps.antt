@@ -6,7 +6,7 @@ use native.Mathlib.Omega.{arith}
 use borrow.Author.Tests.{lt-ltb, le-ltb, eq-eqb, ne-eqb}
 use Rattle.geometry.specs.declared.Geometry.{Geometry}
 use Rattle.header.specs.Ec.{ecBytes}
-use Rattle.plan.specs.Write.{Write, store, erase, nothing, dataSteps, stepCount, pebStart, unitBytes, writeAfter}
+use Rattle.plan.specs.Write.{store, erase, nothing, dataSteps, stepCount, pebStart, unitBytes, writeAfter}
 use Rattle.plan.specs.declared.Plan.{Plan}
 
 module _ (g : Geometry) (p : Plan) (image : List ℕ) where

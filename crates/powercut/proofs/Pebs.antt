@@ -2,10 +2,10 @@
 use mathlib.Core.Path.{_≡_, refl, sym, _∙_, ap, ap₂, subst}
 use mathlib.Core.Logic.{_⊎_, inl, inr, ⊎-elim}
 use mathlib.Core.Bool.{Bool, true, false, cond}
-use mathlib.Core.List.{List, [], _∷_, _++_}
+use mathlib.Core.List.{List, [], _∷_}
 use Prim.Native.Nat.{ℕ, zero, suc, _+_, _-_, _*_, _/_, _≤_, _<_, min}
 use native.Mathlib.Omega.{arith}
-use native.Mathlib.Nat.{div-add-mod', mod-lt, mul-le-mul-right}
+use native.Mathlib.Nat.{div-add-mod', mod-lt}
 use lib.Dec.{ltb, eqb}
 use borrow.Author.Tests.{eq-eqb, ne-eqb, lt-ltb, le-ltb}
 use lib.ListN.{length, take, drop, replicate, length-take, length-drop}
@@ -16,7 +16,7 @@ use Rattle.geometry.specs.Placed.{Placed}
 use Rattle.geometry.specs.declared.Geometry.{Geometry}
 use Rattle.header.specs.Ec.{ecBytes}
 use Rattle.header.specs.Vid.{vidBytes}
-use Rattle.header.proofs.Writes.{vid-64, ec-64}
+use Rattle.header.proofs.Writes.{vid-64}
 use Rattle.report.specs.View.{vidPart}
 use Rattle.plan.specs.declared.Plan.{Plan}
 use Rattle.plan.specs.Write.{erasedIn, dataSteps}

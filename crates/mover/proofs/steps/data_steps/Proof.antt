@@ -1,7 +1,5 @@
 -- `mover::steps::data_steps` meets its contract. Assumes nothing.
-use mathlib.Core.Path.{_≡_, refl, sym, ap, _∙_}
-use Prim.Native.Nat.{_≤_, _<_, _-_, _+_}
-use native.Mathlib.Omega.{arith}
+use mathlib.Core.Path.{refl}
 use borrow.Author.Needs.{needs}
 use Rattle.plan.specs.Write.{dataSteps}
 use Rattle.mover.proofs.StepRules.{steps-most}

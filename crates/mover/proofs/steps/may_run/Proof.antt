@@ -1,7 +1,5 @@
 -- `mover::steps::may_run` meets its contract. Assumes nothing.
-use mathlib.Core.Path.{_≡_, refl, sym, ap, _∙_}
-use Prim.Native.Nat.{_≤_, _<_, _-_, _+_}
-use native.Mathlib.Omega.{arith}
+use mathlib.Core.Path.{sym, _∙_}
 use borrow.Author.Needs.{needs}
 use borrow.Author.Tests.{not-true, not-false}
 use Rattle.mover.proofs.StepRules.{not-whole, too-few, too-many, old-absent, target-absent, one-peb, vid-not-good, last-rule}

@@ -1,11 +1,9 @@
 -- `mover::steps::step_measured` meets its contract. Assumes nothing.
-use mathlib.Core.Path.{_≡_, refl, sym, ap, _∙_}
-use Prim.Native.Nat.{_≤_, _<_, _-_, _+_}
-use native.Mathlib.Omega.{arith}
+use mathlib.Core.Path.{sym, _∙_}
 use borrow.Author.Needs.{needs}
 use borrow.Author.Tests.{not-true, not-false}
 use Rattle.plan.specs.Write.{stepCount}
-use Rattle.plan.specs.Step.{oneOn, runnable}
+use Rattle.plan.specs.Step.{oneOn}
 use Rattle.mover.proofs.StepRules.{running, data-bounds}
 use Rattle.mover.proofs.StepWhole.{step-refused, step-done, step-on}
 use Rattle.mover.proofs.steps.step_measured.Statement.{statement}

@@ -1,7 +1,4 @@
 -- `mover::steps::write_next` meets its contract. Assumes nothing.
-use mathlib.Core.Path.{_≡_, refl, sym, ap, _∙_}
-use Prim.Native.Nat.{_≤_, _<_, _-_, _+_}
-use native.Mathlib.Omega.{arith}
 use borrow.Author.Needs.{needs}
 use Rattle.mover.proofs.StepWhole.{left-vid, left-unit, left-erase, left-ec}
 use Rattle.mover.proofs.steps.write_next.Statement.{statement}
