@@ -174,7 +174,16 @@ fn begin_image(
 {
     let r = attach::attach(slip, image, pebs, map, states);
     match r {
-        Attached::Given(report) => return plan_move(image, g, report, pebs, map, volume, leb, target),
+        Attached::Given(report) => return plan_move(
+            image,
+            g,
+            report,
+            pebs,
+            map,
+            volume,
+            leb,
+            target,
+        ),
         Attached::Refused { number, place } => return Begun::Refused { number, place },
     }
 }
