@@ -228,9 +228,9 @@ fn begin(
 ) -> Plan
     requires { ⌜ at < length (now s) ⌝ }
 {
-    let volume = frames::number_at(s, at + 1, 4) as u32;
-    let leb = frames::number_at(s, at + 5, 4) as u32;
-    let target = frames::number_at(s, at + 9, 4) as u32;
+    let volume = read::low(frames::number_at(s, at + 1, 4));
+    let leb = read::low(frames::number_at(s, at + 5, 4));
+    let target = read::low(frames::number_at(s, at + 9, 4));
     let r = mover::begin(slip, image, pebs, map, states, volume, leb, target);
     let p = begun(r, plan);
     frames::word(b" ");

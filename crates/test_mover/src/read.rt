@@ -17,17 +17,22 @@ pub fn onward(s: &[u8], at: usize, n: usize) -> usize
     at + n
 }
 
-// The number in `width` bytes; 0 beyond the end.
+// A number that fits four bytes.
+pub fn low(n: u64) -> u32 {
+    (n % 4294967296) as u32
+}
+
+// The number in four bytes, k bytes on; 0 beyond the end.
 fn small(s: &[u8], at: usize, k: usize) -> u32
     requires { ⌜ (at ≤ length (now s)) × (k ≤ 128) ⌝ }
 {
-    frames::number_at(s, at + k, 4) as u32
+    low(frames::number_at(s, at + k, 4))
 }
 
 fn byte(s: &[u8], at: usize, k: usize) -> u8
     requires { ⌜ (at ≤ length (now s)) × (k ≤ 128) ⌝ }
 {
-    frames::number_at(s, at + k, 1) as u8
+    (frames::number_at(s, at + k, 1) % 256) as u8
 }
 
 fn large(s: &[u8], at: usize, k: usize) -> u64
