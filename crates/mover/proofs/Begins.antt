@@ -35,18 +35,18 @@ use Rattle.plan.specs.Begin.{isIn, unlessRefused, refusal13, mapped, refusal15,
 use Rattle.plan.specs.declared.Plan.{Plan}
 use Rattle.plan.specs.declared.Begun.{Begun}
 use Rattle.plan.specs.declared.Begun.the-variants.{Planned}
-use Rattle.plan.proofs.Accepted.{in-map-is, class-free}
+use Rattle.plan.proofs.Accepted.{class-free}
 use Rattle.plan.proofs.Blocks.{peb-length}
-use Rattle.plan.proofs.Bounds.{copy-rules, size-fits}
+use Rattle.plan.proofs.Bounds.{copy-rules}
 use Rattle.moving.specs.Reported.{Reported, isDamaged, isNoTarget, ecWith}
 use Rattle.moving.proofs.Words.{room}
-use Rattle.mover.specs.Begins.{Told, Begins, Held, Moved, Accepts}
+use Rattle.mover.specs.Begins.{Told, Moved, Accepts}
 
 -- the copy of a LEB in the map is the chosen one
 mapped-chosen : (g : Geometry) (n : ℕ) (vs : Views) (v l : ℕ) (x : ℕ × Copy) → mapped g n vs v l ≡ some x
-    → (isIn v l (entries g n vs) ≡ true) × (chosen n (copies vs) v l ≡ some x)
+    → chosen n (copies vs) v l ≡ some x
 unfolding mapped
-mapped-chosen g n vs v l x e = cond-yes (isIn v l (entries g n vs)) none-some e
+mapped-chosen g n vs v l x e = cond-yes (isIn v l (entries g n vs)) none-some e .1
 
 -- ---- the copy that is moved
 
@@ -122,29 +122,19 @@ module _ {g : Geometry} {image : List ℕ} {r : Report} {pebs : List ℕ} (k : T
           go : (x : Option (ℕ × Copy)) → mapped g n vs v l ≡ x → mapO (λ (x : ℕ × Copy). x .0) x ≡ some o → a ≡ planFor g n vs t x
           go none m e = none-some e
           go (some x) m e =
-              let w = chosen-at n (copies vs) v l (x .0) (x .1) (mapped-chosen g n vs v l x m .1) in
+              let w = chosen-at n (copies vs) v l (x .0) (x .1) (mapped-chosen g n vs v l x m) in
               let z : x .0 ≡ o = cc in
               rw z (f (x .1) (ap (copies vs) (sym z) ∙ w .1))
 
-    -- a LEB that is found is in the map
-    pub found-held : (o : ℕ) → mapO (λ (x : ℕ × Copy). x .0) (mapped g n vs v l) ≡ some o → Held g image n o
-    found-held o q = go (mapped g n vs v l) refl q
+    -- a LEB that is found is in a PEB of the image
+    pub found-within : (o : ℕ) → mapO (λ (x : ℕ × Copy). x .0) (mapped g n vs v l) ≡ some o → o < n
+    found-within o q = go (mapped g n vs v l) refl q
       where
-        go : (x : Option (ℕ × Copy)) → mapped g n vs v l ≡ x → mapO (λ (x : ℕ × Copy). x .0) x ≡ some o → Held g image n o
+        go : (x : Option (ℕ × Copy)) → mapped g n vs v l ≡ x → mapO (λ (x : ℕ × Copy). x .0) x ≡ some o → o < n
         go none m e = none-some e
         go (some x) m e =
-            let u = k .reported in
-            let s = mapped-chosen g n vs v l x m in
-            let w = chosen-at n (copies vs) v l (x .0) (x .1) (s .1) in
-            let f = size-fits g (u .placed) n image (u .bytes) (u .whole) (u .attached) v l (x .0) (x .1) (s .1) (in-map-is g n vs v l (s .0)) in
             let z : x .0 ≡ o = cc in
-            record {
-              within = rw (← z) (w .0);
-              size-fits = λ (c : Copy) (is : copies vs o ≡ some c).
-                  let y : some (x .1) ≡ some c = sym (w .1) ∙ ap (copies vs) z ∙ is in
-                  let b : x .1 ≡ c = cc in
-                  subst (λ (d : Copy). newSize g d ≤ g .«leb_size» - d .header .«data_pad») b f;
-            }
+            rw (← z) (chosen-at n (copies vs) v l (x .0) (x .1) (mapped-chosen g n vs v l x m) .0)
 
   -- a target that nothing speaks against has a good EC header
   free-target : (t : ℕ) → isNoTarget g image n t ≡ false → (t < n) × (h : EcHeader) × (ecs vs t ≡ some h)
@@ -200,7 +190,6 @@ module _ {g : Geometry} {image : List ℕ} {r : Report} {pebs : List ℕ} (k : T
                 placed = u .placed;
                 p-long = p-long k m;
                 pad-fits = omega (arith, pad-fits k m);
-                size-fits = omega (arith, m .size-fits);
                 highest-is = highest-is;
                 sequence-left = omega arith;
                 target-there = room u t (w .0);
@@ -226,11 +215,8 @@ module _ (g : Geometry) (image p : List ℕ) (o : ℕ) (is : p ≡ pebAt g image
   pub unseen : (v w : VidSeen) → vidSeen g p v ≡ viewOf g p .vid → v ≡ w → goodVid (vidSeen g p w) ≡ none → copies (viewsOf g image) o ≡ none
   unseen v w e q u = seen-view v e ∙ ap (λ (x : VidSeen). goodVid (vidSeen g p x)) q ∙ u
 
-  pub moved : {n : ℕ} → Held g image n o → (v : VidSeen) (h : VidHeader) → vidSeen g p v ≡ viewOf g p .vid → v ≡ seen.Good h → Moved g image p n o h
-  unfolding copyOf
-  moved k v h e q =
-      let c = seen-copy v h e q in
-      record { within = k .within; bytes-are = is; copy-is = c; size-fits = k .size-fits (copyOf g p h) c }
+  pub moved : {n : ℕ} → o < n → (v : VidSeen) (h : VidHeader) → vidSeen g p v ≡ viewOf g p .vid → v ≡ seen.Good h → Moved g image p n o h
+  moved k v h e q = record { within = k; bytes-are = is; copy-is = seen-copy v h e q }
 
   pub same-copy : (n t : ℕ) {c d : Copy} {a : Answer Plan} → copies (viewsOf g image) o ≡ some c → copies (viewsOf g image) o ≡ some d
       → a ≡ planFor g n (viewsOf g image) t (some (o, c)) → a ≡ planFor g n (viewsOf g image) t (some (o, d))

@@ -30,24 +30,17 @@ pub record Begins (g : Geometry) (image : List ℕ) (r : Report) (pebs map : Lis
   pub told : Told g image r pebs
   pub found : (v l : ℕ) → placeIn map (r .entries) v l ≡ mapO (λ (x : ℕ × Copy). x .0) (mapped g (r .«peb_count») (viewsOf g image) v l)
 
--- PEB o of n is in the map
-pub record Held (g : Geometry) (image : List ℕ) (n o : ℕ) : Type 0 where
-  pub within : o < n
-  pub size-fits : (c : Copy) → copies (viewsOf g image) o ≡ some c → newSize g c ≤ g .«leb_size» - c .header .«data_pad»
-
 -- PEB o, with the bytes p, has the copy with the header h
 pub record Moved (g : Geometry) (image p : List ℕ) (n o : ℕ) (h : VidHeader) : Type 0 where
   pub within : o < n
   pub bytes-are : p ≡ pebAt g image o
   pub copy-is : copies (viewsOf g image) o ≡ some (copyOf g p h)
-  pub size-fits : newSize g (copyOf g p h) ≤ g .«leb_size» - h .«data_pad»
 
 -- nothing refuses its move to PEB t
 pub record Accepts (g : Geometry) (image p : List ℕ) (r : Report) (o : ℕ) (h : VidHeader) (t counter : ℕ) : Type 0 where
   pub placed : Placed g
   pub p-long : length p ≡ g .«peb_size»
   pub pad-fits : h .«data_pad» ≤ g .«leb_size»
-  pub size-fits : newSize g (copyOf g p h) ≤ g .«leb_size»
   pub highest-is : r .highest ≡ highestOf (r .«peb_count») (copies (viewsOf g image))
   pub sequence-left : r .highest + 1 < 2 ^ 64
   pub target-there : t * g .«peb_size» + g .«peb_size» ≤ length image

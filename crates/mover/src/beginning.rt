@@ -9,7 +9,7 @@ ghost use Rattle.report.specs.Attach.{attaching, pebsAfter, mapAfter, statesAft
 ghost use Rattle.plan.specs.Begin.{makePlan, planFor, planOf, beginning, begunAnswer};
 ghost use Rattle.plan.specs.declared.Begun.{Begun};
 ghost use Rattle.plan.specs.declared.Begun.the-variants.{Planned};
-ghost use Rattle.mover.specs.Begins.{Told, Begins, Held, Moved, Accepts};
+ghost use Rattle.mover.specs.Begins.{Told, Begins, Moved, Accepts};
 use geometry::Geometry;
 use geometry::GeometryRead;
 use header::VidHeader;
@@ -93,7 +93,7 @@ fn plan_copy(
 
 // The copy in PEB `old`: its header is read anew. It is good, as the PEB is in the map.
 fn plan_peb(image: &[u8], g: Geometry, report: Report, pebs: &[u32], old: u32, target: u32) -> Begun
-    requires { ⌜ (Told g (now image) report (now pebs)) × (Held g (now image) (report .«peb_count») old) ⌝ }
+    requires { ⌜ (Told g (now image) report (now pebs)) × (old < report .«peb_count») ⌝ }
     ensures { λ r. ⌜ ((c : Copy) → copies (viewsOf g (now (image .entry))) old ≡ some c
         → begunAnswer r ≡ planFor g (report .«peb_count») (viewsOf g (now (image .entry))) target (some (old, c))) ⌝ }
 {

@@ -6,15 +6,17 @@ use Prim.Native.Nat.{ℕ, suc, _+_, _-_, _*_, _/_, _≤_, _<_}
 use native.Mathlib.Omega.{arith}
 use borrow.Author.Tests.{eq-eqb, ne-eqb}
 use lib.Dec.{eqb}
-use lib.ListN.{length, take, drop, getD}
+use lib.ListN.{length, take, drop, getD, length-take}
 use lib.Seq.{take-suc, length-take-le}
 use Rattle.base.specs.Lists.{part}
 use Rattle.crc32.specs.Crc.{crcOf}
 use Rattle.geometry.specs.declared.Geometry.{Geometry}
 use Rattle.geometry.specs.Geometry.{roundUp}
+use Rattle.geometry.specs.Placed.{Placed}
 use Rattle.header.specs.declared.VidHeader.{VidHeader}
 use Rattle.report.specs.View.{allFF, copyOf}
 use Rattle.report.specs.Choice.{sound}
+use Rattle.plan.proofs.Data.{round-within}
 use Rattle.plan.specs.Headers.{isStatic, dataEnd, newSize, newFlag, newCrc, newVid}
 use Rattle.moving.specs.Reported.{isDamaged, renewedAs}
 
@@ -100,7 +102,7 @@ module _ (g : Geometry) (p : List ℕ) (h : VidHeader) (highest : ℕ) where
   static-header e = rw (eq-eqb (h .«vol_type») 2 e)
 
   module _ (dynamic : h .«vol_type» ≡ 2 → ⊥) {size : ℕ} (is : size ≡ roundUp (g .unit) (dataEnd (take (g .«leb_size» - h .«data_pad») (drop (g .«data_start») p)))) where
-    pub size-is : size ≡ newSize g (copyOf g p h)
+    size-is : size ≡ newSize g (copyOf g p h)
     unfolding copyOf newSize
     size-is = rw (ne-eqb (h .«vol_type») 2 dynamic) is
 
@@ -117,11 +119,17 @@ module _ (g : Geometry) (p : List ℕ) (h : VidHeader) (highest : ℕ) where
         rw (z, ne-eqb (h .«vol_type») 2 dynamic, ← size-is, ne-eqb size 0 k)
 
 -- the data's end in whole units, of what was read
-pub rounded : (g : Geometry) (p : List ℕ) (pad : ℕ) {at end : ℕ} → at ≡ g .«data_start»
-    → end ≡ dataEnd (take (at + (g .«leb_size» - pad) - at) (drop at p))
-    → (end + (g .unit - 1)) / g .unit * g .unit ≡ roundUp (g .unit) (dataEnd (take (g .«leb_size» - pad) (drop (g .«data_start») p)))
-unfolding roundUp
-rounded g p pad {at} {end} a e =
-    let d : at + (g .«leb_size» - pad) - at ≡ g .«leb_size» - pad = omega arith in
-    let z : end ≡ dataEnd (take (g .«leb_size» - pad) (drop (g .«data_start») p)) = rw (d, a) at e in
-    rw z
+module _ (g : Geometry) (p : List ℕ) (pad : ℕ) {at end : ℕ} (a : at ≡ g .«data_start») where
+  pub rounded : end ≡ dataEnd (take (at + (g .«leb_size» - pad) - at) (drop at p))
+      → (end + (g .unit - 1)) / g .unit * g .unit ≡ roundUp (g .unit) (dataEnd (take (g .«leb_size» - pad) (drop (g .«data_start») p)))
+  unfolding roundUp
+  rounded e =
+      let d : at + (g .«leb_size» - pad) - at ≡ g .«leb_size» - pad = omega arith in
+      let z : end ≡ dataEnd (take (g .«leb_size» - pad) (drop (g .«data_start») p)) = rw (d, a) at e in
+      rw z
+
+  pub rounded-within : Placed g → end ≤ length (take (at + (g .«leb_size» - pad) - at) (drop at p)) → (end + (g .unit - 1)) / g .unit * g .unit ≤ g .«leb_size»
+  unfolding roundUp
+  rounded-within P h =
+      let l = length-take (at + (g .«leb_size» - pad) - at) (drop at p) in
+      round-within (g .unit) end (g .«leb_size») (P .unit-above) (P .unit-divides) (omega arith)

@@ -5,7 +5,7 @@ ghost use lib.ListN.{length, take, drop};
 ghost use Rattle.geometry.specs.Geometry.{roundUp};
 ghost use Rattle.geometry.specs.Placed.{Placed};
 ghost use Rattle.report.specs.View.{copyOf};
-ghost use Rattle.plan.specs.Headers.{dataEnd, newSize, newVid};
+ghost use Rattle.plan.specs.Headers.{dataEnd, newVid};
 ghost use Rattle.moving.specs.Reported.{isDamaged, renewedAs};
 use geometry::Geometry;
 use header::VidHeader;
@@ -48,14 +48,14 @@ pub fn is_damaged(p: &[u8], g: Geometry, h: VidHeader) -> bool
 }
 
 // The bytes of a dynamic copy that are worth moving: all up to the last that is not 0xFF, in whole units.
-fn content_size(p: &[u8], g: Geometry, pad: u32) -> usize
+fn content_size(p: &[u8], g: Geometry, pad: u32) -> u32
     requires { ⌜ (Placed g) × ((length (now p) ≡ g .«peb_size») × (pad ≤ g .«leb_size»)) ⌝ }
-    ensures { λ r. ⌜ r ≡ roundUp (g .unit) (dataEnd (take (g .«leb_size» - pad) (drop (g .«data_start») (now (p .entry))))) ⌝ }
+    ensures { λ r. ⌜ (r ≡ roundUp (g .unit) (dataEnd (take (g .«leb_size» - pad) (drop (g .«data_start») (now (p .entry)))))) × (r ≤ g .«leb_size») ⌝ }
 {
     let at = g.data_start as usize;
     let end = data_end(&p[at..at + (g.leb_size - pad) as usize]);
     let unit = g.unit as usize;
-    (end + (unit - 1)) / unit * unit
+    ((end + (unit - 1)) / unit * unit) as u32
 }
 
 // The header with another flag, data size, data CRC and sequence.
@@ -79,7 +79,7 @@ fn renewed(h: VidHeader, flag: u8, size: u32, crc: u32, sequence: u64) -> VidHea
 
 // The VID header under which the copy is stored anew.
 pub fn new_vid(p: &[u8], g: Geometry, h: VidHeader, highest: u64) -> VidHeader
-    requires { ⌜ (Placed g) × ((length (now p) ≡ g .«peb_size») × ((h .«data_pad» ≤ g .«leb_size») × ((newSize g (copyOf g (now p) h) ≤ g .«leb_size») × (highest + 1 < 2 ^ 64)))) ⌝ }
+    requires { ⌜ (Placed g) × ((length (now p) ≡ g .«peb_size») × ((h .«data_pad» ≤ g .«leb_size») × (highest + 1 < 2 ^ 64))) ⌝ }
     ensures { λ r. ⌜ r ≡ newVid g highest (copyOf g (now (p .entry)) h) ⌝ }
 {
     let sequence = highest + 1;
@@ -91,6 +91,6 @@ pub fn new_vid(p: &[u8], g: Geometry, h: VidHeader, highest: u64) -> VidHeader
         return renewed(h, 0, 0, 0, sequence);
     }
     let at = g.data_start as usize;
-    let crc = crc32::crc32(&p[at..at + size]);
-    renewed(h, 1, size as u32, crc, sequence)
+    let crc = crc32::crc32(&p[at..at + size as usize]);
+    renewed(h, 1, size, crc, sequence)
 }

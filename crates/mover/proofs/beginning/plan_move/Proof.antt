@@ -5,7 +5,7 @@ use native.Mathlib.Omega.{arith}
 use borrow.Author.Needs.{needs}
 use mathlib.Core.Option.{none, some}
 use Rattle.lookup.specs.Lookup.{placeAnswer}
-use Rattle.mover.proofs.Begins.{read-only-refused, standing-refused, unmapped-refused, found-planned, found-held}
+use Rattle.mover.proofs.Begins.{read-only-refused, standing-refused, unmapped-refused, found-planned, found-within}
 use Rattle.mover.proofs.beginning.plan_move.Statement.{statement}
 use Rattle.mover.proofs.beginning.plan_move.Tie as tie
 use Rattle.mover.proofs.beginning.plan_move.Reads as reads
@@ -33,7 +33,7 @@ enum-known-place : tie.Need-enum-known-place
 enum-known-place c = search needs
 
 plan-peb-requires : tie.Need-plan-peb-requires
-plan-peb-requires c κs = let a = c .before .before .before .before .before .before .before .before .before .before .before .args in (c .before .before .before .before .before .before .before .before .before .before .before .pre .told, found-held (c .before .before .before .before .before .before .before .before .before .before .before .pre .told) (a .volume) (a .leb) (a .target) (c .before .place .given .0 .0) (sym (c .before .before .before .before .before .before .before .before .before .before .before .pre .found (a .volume) (a .leb)) ∙ sym (c .before .before .before .find-leb .ensures) ∙ ap placeAnswer (c .before .place .given .1)))
+plan-peb-requires c κs = let a = c .before .before .before .before .before .before .before .before .before .before .before .args in (c .before .before .before .before .before .before .before .before .before .before .before .pre .told, found-within (c .before .before .before .before .before .before .before .before .before .before .before .pre .told) (a .volume) (a .leb) (a .target) (c .before .place .given .0 .0) (sym (c .before .before .before .before .before .before .before .before .before .before .before .pre .found (a .volume) (a .leb)) ∙ sym (c .before .before .before .find-leb .ensures) ∙ ap placeAnswer (c .before .place .given .1)))
 
 returns-3 : tie.Need-returns-3
 returns-3 c = let a = c .before .before .before .before .before .before .before .before .before .before .before .before .args in found-planned (c .before .before .before .before .before .before .before .before .before .before .before .before .pre .told) (a .volume) (a .leb) (a .target) (c .before .before .before .before .before .before .before .before .if1 .left) (sym (c .before .before .before .before .before .before .any-to-delete .ensures) ∙ c .before .before .before .before .before .if2 .left) (c .before .before .place .given .0 .0) (sym (c .before .before .before .before .before .before .before .before .before .before .before .before .pre .found (a .volume) (a .leb)) ∙ sym (c .before .before .before .before .find-leb .ensures) ∙ ap placeAnswer (c .before .before .place .given .1)) (c .plan-peb .ensures)

@@ -22,10 +22,10 @@ cast-size : tie.Need-cast-size
 cast-size c = search needs
 
 mul-at : tie.Need-mul-at
-mul-at c = record { fits = omega (arith, room (c .before .before .before .pre .0 .reported) (c .before .before .before .args .old) (c .before .before .before .pre .1 .within)) }
+mul-at c = record { fits = omega (arith, room (c .before .before .before .pre .0 .reported) (c .before .before .before .args .old) (c .before .before .before .pre .1)) }
 
 add-p : tie.Need-add-p
-add-p c = record { fits = omega (arith, room (c .before .before .before .pre .0 .reported) (c .before .before .before .args .old) (c .before .before .before .pre .1 .within)) }
+add-p c = record { fits = omega (arith, room (c .before .before .before .pre .0 .reported) (c .before .before .before .args .old) (c .before .before .before .pre .1)) }
 
 sub-p : tie.Need-sub-p
 sub-p c = search needs
@@ -34,7 +34,7 @@ part-p-start : tie.Need-part-p-start
 part-p-start c = search needs
 
 part-p-end : tie.Need-part-p-end
-part-p-end c = search (needs, room (c .before .before .before .pre .0 .reported) (c .before .before .before .args .old) (c .before .before .before .pre .1 .within))
+part-p-end c = search (needs, room (c .before .before .before .pre .0 .reported) (c .before .before .before .args .old) (c .before .before .before .pre .1))
 
 see-vid-requires : tie.Need-see-vid-requires
 see-vid-requires c κs = search needs

@@ -1,11 +1,9 @@
 -- `moving::copy::content_size` meets its contract. Assumes nothing.
 use mathlib.Core.Path.{_≡_, refl, sym, ap, _∙_}
-use Prim.Native.Nat.{_≤_, _<_, _-_, _+_}
+use Prim.Native.Nat.{_≤_, _-_, _+_, _*_, _/_}
 use native.Mathlib.Omega.{arith}
 use borrow.Author.Needs.{needs}
-use Rattle.geometry.specs.Geometry.{roundUp}
-use Rattle.geometry.proofs.Laws.{round-below}
-use Rattle.moving.proofs.Data.{rounded}
+use Rattle.moving.proofs.Data.{rounded, rounded-within}
 use Rattle.moving.proofs.copy.content_size.Statement.{statement}
 use Rattle.moving.proofs.copy.content_size.Tie as tie
 use Rattle.moving.proofs.copy.content_size.Reads as reads
@@ -48,12 +46,20 @@ add-result c = search needs
 div-result : tie.Need-div-result
 div-result c = search needs
 
+-- whole units stay within the LEB
+within : (c : tie.After-struct-known3) → (c .before .data-end .result + (c .before .before .before .before .before .before .args .g .unit - 1)) / c .before .before .before .before .before .before .args .g .unit * c .before .before .before .before .before .before .args .g .unit ≤ c .before .before .before .before .before .before .args .g .«leb_size»
+within c =
+    let d = c .before .before .before .before .before .before in
+    rounded-within (d .args .g) (d .args .p .now) (d .args .pad) refl (d .pre .0) (c .before .data-end .ensures .1)
+
 mul-result : tie.Need-mul-result
-unfolding roundUp
-mul-result c = let d = c .before .before .before .before .before .before in record { fits = omega (arith, round-below (d .args .g .unit) (c .before .data-end .result) (d .pre .0 .unit-above), c .before .data-end .ensures .1) }
+mul-result c = record { fits = omega (arith, within c) }
+
+cast-result : tie.Need-cast-result
+cast-result c = record { fits = omega (arith, within c) }
 
 returns : tie.Need-returns
-returns c = let a = c .before .before .before .before .before .before .args in rounded (a .g) (a .p .now) (a .pad) refl (c .before .data-end .ensures .0)
+returns c = let a = c .before .before .before .before .before .before .args in (rounded (a .g) (a .p .now) (a .pad) refl (c .before .data-end .ensures .0), within c)
 
 pub content-size-spec : {M : Type 1} → statement M
 content-size-spec =
@@ -72,4 +78,5 @@ content-size-spec =
     add-result
     div-result
     mul-result
+    cast-result
     returns)

@@ -3,9 +3,7 @@ use mathlib.Core.Path.{_≡_, refl, sym, ap, _∙_}
 use Prim.Native.Nat.{_≤_, _<_, _-_, _+_}
 use native.Mathlib.Omega.{arith}
 use borrow.Author.Needs.{needs}
-use Rattle.plan.specs.Headers.{newSize}
-use Rattle.report.specs.View.{copyOf}
-use Rattle.moving.proofs.Data.{static-header, size-is, empty-header, dynamic-header}
+use Rattle.moving.proofs.Data.{static-header, empty-header, dynamic-header}
 use Rattle.moving.proofs.copy.new_vid.Statement.{statement}
 use Rattle.moving.proofs.copy.new_vid.Tie as tie
 use Rattle.moving.proofs.copy.new_vid.Reads as reads
@@ -30,17 +28,16 @@ renewed-requires-2 : tie.Need-renewed-requires-2
 renewed-requires-2 c κs = search needs
 
 returns-2 : tie.Need-returns-2
-returns-2 c = let a = c .before .before .before .before .before .before .args in c .renewed2 .ensures ∙ empty-header (a .g) (a .p .now) (a .h) (a .highest) (c .before .before .before .if1 .left) (c .before .before .content-size .ensures) (c .before .if2 .taken)
+returns-2 c = let a = c .before .before .before .before .before .before .args in c .renewed2 .ensures ∙ empty-header (a .g) (a .p .now) (a .h) (a .highest) (c .before .before .before .if1 .left) (c .before .before .content-size .ensures .0) (c .before .if2 .taken)
 
 cast-at : tie.Need-cast-at
 cast-at c = search needs
 
+cast-crc32 : tie.Need-cast-crc32
+cast-crc32 c = search needs
+
 add-crc32 : tie.Need-add-crc32
-add-crc32 c = let d = c .before .before .before .before .before .before in
-    let a = d .args in
-    let s = size-is (a .g) (a .p .now) (a .h) (a .highest) (c .before .before .before .if1 .left) (c .before .before .content-size .ensures) in
-    let m = d .pre .1 .1 .1 .0 in
-    record { fits = omega (arith, s, m, d .pre .0 .leb-fills, d .pre .0 .peb-most, d .pre .1 .0) }
+add-crc32 c = search needs
 
 sub-crc32 : tie.Need-sub-crc32
 sub-crc32 c = search needs
@@ -49,27 +46,16 @@ part-crc32-start : tie.Need-part-crc32-start
 part-crc32-start c = search needs
 
 part-crc32-end : tie.Need-part-crc32-end
-part-crc32-end c = let d = c .before .before .before .before .before .before in
-    let a = d .args in
-    let s = size-is (a .g) (a .p .now) (a .h) (a .highest) (c .before .before .before .if1 .left) (c .before .before .content-size .ensures) in
-    let m = d .pre .1 .1 .1 .0 in
-    omega (arith, s, m, d .pre .0 .leb-fills, d .pre .0 .peb-most, d .pre .1 .0)
+part-crc32-end c = search needs
 
 crc32-requires : tie.Need-crc32-requires
 crc32-requires c κs = search needs
-
-cast-renewed : tie.Need-cast-renewed
-cast-renewed c = let d = c .before .before .before .before .before .before .before .before in
-    let a = d .args in
-    let s = size-is (a .g) (a .p .now) (a .h) (a .highest) (c .before .before .before .before .before .if1 .left) (c .before .before .before .before .content-size .ensures) in
-    let m = d .pre .1 .1 .1 .0 in
-    record { fits = omega (arith, s, m, d .pre .0 .leb-fills, d .pre .0 .peb-most, d .pre .1 .0) }
 
 renewed-requires-3 : tie.Need-renewed-requires-3
 renewed-requires-3 c κs = search needs
 
 returns-3 : tie.Need-returns-3
-returns-3 c = let a = c .before .before .before .before .before .before .before .before .before .args in c .renewed3 .ensures ∙ dynamic-header (a .g) (a .p .now) (a .h) (a .highest) (c .before .before .before .before .before .before .if1 .left) (c .before .before .before .before .before .content-size .ensures) (c .before .before .before .before .if2 .left) refl (c .before .crc32 .ensures)
+returns-3 c = let a = c .before .before .before .before .before .before .before .before .before .args in c .renewed3 .ensures ∙ dynamic-header (a .g) (a .p .now) (a .h) (a .highest) (c .before .before .before .before .before .before .if1 .left) (c .before .before .before .before .before .content-size .ensures .0) (c .before .before .before .before .if2 .left) refl (c .before .crc32 .ensures)
 
 pub new-vid-spec : {M : Type 1} → statement M
 new-vid-spec =
@@ -82,11 +68,11 @@ new-vid-spec =
     renewed-requires-2
     returns-2
     cast-at
+    cast-crc32
     add-crc32
     sub-crc32
     part-crc32-start
     part-crc32-end
     crc32-requires
-    cast-renewed
     renewed-requires-3
     returns-3)
