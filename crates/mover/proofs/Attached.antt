@@ -1,16 +1,14 @@
 -- What a report of attaching leaves to a move. Assumes nothing.
-use mathlib.Core.Path.{_≡_, refl, sym, ap, ap₂, _∙_, subst}
-use mathlib.Core.Bool.{Bool, true, false, _&&_, cond}
+use mathlib.Core.Path.{_≡_, refl, sym, ap, _∙_, subst}
+use mathlib.Core.Bool.{Bool, true, false, cond}
 use mathlib.Core.Option.{Option, none, some}
-use mathlib.Core.List.{List, [], _∷_, _++_, List·Memᴰ}
-use Prim.Native.Nat.{ℕ, _+_, _-_, _*_, _/_, _%_, _≤_, _<_}
+use mathlib.Core.List.{List, [], _∷_, List·Memᴰ}
+use Prim.Native.Nat.{ℕ, _+_, _*_, _%_, _≤_, _<_}
 use native.Mathlib.Nat.{div-add-mod', mul-comm}
 use native.Mathlib.Omega.{arith}
-use lib.Dec.{eqb, leb}
 use borrow.Author.Tests.{eqb-true, leb-true}
 use lib.ListN.{length, drop, getD, length-append}
 use Rattle.base.specs.Answers.{Answer, given, refused, allOf, mapO}
-use Rattle.base.specs.Below.{concatBelow}
 use Rattle.base.specs.Lists.{Bytes}
 use Rattle.base.proofs.Answers.{each-holds}
 use Rattle.base.proofs.Rows.{row-first, row-word}
@@ -22,24 +20,7 @@ use Rattle.report.specs.Scan.{Refusal}
 use Rattle.report.specs.Choice.{chosen}
 use Rattle.report.specs.Volumes.{Entry, placesOf, mapOf}
 use Rattle.report.specs.Report.{classAt, counterAt, entries, records, places, refusal}
-use Rattle.report.specs.Attach.{
-  pebCount,
-  imageRules,
-  longEnough,
-  Outcome,
-  early,
-  late,
-  whole,
-  byViews,
-  byGeometry,
-  attaching,
-  reportOf,
-  answerOf,
-  pebWords,
-  pebsAfter,
-  mapAfter,
-  statesAfter,
-}
+use Rattle.report.specs.Attach.{pebCount, imageRules, longEnough, Outcome, early, late, whole, byViews, attaching, reportOf, answerOf, pebWords, pebsAfter, mapAfter, statesAfter}
 use Rattle.report.specs.declared.Report.{Report}
 use Rattle.report.proofs.Choice.{chosen-at}
 use Rattle.report.proofs.First.{none-some}
@@ -50,8 +31,7 @@ use Rattle.lookup.proofs.Reported.{found-in-map, in-map-found}
 use Rattle.plan.specs.Begin.{mapped, planOf, beginOn, beginning}
 use Rattle.plan.specs.declared.Plan.{Plan}
 use Rattle.plan.proofs.Mapped.{mapped-at, mapped-none}
-use Rattle.moving.specs.Reported.{Reported}
-use Rattle.mover.specs.Begins.{Told, Begins}
+use Rattle.mover.specs.Begins.{Begins}
 
 -- ---- the map's words
 

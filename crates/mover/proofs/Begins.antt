@@ -1,26 +1,23 @@
 -- From stage to stage of beginning a move. Assumes nothing.
 use mathlib.Core.Path.{_≡_, refl, sym, ap, _∙_, subst}
 use mathlib.Core.Logic.{_≢_}
-use mathlib.Core.Bool.{Bool, true, false, not, _&&_, _||_, cond}
+use mathlib.Core.Bool.{Bool, true, false, not, _||_}
 use mathlib.Core.Option.{Option, none, some}
 use mathlib.Core.List.{List}
 use Prim.Native.Nat.{ℕ, _+_, _-_, _*_, _^_, _≤_, _<_}
 use native.Mathlib.Omega.{arith}
-use lib.Dec.{eqb, ltb, leb}
+use lib.Dec.{eqb, ltb}
 use borrow.Author.Tests.{eqb-true, eq-eqb, ne-eqb, ltb-true, leb-true, not-false}
 use lib.ListN.{length, getD}
-use Rattle.base.specs.Answers.{Answer, given, refused, allOf, mapO}
+use Rattle.base.specs.Answers.{Answer, given, refused, mapO}
 use Rattle.base.specs.Below.{anyBelow}
 use Rattle.base.proofs.Answers.{or-left, or-right, each-holds, cond-yes}
 use Rattle.geometry.specs.declared.Geometry.{Geometry}
-use Rattle.geometry.specs.Placed.{Placed}
 use Rattle.header.specs.Vid.{vidRules}
 use Rattle.header.specs.declared.EcHeader.{EcHeader}
 use Rattle.header.specs.declared.VidHeader.{VidHeader}
-use Rattle.report.specs.View.{Copy, copyOf, VidView, goodVid, viewOf, pebAt, Views, viewsOf, goodEc, ecs, copies}
-use Rattle.report.specs.Scan.{imageSeq}
+use Rattle.report.specs.View.{Copy, copyOf, goodVid, viewOf, pebAt, Views, viewsOf, goodEc, ecs, copies}
 use Rattle.report.specs.Choice.{chosen}
-use Rattle.report.specs.Volumes.{orZero}
 use Rattle.report.specs.Report.{highestOf, readOnlyOf, meanOf, isInternal, classAt, entries, records, places}
 use Rattle.report.specs.Attach.{reportOf}
 use Rattle.report.specs.declared.Report.{Report}
@@ -30,15 +27,15 @@ use Rattle.report.proofs.Facts.{parts, good-ec, mapO-none}
 use Rattle.scan.specs.Seen.{vidSeen}
 use Rattle.scan.specs.declared.VidSeen.{VidSeen}
 use Rattle.scan.specs.declared.VidSeen.the-variants as seen
-use Rattle.plan.specs.Headers.{newSize, newVid, oldCounter, newEc}
-use Rattle.plan.specs.Begin.{isIn, unlessRefused, refusal13, mapped, refusal15, refusal16, refusal17, makePlan, planFor, planOf}
+use Rattle.plan.specs.Headers.{newVid, oldCounter, newEc}
+use Rattle.plan.specs.Begin.{isIn, refusal13, mapped, refusal15, refusal16, refusal17, makePlan, planFor, planOf}
 use Rattle.plan.specs.declared.Plan.{Plan}
 use Rattle.plan.specs.declared.Begun.{Begun}
 use Rattle.plan.specs.declared.Begun.the-variants.{Planned}
 use Rattle.plan.proofs.Accepted.{class-free}
 use Rattle.plan.proofs.Blocks.{peb-length}
 use Rattle.plan.proofs.Bounds.{copy-rules}
-use Rattle.moving.specs.Reported.{Reported, isDamaged, isNoTarget, ecWith}
+use Rattle.moving.specs.Reported.{isDamaged, isNoTarget, ecWith}
 use Rattle.moving.proofs.Words.{room}
 use Rattle.mover.specs.Begins.{Told, Moved, Accepts}
 

@@ -1,22 +1,19 @@
 -- What is known at each stage of beginning a move; no public promise names it. Assumes nothing.
 use mathlib.Core.Path.{_≡_}
-use mathlib.Core.Logic.{_≢_}
-use Prim.Native.Nat.{ℕ, _+_, _-_, _*_, _^_, _≤_, _<_}
-use mathlib.Core.Option.{Option, some}
+use Prim.Native.Nat.{ℕ, _+_, _*_, _^_, _≤_, _<_}
+use mathlib.Core.Option.{some}
 use mathlib.Core.List.{List}
 use lib.ListN.{length}
 use Rattle.base.specs.Answers.{mapO}
 use Rattle.geometry.specs.declared.Geometry.{Geometry}
 use Rattle.geometry.specs.Placed.{Placed}
-use Rattle.header.specs.declared.EcHeader.{EcHeader}
 use Rattle.header.specs.declared.VidHeader.{VidHeader}
 use Rattle.report.specs.View.{Copy, copyOf, pebAt, viewsOf, ecs, copies}
 use Rattle.report.specs.Report.{highestOf}
 use Rattle.report.specs.Attach.{reportOf}
-use Rattle.report.specs.Scan.{imageSeq}
 use Rattle.report.specs.declared.Report.{Report}
 use Rattle.lookup.specs.Lookup.{placeIn}
-use Rattle.plan.specs.Headers.{newSize, oldCounter, newEc}
+use Rattle.plan.specs.Headers.{newEc}
 use Rattle.plan.specs.Begin.{mapped}
 use Rattle.moving.specs.Reported.{Reported, ecWith}
 

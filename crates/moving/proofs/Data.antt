@@ -15,9 +15,8 @@ use Rattle.geometry.specs.Geometry.{roundUp}
 use Rattle.geometry.specs.Placed.{Placed}
 use Rattle.header.specs.declared.VidHeader.{VidHeader}
 use Rattle.report.specs.View.{allFF, copyOf}
-use Rattle.report.specs.Choice.{sound}
 use Rattle.plan.proofs.Data.{round-within}
-use Rattle.plan.specs.Headers.{isStatic, dataEnd, newSize, newFlag, newCrc, newVid}
+use Rattle.plan.specs.Headers.{dataEnd, newSize, newFlag, newCrc, newVid}
 use Rattle.moving.specs.Reported.{isDamaged, renewedAs}
 
 -- ---- the end of the data, from the last byte down

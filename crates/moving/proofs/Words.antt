@@ -1,23 +1,22 @@
 -- What the words of the report say of a block. Assumes nothing.
 use mathlib.Core.Path.{_≡_, refl, sym, ap, _∙_}
-use mathlib.Core.Bool.{Bool, true, false, not, _&&_, _||_, cond}
+use mathlib.Core.Bool.{Bool, true, false, not, _&&_, cond}
 use mathlib.Core.Option.{Option, none, some}
-use mathlib.Core.List.{List, [], _∷_}
+use mathlib.Core.List.{List}
 use Prim.Native.Nat.{ℕ, _+_, _-_, _*_, _≤_, _<_}
 use native.Mathlib.Omega.{arith}
 use native.Mathlib.Nat.{mul-le-mul-right}
 use borrow.Author.Tests.{le-ltb, lt-ltb, eq-eqb, ne-eqb}
-use lib.Dec.{eqb, ltb}
+use lib.Dec.{eqb}
 use lib.ListN.{length, take, drop, length-drop}
 use lib.Seq.{drop-drop}
 use Rattle.base.specs.Answers.{mapO}
 use Rattle.base.specs.Lists.{part}
 use Rattle.base.proofs.Lists.{to-end, length-part}
 use Rattle.base.proofs.Stores.{part-take}
-use Rattle.geometry.specs.Placed.{Placed}
 use Rattle.geometry.specs.declared.Geometry.{Geometry}
 use Rattle.header.specs.declared.EcHeader.{EcHeader}
-use Rattle.report.specs.View.{Copy, EcView, ecGood, ecNewer, ecBlank, ecLost, VidView, vidGood, vidNewer, vidBlank, vidBad, Views, viewOf, viewsOf, pebAt, allFF, goodEc, ecs, copies, goodVid, isMappable}
+use Rattle.report.specs.View.{EcView, VidView, vidGood, vidNewer, vidBlank, vidBad, Views, viewOf, viewsOf, pebAt, goodEc, ecs, copies, goodVid, isMappable}
 use Rattle.report.specs.Volumes.{Places, orZero}
 use Rattle.report.specs.Report.{noWord, classOf, classAt, counterOr, counterAt, isInternal, meanOf, records, places, isPlace, staysIn}
 use Rattle.plan.specs.Headers.{dataEnd, oldCounter}

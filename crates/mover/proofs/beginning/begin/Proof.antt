@@ -1,7 +1,5 @@
 -- `mover::beginning::begin` meets its contract. Assumes nothing.
-use mathlib.Core.Path.{_≡_, refl, sym, ap, _∙_}
-use Prim.Native.Nat.{_≤_, _<_, _-_, _+_}
-use native.Mathlib.Omega.{arith}
+use mathlib.Core.Path.{sym, ap, _∙_}
 use borrow.Author.Needs.{needs}
 use Rattle.geometry.specs.Geometry.{geometryRead}
 use Rattle.mover.proofs.Attached.{slip-refused}

@@ -1,7 +1,4 @@
 -- `mover::beginning::make_plan` meets its contract. Assumes nothing.
-use mathlib.Core.Path.{_≡_, refl, sym, ap, _∙_}
-use Prim.Native.Nat.{_≤_, _<_, _-_, _+_}
-use native.Mathlib.Omega.{arith}
 use borrow.Author.Needs.{needs}
 use Rattle.mover.proofs.Begins.{plan-is}
 use Rattle.mover.proofs.beginning.make_plan.Statement.{statement}

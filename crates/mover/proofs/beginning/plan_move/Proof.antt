@@ -1,9 +1,6 @@
 -- `mover::beginning::plan_move` meets its contract. Assumes nothing.
-use mathlib.Core.Path.{_≡_, refl, sym, ap, _∙_}
-use Prim.Native.Nat.{_≤_, _<_, _-_, _+_}
-use native.Mathlib.Omega.{arith}
+use mathlib.Core.Path.{sym, ap, _∙_}
 use borrow.Author.Needs.{needs}
-use mathlib.Core.Option.{none, some}
 use Rattle.lookup.specs.Lookup.{placeAnswer}
 use Rattle.mover.proofs.Begins.{read-only-refused, standing-refused, unmapped-refused, found-planned, found-within}
 use Rattle.mover.proofs.beginning.plan_move.Statement.{statement}

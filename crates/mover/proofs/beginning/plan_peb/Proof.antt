@@ -1,12 +1,8 @@
 -- `mover::beginning::plan_peb` meets its contract. Assumes nothing.
-use mathlib.Core.Path.{_≡_, refl, sym, ap, _∙_}
-use Prim.Native.Nat.{_≤_, _<_, _-_, _+_}
+use mathlib.Core.Path.{refl, sym, _∙_}
 use native.Mathlib.Omega.{arith}
 use borrow.Author.Needs.{needs}
-use mathlib.Core.Option.{some}
-use Rattle.report.specs.View.{Copy, copies, viewsOf, copyOf}
 use Rattle.report.proofs.First.{none-some}
-use Rattle.plan.specs.Begin.{planFor}
 use Rattle.scan.specs.declared.VidSeen.the-variants as seen
 use Rattle.moving.proofs.Words.{room, lent-is}
 use Rattle.mover.proofs.Begins.{seen-copy, unseen}

@@ -1,9 +1,6 @@
 -- `moving::block::image_seq` meets its contract. Assumes nothing.
-use mathlib.Core.Path.{_≡_, refl, sym, ap, _∙_}
-use Prim.Native.Nat.{_≤_, _<_, _-_, _+_}
-use native.Mathlib.Omega.{arith}
+use mathlib.Core.Path.{sym, ap, _∙_}
 use borrow.Author.Needs.{needs}
-use mathlib.Core.Option.{Option}
 use Rattle.base.specs.Answers.{mapO}
 use Rattle.header.specs.declared.EcHeader.{EcHeader}
 use Rattle.report.specs.View.{EcView, goodEc}

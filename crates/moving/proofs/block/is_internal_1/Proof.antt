@@ -1,9 +1,4 @@
 -- `moving::block::is_internal_1` meets its contract. Assumes nothing.
-use mathlib.Core.Path.{_≡_, refl, sym, ap, _∙_}
-use Prim.Native.Nat.{_≤_, _<_, _-_, _+_}
-use native.Mathlib.Omega.{arith}
-use borrow.Author.Needs.{needs}
-use mathlib.Core.Bool.{Bool, true, false, not, _||_, _&&_}
 use borrow.Author.Tests.{lt-ltb, le-ltb, eq-eqb, ne-eqb}
 use Rattle.moving.proofs.block.is_internal_1.Statement.{statement}
 use Rattle.moving.proofs.block.is_internal_1.Tie as tie

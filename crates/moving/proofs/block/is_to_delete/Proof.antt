@@ -1,7 +1,5 @@
 -- `moving::block::is_to_delete` meets its contract. Assumes nothing.
-use mathlib.Core.Path.{_≡_, refl, sym, ap, _∙_}
-use Prim.Native.Nat.{_≤_, _<_, _-_, _+_}
-use native.Mathlib.Omega.{arith}
+use mathlib.Core.Path.{sym, ap, _∙_}
 use borrow.Author.Needs.{needs}
 use Rattle.report.specs.View.{VidView, goodVid}
 use Rattle.report.specs.Report.{isInternal}

@@ -1,7 +1,4 @@
 -- `moving::block::new_ec` meets its contract. Assumes nothing.
-use mathlib.Core.Path.{_≡_, refl, sym, ap, _∙_}
-use Prim.Native.Nat.{_≤_, _<_, _-_, _+_}
-use native.Mathlib.Omega.{arith}
 use borrow.Author.Needs.{needs}
 use Rattle.moving.proofs.Words.{new-ec-is}
 use Rattle.moving.proofs.block.new_ec.Statement.{statement}

@@ -1,7 +1,5 @@
 -- `moving::block::old_counter` meets its contract. Assumes nothing.
-use mathlib.Core.Path.{_≡_, refl, sym, ap, _∙_}
-use Prim.Native.Nat.{_≤_, _<_, _-_, _+_}
-use native.Mathlib.Omega.{arith}
+use mathlib.Core.Path.{_∙_}
 use borrow.Author.Needs.{needs}
 use Rattle.report.specs.View.{viewsOf}
 use Rattle.plan.proofs.Bounds.{counter-most}

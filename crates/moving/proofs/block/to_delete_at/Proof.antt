@@ -1,13 +1,11 @@
 -- `moving::block::to_delete_at` meets its contract. Assumes nothing.
-use mathlib.Core.Path.{_≡_, refl, sym, ap, _∙_}
-use Prim.Native.Nat.{_≤_, _<_, _-_, _+_}
+use mathlib.Core.Path.{ap, _∙_}
 use native.Mathlib.Omega.{arith}
 use borrow.Author.Needs.{needs}
 use Rattle.moving.proofs.Words.{kept, room}
 use Rattle.report.specs.View.{viewsOf}
-use Prim.Native.Nat.{ℕ, _*_}
-use lib.ListN.{take, drop, length}
-use Rattle.report.specs.View.{viewOf, goodVid, pebAt}
+use Prim.Native.Nat.{ℕ}
+use Rattle.report.specs.View.{viewOf, goodVid}
 use Rattle.report.specs.Report.{isInternal}
 use mathlib.Core.List.{List}
 use Rattle.moving.proofs.Words.{lent-is, lent-long}

@@ -1,7 +1,4 @@
 -- `moving::copy::is_damaged` meets its contract. Assumes nothing.
-use mathlib.Core.Path.{_≡_, refl, sym, ap, _∙_}
-use Prim.Native.Nat.{_≤_, _<_, _-_, _+_}
-use native.Mathlib.Omega.{arith}
 use borrow.Author.Needs.{needs}
 use Rattle.moving.proofs.Data.{flagged, plain, static}
 use Rattle.moving.proofs.copy.is_damaged.Statement.{statement}

@@ -1,7 +1,5 @@
 -- `moving::copy::matches` meets its contract. Assumes nothing.
-use mathlib.Core.Path.{_≡_, refl, sym, ap, _∙_}
-use Prim.Native.Nat.{_≤_, _<_, _-_, _+_}
-use native.Mathlib.Omega.{arith}
+use mathlib.Core.Path.{refl}
 use borrow.Author.Needs.{needs}
 use Rattle.moving.proofs.Data.{matches-is}
 use Rattle.moving.proofs.copy.matches.Statement.{statement}

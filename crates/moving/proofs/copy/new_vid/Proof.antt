@@ -1,7 +1,5 @@
 -- `moving::copy::new_vid` meets its contract. Assumes nothing.
-use mathlib.Core.Path.{_≡_, refl, sym, ap, _∙_}
-use Prim.Native.Nat.{_≤_, _<_, _-_, _+_}
-use native.Mathlib.Omega.{arith}
+use mathlib.Core.Path.{refl, _∙_}
 use borrow.Author.Needs.{needs}
 use Rattle.moving.proofs.Data.{static-header, empty-header, dynamic-header}
 use Rattle.moving.proofs.copy.new_vid.Statement.{statement}
