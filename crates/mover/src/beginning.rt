@@ -2,7 +2,7 @@
 ghost use mathlib.Core.Path.{_≡_};
 ghost use mathlib.Core.Option.{some};
 ghost use Prim.Native.Nat.{_<_};
-ghost use Rattle.base.specs.Answers.{given};
+ghost use Rattle.base.specs.Answers.{given, refused};
 ghost use Rattle.geometry.specs.Slip.{slipGeometry};
 ghost use Rattle.report.specs.View.{Copy, viewsOf, copies, copyOf};
 ghost use Rattle.report.specs.Attach.{attaching, pebsAfter, mapAfter, statesAfter};
@@ -48,6 +48,13 @@ fn make_plan(
     })
 }
 
+// A refusal that names no PEB.
+fn refuse(number: u32) -> Begun
+    ensures { λ r. ⌜ begunAnswer r ≡ refused number 0 ⌝ }
+{
+    Begun::Refused { number, place: 0 }
+}
+
 // The copy with the header h, in PEB `old` with the bytes p: refusals 15 to 17, or its plan.
 fn plan_copy(
     image: &[u8],
@@ -63,30 +70,18 @@ fn plan_copy(
     ensures { λ r. ⌜ begunAnswer r ≡ planFor g (report .«peb_count») (viewsOf g (now (image .entry))) target (some (old, copyOf g (now (p .entry)) h)) ⌝ }
 {
     if moving::is_damaged(p, g, h) {
-        return Begun::Refused {
-            number: 15,
-            place: 0,
-        };
+        return refuse(15);
     }
     let n = report.peb_count as usize;
     if moving::is_no_target(image, g, n, pebs, target) {
-        return Begun::Refused {
-            number: 16,
-            place: 0,
-        };
+        return refuse(16);
     }
     if report.highest == 0xFFFFFFFFFFFFFFFF {
-        return Begun::Refused {
-            number: 17,
-            place: 0,
-        };
+        return refuse(17);
     }
     let counter = moving::old_counter(image, g, n, pebs, report.mean, old as usize);
     if counter == 0x7FFFFFFF {
-        return Begun::Refused {
-            number: 17,
-            place: 0,
-        };
+        return refuse(17);
     }
     make_plan(image, p, g, report, old, h, target, counter)
 }

@@ -16,8 +16,11 @@ use Rattle.moving.proofs.is_damaged.Reads as is-damaged-reads
 is-damaged-requires : tie.Need-is-damaged-requires
 is-damaged-requires c κs = data-fits (c .before .before .before .pre .0) (c .before .before .before .pre .1)
 
+refuse-requires : tie.Need-refuse-requires
+refuse-requires c = search needs
+
 returns : tie.Need-returns
-returns c = let d = c .before .before .before .before .before in let a = d .args in damaged-refused (d .pre .0) (a .p .now) (a .old) (a .h) (a .target) (sym (c .before .is-damaged .ensures) ∙ c .if1 .taken)
+returns c = let d = c .before .before .before .before .before .before in let a = d .args in c .refuse .ensures ∙ damaged-refused (d .pre .0) (a .p .now) (a .old) (a .h) (a .target) (sym (c .before .before .is-damaged .ensures) ∙ c .before .if1 .taken)
 
 cast-n : tie.Need-cast-n
 cast-n c = search needs
@@ -25,17 +28,26 @@ cast-n c = search needs
 is-no-target-requires : tie.Need-is-no-target-requires
 is-no-target-requires c κs = search needs
 
+refuse-requires-2 : tie.Need-refuse-requires-2
+refuse-requires-2 c = search needs
+
 returns-2 : tie.Need-returns-2
-returns-2 c = let d = c .before .before .before .before .before .before .before .before in let a = d .args in target-refused (d .pre .0) (a .p .now) (a .old) (a .h) (a .target) (sym (c .before .before .before .before .is-damaged .ensures) ∙ c .before .before .before .if1 .left) (sym (c .before .is-no-target .ensures) ∙ c .if2 .taken)
+returns-2 c = let d = c .before .before .before .before .before .before .before .before .before in let a = d .args in c .refuse2 .ensures ∙ target-refused (d .pre .0) (a .p .now) (a .old) (a .h) (a .target) (sym (c .before .before .before .before .before .is-damaged .ensures) ∙ c .before .before .before .before .if1 .left) (sym (c .before .before .is-no-target .ensures) ∙ c .before .if2 .taken)
+
+refuse-requires-3 : tie.Need-refuse-requires-3
+refuse-requires-3 c = search needs
 
 returns-3 : tie.Need-returns-3
-returns-3 c = let d = c .before .before .before .before .before .before .before .before .before .before in let a = d .args in highest-refused (d .pre .0) (a .p .now) (a .old) (a .h) (a .target) (sym (c .before .before .before .before .before .before .is-damaged .ensures) ∙ c .before .before .before .before .before .if1 .left) (sym (c .before .before .before .is-no-target .ensures) ∙ c .before .before .if2 .left) (c .if3 .taken)
+returns-3 c = let d = c .before .before .before .before .before .before .before .before .before .before .before in let a = d .args in c .refuse3 .ensures ∙ highest-refused (d .pre .0) (a .p .now) (a .old) (a .h) (a .target) (sym (c .before .before .before .before .before .before .before .is-damaged .ensures) ∙ c .before .before .before .before .before .before .if1 .left) (sym (c .before .before .before .before .is-no-target .ensures) ∙ c .before .before .before .if2 .left) (c .before .if3 .taken)
 
 old-counter-requires : tie.Need-old-counter-requires
 old-counter-requires c κs = let d = c .before .before .before .before .before .before .before .before .before .before in let a = d .args in (d .pre .0 .reported, (mean-is (d .pre .0), d .pre .1 .within))
 
+refuse-requires-4 : tie.Need-refuse-requires-4
+refuse-requires-4 c = search needs
+
 returns-4 : tie.Need-returns-4
-returns-4 c = let d = c .before .before .before .before .before .before .before .before .before .before .before .before in let a = d .args in counter-refused (d .pre .0) (a .p .now) (a .old) (a .h) (a .target) (sym (c .before .before .before .before .before .before .before .before .is-damaged .ensures) ∙ c .before .before .before .before .before .before .before .if1 .left) (sym (c .before .before .before .before .before .is-no-target .ensures) ∙ c .before .before .before .before .if2 .left) (c .before .before .if3 .left) (c .before .old-counter .ensures) (c .if4 .taken)
+returns-4 c = let d = c .before .before .before .before .before .before .before .before .before .before .before .before .before in let a = d .args in c .refuse4 .ensures ∙ counter-refused (d .pre .0) (a .p .now) (a .old) (a .h) (a .target) (sym (c .before .before .before .before .before .before .before .before .before .is-damaged .ensures) ∙ c .before .before .before .before .before .before .before .before .if1 .left) (sym (c .before .before .before .before .before .before .is-no-target .ensures) ∙ c .before .before .before .before .before .if2 .left) (c .before .before .before .if3 .left) (c .before .before .old-counter .ensures) (c .before .if4 .taken)
 
 make-plan-requires : tie.Need-make-plan-requires
 make-plan-requires c κs = let d = c .before .before .before .before .before .before .before .before .before .before .before .before in let a = d .args in accepts (d .pre .0) (a .p .now) (a .old) (a .h) (a .target) (sym (c .before .before .before .before .before .before .before .before .is-damaged .ensures) ∙ c .before .before .before .before .before .before .before .if1 .left) (sym (c .before .before .before .before .before .is-no-target .ensures) ∙ c .before .before .before .before .if2 .left) (c .before .before .if3 .left) (c .before .old-counter .ensures) (d .pre .1) (omega arith)
@@ -48,12 +60,16 @@ plan-copy-spec =
     tie.close
     (tie.spec
     is-damaged-requires
+    refuse-requires
     returns
     cast-n
     is-no-target-requires
+    refuse-requires-2
     returns-2
+    refuse-requires-3
     returns-3
     old-counter-requires
+    refuse-requires-4
     returns-4
     make-plan-requires
     returns-5)
