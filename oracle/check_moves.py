@@ -16,7 +16,6 @@ import argparse
 import os
 import subprocess
 import sys
-import tempfile
 
 # The modules beside this one are read only: leave no cache among them.
 sys.dont_write_bytecode = True
@@ -30,6 +29,7 @@ from cases_mover_random import (  # noqa: E402
     random_chip, random_move, random_stop)
 from frames import frame  # noqa: E402
 from frames_mover import Script, mover_answer  # noqa: E402
+from programs import chosen_by, keep  # noqa: E402
 
 SECONDS = 600
 
@@ -199,7 +199,8 @@ def random_list(chance, counts):
         counts.add("lists ended by the premise")
     except (AssertionError, ubi.Refused) as failed:
         print("a list fails (%s), its case in %s" % (
-            failed, keep(frame(walk.script.payload()))))
+            failed, keep(frame(walk.script.payload()), "test_mover-",
+                         ".stdin")))
         raise
     walk.script.attach()
     return walk.script.payload()
@@ -218,18 +219,10 @@ def agrees(program, payloads):
     if len(payloads) > 1:
         return all(agrees(program, [payload]) for payload in payloads)
     print("a difference: exit status %d, the case in %s" % (
-        process.returncode, keep(stdin)))
+        process.returncode, keep(stdin, "test_mover-", ".stdin")))
     print("the oracle prints\n%sthe program prints\n%s" % (
         wanted, process.stdout.decode("ascii", "backslashreplace")))
     return False
-
-
-def keep(data):
-    """A file with the case that outlives this program."""
-    with tempfile.NamedTemporaryFile(
-            prefix="test_mover-", suffix=".stdin", delete=False) as kept:
-        kept.write(data)
-    return kept.name
 
 
 def arguments_of(arguments):
@@ -237,18 +230,7 @@ def arguments_of(arguments):
         description="Check demand 3 on lists of moves by chance.")
     parser.add_argument("program", nargs="?",
                         help="path of a test_mover to compare, if any")
-    parser.add_argument("--count", type=int, default=10000,
-                        help="number of lists (10000)")
-    parser.add_argument("--seed", type=int, default=1,
-                        help="which lists, 1 or above (1)")
-    chosen = parser.parse_args(arguments)
-    if chosen.seed < 1 or chosen.count < 0:
-        parser.error("the seed is 1 or above, the count 0 or above")
-    if chosen.program is not None:
-        if not os.access(chosen.program, os.X_OK):
-            parser.error("%s is no program" % chosen.program)
-        chosen.program = os.path.abspath(chosen.program)
-    return chosen
+    return chosen_by(parser, arguments, "lists", 10000)
 
 
 def main(arguments):

@@ -10,7 +10,6 @@ import argparse
 import os
 import subprocess
 import sys
-import tempfile
 import time
 
 # The modules beside this one are read only: leave no cache among them.
@@ -20,6 +19,7 @@ sys.path.insert(0, os.path.dirname(os.path.abspath(__file__)))
 from cases import Chance  # noqa: E402
 from cases_listing_random import random_dump  # noqa: E402
 from listing import SLIP_SIZE, listing  # noqa: E402
+from programs import chosen_by, keep  # noqa: E402
 
 SECONDS = 60
 
@@ -64,18 +64,10 @@ def agrees(program, dump, in_pieces=False):
     if output == wanted and isinstance(status, int) and status >= 0:
         return True
     print("a difference: exit status %s, dump of %d bytes in %s" % (
-        status, len(dump), keep(dump)))
+        status, len(dump), keep(dump, "ubilist-", ".dump")))
     print("the oracle prints\n%sthe program prints\n%s" % (
         shown(wanted), shown(output)), end="")
     return False
-
-
-def keep(dump):
-    """A file with the dump that outlives this program."""
-    with tempfile.NamedTemporaryFile(
-            prefix="ubilist-", suffix=".dump", delete=False) as kept:
-        kept.write(dump)
-    return kept.name
 
 
 def shown(text):
@@ -87,17 +79,7 @@ def arguments_of(arguments):
     parser = argparse.ArgumentParser(
         description="Compare a listing program with the oracle.")
     parser.add_argument("program", help="path of the listing program")
-    parser.add_argument("--count", type=int, default=5000,
-                        help="number of dumps (5000)")
-    parser.add_argument("--seed", type=int, default=1,
-                        help="which dumps, 1 or above (1)")
-    chosen = parser.parse_args(arguments)
-    if chosen.seed < 1 or chosen.count < 0:
-        parser.error("the seed is 1 or above, the count 0 or above")
-    if not os.access(chosen.program, os.X_OK):
-        parser.error("%s is no program" % chosen.program)
-    chosen.program = os.path.abspath(chosen.program)
-    return chosen
+    return chosen_by(parser, arguments, "dumps", 5000)
 
 
 def main(arguments):

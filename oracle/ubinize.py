@@ -1,12 +1,14 @@
 """Compares a listing program and the oracle on images made by `ubinize`.
 
     python3 oracle/ubinize.py target/bin/ubilist
+    python3 oracle/ubinize.py --installed
 
 `ubinize`, of mtd-utils, is what makes UBI images elsewhere: a third reading
 of the format, by people who knew nothing of 01. Each image is listed by the
 program and the oracle, and its listing held against what was asked for;
 then again with some of its bytes spoilt, where both only have to agree.
-Without `ubinize` it says so and ends with 0.
+Without `ubinize` it says so and ends with 0. The second form only asks
+whether there is one: its exit status is 1 if not.
 """
 
 import os
@@ -240,6 +242,8 @@ def main(arguments):
     ubinize = find_ubinize()
     if ubinize is None:
         print(SKIPPED)
+        return 1 if arguments == ["--installed"] else 0
+    if arguments == ["--installed"]:
         return 0
     chance = Chance(802)
     images = dumps = 0
