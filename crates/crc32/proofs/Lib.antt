@@ -1,3 +1,5 @@
 pub mod Xor
 pub mod Laws
 pub mod Words
+pub mod Lanes
+pub mod Spans

@@ -1,33 +1,36 @@
 -- The table's rule, and bytes and words by the table. Assumes nothing.
-use mathlib.Core.Path.{_≡_, refl, sym, ap, _∙_}
+use mathlib.Core.Path.{_≡_, refl, sym, ap, ap₂, _∙_}
 use Prim.Native.Nat.{ℕ, zero, suc, _+_, _*_, _/_, _%_, _^_, _≤_, _<_}
 use mathlib.Core.List.{List}
 use native.Mathlib.Numerals.{add-one}
 use native.Mathlib.Omega.{arith}
-use lib.Bits.{bitXor, xor-shr, xor-zero-r, xor-comm}
+use lib.Bits.{bitXor, xor-shr, xor-zero-r, xor-comm, xor-shifted}
 use lib.ListN.{length, drop, getD, take-append-drop}
 use lib.Seq.{drop-cons, drop-drop}
 use Rattle.base.specs.Lists.{part, table, Bytes}
 use Rattle.base.proofs.Lists.{table-at, row-at, times, bytes-part, length-part}
 use Rattle.crc32.specs.Crc.{crcBits, crcByte, crcFrom}
-use Rattle.crc32.specs.Table.{leOf, crcTable}
+use Rattle.crc32.specs.Table.{leOf, crcRows}
 use Rattle.crc32.proofs.Xor.{xor-assoc}
-use Rattle.crc32.proofs.Laws.{crcBits-xor, crcBits-add, crcBits-split, crcFrom-append, crcFrom-word}
+use Rattle.crc32.proofs.Laws.{crcBits-xor, crcBits-add, crcBits-shift, crcBits-split, crcFrom-append, crcFrom-word}
 
 -- ---- the table
 
-times-bits : (j x : ℕ) → times (crcBits 8) j (crcBits 8 x) ≡ crcBits (8 * (j + 1)) x
+times-bits : (j x : ℕ) → times (crcBits 8) j x ≡ crcBits (8 * j) x
+unfolding crcBits
 times-bits zero x = refl
 times-bits (suc j) x =
-    let e : 8 * (suc j + 1) ≡ 8 + 8 * (j + 1) = omega arith in
+    let e : 8 * suc j ≡ 8 + 8 * j = omega arith in
     times-bits j (crcBits 8 x) ∙ rw (e, crcBits-add 8)
 
-pub table-rule : (j k : ℕ) → j < 8 → k < 256 → getD crcTable (j * 256 + k) 0 ≡ crcBits (8 * (j + 1)) k
-unfolding crcTable
-table-rule j k h g =
-    row-at (crcBits 8) 8 (table (crcBits 8) 0 256) j k h g
-    ∙ ap (times (crcBits 8) j) (table-at (crcBits 8) 0 256 k g)
-    ∙ times-bits j k
+pub table-rule : (f j k : ℕ) → j < 8 → k < 256 → getD (crcRows f) (j * 256 + k) 0 ≡ crcBits (8 * (f + j + 1)) k
+unfolding crcRows
+table-rule f j k h g =
+    let e : 8 * (f + j + 1) ≡ 8 * (f + 1) + 8 * j = omega arith in
+    row-at (crcBits 8) 8 (table (crcBits (8 * (f + 1))) 0 256) j k h g
+    ∙ ap (times (crcBits 8) j) (table-at (crcBits (8 * (f + 1))) 0 256 k g)
+    ∙ times-bits j (crcBits (8 * (f + 1)) k)
+    ∙ rw (e, crcBits-add (8 * (f + 1)) (8 * j) k)
 
 -- ---- bytes and words by the table
 
@@ -46,18 +49,19 @@ fold n k z q g h =
     (xor-comm (crcBits (8 * n) (z / 256)) (crcBits (8 * n) (crcBits 8 (z % 256))))
 
 -- a word by four rows
-pub by-rows : (n z : ℕ) → z < 2 ^ 32 →
-    bitXor (bitXor (bitXor (crcBits (8 * (n + 3 + 1)) (z % 256)) (crcBits (8 * (n + 2 + 1)) (z / 2 ^ 8 % 256))) (crcBits (8 * (n + 1 + 1)) (z / 2 ^ 16 % 256)))
-    (crcBits (8 * (n + 1)) (z / 2 ^ 24 % 256)) ≡ crcBits (8 * (n + 4)) z
-by-rows n z h =
+pub by-rows : (f n z : ℕ) → z < 2 ^ 32 →
+    bitXor (bitXor (bitXor (crcBits (8 * (f + (n + 3) + 1)) (z % 256)) (crcBits (8 * (f + (n + 2) + 1)) (z / 2 ^ 8 % 256)))
+    (crcBits (8 * (f + (n + 1) + 1)) (z / 2 ^ 16 % 256))) (crcBits (8 * (f + n + 1)) (z / 2 ^ 24 % 256)) ≡ crcBits (8 * (f + n + 4)) z
+by-rows f n z h =
     let e : z / 2 ^ 24 % 256 ≡ z / 2 ^ 24 = omega arith in
-    rw e
+    let g : f + n + 1 ≡ f + (n + 1) = omega arith in
+    rw (e, g)
     (simp xor-assoc
     (sym
     (rw (
-      fold (n + 3) (n + 4) z (z / 2 ^ 8) (omega arith) refl,
-      fold (n + 2) (n + 3) (z / 2 ^ 8) (z / 2 ^ 16) (omega arith) (omega arith),
-      fold (n + 1) (n + 2) (z / 2 ^ 16) (z / 2 ^ 24) (omega arith) (omega arith),
+      fold (f + (n + 3)) (f + n + 4) z (z / 2 ^ 8) (omega arith) refl,
+      fold (f + (n + 2)) (f + (n + 3)) (z / 2 ^ 8) (z / 2 ^ 16) (omega arith) (omega arith),
+      fold (f + (n + 1)) (f + (n + 2)) (z / 2 ^ 16) (z / 2 ^ 24) (omega arith) (omega arith),
     ))))
 
 -- ---- words in a list
@@ -87,11 +91,36 @@ crcFrom-part n c i s b h =
     ∙ rw (crcFrom-word c (part i n s) (bytes-part i n s b), length-part i n s h, drop-drop n i s))
 
 -- eight bytes as two words
-pub turn : (c i : ℕ) (s : List ℕ) → Bytes s → i + 8 ≤ length s →
-    crcFrom (bitXor (crcBits 32 (leOf (part (i + 4) 4 s))) (crcBits 64 (bitXor c (leOf (part i 4 s))))) (drop (i + 8) s) ≡ crcFrom c (drop i s)
-turn c i s b h =
-    let x = bitXor c (leOf (part i 4 s)) in
-    let y = leOf (part (i + 4) 4 s) in
-    let e : i + 4 + 4 ≡ i + 8 = omega arith in
-    rw (xor-comm (crcBits 32 y) (crcBits 64 x), crcBits-add 32 32 x, ← crcBits-xor 32 (crcBits 32 x) y, ← e)
-    (crcFrom-part 4 (crcBits 32 x) (i + 4) s b (omega arith) ∙ crcFrom-part 4 c i s b (omega arith))
+pub by-halves : (f c i : ℕ) (s : List ℕ) → i + 8 ≤ length s → leOf (part i 4 s) < 2 ^ 32 →
+    bitXor (crcBits (8 * (f + 0 + 4)) (leOf (part (i + 4) 4 s))) (crcBits (8 * (f + 4 + 4)) (bitXor c (leOf (part i 4 s))))
+    ≡ crcBits (8 * (f + 8)) (bitXor c (leOf (part i 8 s)))
+by-halves f c i s h small =
+    xor-comm (crcBits (8 * (f + 0 + 4)) y) (crcBits (8 * (f + 4 + 4)) (bitXor c x))
+    ∙ ap₂ bitXor (ap (λ (n : ℕ). crcBits n (bitXor c x)) low) (sym (ap (λ (n : ℕ). crcBits n (y * 2 ^ 32)) high ∙ crcBits-add 32 (8 * (f + 0 + 4)) (y * 2 ^ 32) ∙ ap (crcBits (8 * (f + 0 + 4))) (crcBits-shift 32 y)))
+    ∙ sym (ap (crcBits (8 * (f + 8))) (ap (bitXor c) whole ∙ sym (xor-assoc c x (y * 2 ^ 32))) ∙ crcBits-xor (8 * (f + 8)) (bitXor c x) (y * 2 ^ 32))
+  where
+    x : ℕ
+    x = leOf (part i 4 s)
+
+    y : ℕ
+    y = leOf (part (i + 4) 4 s)
+
+    low : 8 * (f + 4 + 4) ≡ 8 * (f + 8)
+    low = omega arith
+
+    high : 8 * (f + 8) ≡ 32 + 8 * (f + 0 + 4)
+    high = omega arith
+
+    sum : leOf (part i 8 s) ≡ y * 2 ^ 32 + x
+    sum =
+        omega (
+          arith,
+          word-at i s (omega arith),
+          leOf-part 7 i (i + 1) s refl (omega arith),
+          leOf-part 6 (i + 1) (i + 2) s (omega arith) (omega arith),
+          leOf-part 5 (i + 2) (i + 3) s (omega arith) (omega arith),
+          leOf-part 4 (i + 3) (i + 4) s (omega arith) (omega arith),
+        )
+
+    whole : leOf (part i 8 s) ≡ bitXor x (y * 2 ^ 32)
+    whole = sum ∙ sym (xor-shifted y 32 x small) ∙ xor-comm (y * 2 ^ 32) x

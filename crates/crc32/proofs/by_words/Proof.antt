@@ -6,14 +6,13 @@ use borrow.Author.Needs.{needs}
 use lib.ListN.{length, drop}
 use Rattle.base.proofs.Lists.{to-end}
 use Rattle.crc32.specs.Crc.{crcFrom}
-use Rattle.crc32.proofs.Words.{turn}
+use Rattle.crc32.proofs.Words.{crcFrom-part}
 use Rattle.crc32.proofs.by_words.Statement.{statement}
 use Rattle.crc32.proofs.by_words.Tie as tie
 use Rattle.crc32.proofs.by_words.Reads as reads
 use Rattle.crc32.proofs.by_words.Lts as lts
 use Rattle.crc32.proofs.by_bytes.Reads as by-bytes-reads
-use Rattle.crc32.proofs.read_le.Reads as read-le-reads
-use Rattle.crc32.proofs.word.Reads as word-reads
+use Rattle.crc32.proofs.eight.Reads as eight-reads
 
 abbrev Inv-loop : tie.InvT-loop
 Inv-loop t state bytes c₀ i₀ c i = (i ≤ length bytes) × (crcFrom c (drop i bytes) ≡ crcFrom state bytes)
@@ -27,20 +26,8 @@ loop-holds c = search needs
 sub-loop : tie.Need-sub-loop Inv-loop μ-loop
 sub-loop c = search needs
 
-add-read-le : tie.Need-add-read-le Inv-loop μ-loop
-add-read-le c = search needs
-
-read-le-requires : tie.Need-read-le-requires Inv-loop μ-loop
-read-le-requires c κs = search needs
-
-word-requires : tie.Need-word-requires Inv-loop μ-loop
-word-requires c κs = search needs
-
-read-le-requires-2 : tie.Need-read-le-requires-2 Inv-loop μ-loop
-read-le-requires-2 c κs = search needs
-
-word-requires-2 : tie.Need-word-requires-2 Inv-loop μ-loop
-word-requires-2 c κs = search needs
+eight-requires : tie.Need-eight-requires Inv-loop μ-loop
+eight-requires c κs = search needs
 
 add-i : tie.Need-add-i Inv-loop μ-loop
 add-i c = search needs
@@ -50,10 +37,10 @@ loop-less c = search needs
 
 loop-again : tie.Need-loop-again Inv-loop μ-loop
 loop-again c =
-    let l = c .before .before .before .before .before .loop in
-    let s = c .before .before .before .before .before .before in
-    let e = turn (l .c) (l .i) (s .before .args .bytes .now) (λ k. s .shared-slice-known .given k .fits) (omega arith) in
-    (omega arith, rw (c .word2 .ensures, c .before .before .word .ensures, c .before .read-le2 .ensures, c .before .before .before .read-le .ensures) (e ∙ l .inv .1))
+    let l = c .before .before .loop in
+    let s = c .before .before .before in
+    let e = crcFrom-part 8 (l .c) (l .i) (s .before .args .bytes .now) (λ k. s .shared-slice-known .given k .fits) (omega arith) in
+    (omega arith, rw (c .eight .ensures) (e ∙ l .inv .1))
 
 sub-by-bytes : tie.Need-sub-by-bytes Inv-loop μ-loop
 sub-by-bytes c = search needs
@@ -78,11 +65,7 @@ by-words-spec =
     μ-loop
     loop-holds
     sub-loop
-    add-read-le
-    read-le-requires
-    word-requires
-    read-le-requires-2
-    word-requires-2
+    eight-requires
     add-i
     loop-less
     loop-again

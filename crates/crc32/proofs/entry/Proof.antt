@@ -26,7 +26,7 @@ element-copy-out-result c = search needs
 returns : tie.Need-returns
 returns c =
     let a = c .before .args in
-    rw (c .before .pre .0) (table-rule (a .row) (a .z % 256) (omega arith) (omega arith))
+    rw (c .before .pre .0) (table-rule (a .first) (a .row) (a .z % 256) (omega arith) (omega arith))
 
 pub entry-spec : {M : Type 1} → statement M
 entry-spec =

@@ -32,7 +32,7 @@ entry-requires-4 c κs = search needs
 returns : tie.Need-returns
 returns c =
     let a = c .before .before .before .before .args in
-    cc (by-rows (a .row) (a .z) (omega arith))
+    cc (by-rows (a .first) (a .row) (a .z) (omega arith))
 
 pub word-spec : {M : Type 1} → statement M
 word-spec =
