@@ -4,7 +4,7 @@ use mathlib.Core.Logic.{_≢_}
 use mathlib.Core.Bool.{Bool, true, false, not, _||_}
 use mathlib.Core.Option.{Option, none, some}
 use mathlib.Core.List.{List}
-use Prim.Native.Nat.{ℕ, _+_, _-_, _*_, _^_, _≤_, _<_}
+use Prim.Native.Nat.{ℕ, _+_, _-_, _*_, _^_, _<_}
 use native.Mathlib.Omega.{arith}
 use lib.Dec.{eqb, ltb}
 use borrow.Author.Tests.{eqb-true, eq-eqb, ne-eqb, ltb-true, leb-true, not-false}
@@ -27,17 +27,17 @@ use Rattle.report.proofs.Facts.{parts, good-ec, mapO-none}
 use Rattle.scan.specs.Seen.{vidSeen}
 use Rattle.scan.specs.declared.VidSeen.{VidSeen}
 use Rattle.scan.specs.declared.VidSeen.the-variants as seen
-use Rattle.plan.specs.Headers.{newVid, oldCounter, newEc}
+use Rattle.plan.specs.Headers.{oldCounter, newEc}
 use Rattle.plan.specs.Begin.{isIn, refusal13, mapped, refusal15, refusal16, refusal17, makePlan, planFor, planOf}
 use Rattle.plan.specs.declared.Plan.{Plan}
-use Rattle.plan.specs.declared.Begun.{Begun}
-use Rattle.plan.specs.declared.Begun.the-variants.{Planned}
 use Rattle.plan.proofs.Accepted.{class-free}
 use Rattle.plan.proofs.Blocks.{peb-length}
 use Rattle.plan.proofs.Bounds.{copy-rules}
-use Rattle.moving.specs.Reported.{isDamaged, isNoTarget, ecWith}
+use Rattle.moving.specs.Reported.{Fits, isDamaged, isNoTarget, examined, renewedAs, ecWith}
+use Rattle.moving.specs.declared.Examined.{Examined}
+use Rattle.moving.proofs.Data.{renewed}
 use Rattle.moving.proofs.Words.{room}
-use Rattle.mover.specs.Begins.{Told, Moved, Accepts}
+use Rattle.mover.specs.Begins.{Told, Moved, Accepts, planWith}
 
 -- the copy of a LEB in the map is the chosen one
 mapped-chosen : (g : Geometry) (n : ℕ) (vs : Views) (v l : ℕ) (x : ℕ × Copy) → mapped g n vs v l ≡ some x
@@ -48,7 +48,7 @@ mapped-chosen g n vs v l x e = cond-yes (isIn v l (entries g n vs)) none-some e 
 -- ---- the copy that is moved
 
 module _ {g : Geometry} {image p : List ℕ} {r : Report} {pebs : List ℕ} {o : ℕ} {h : VidHeader} (k : Told g image r pebs) (m : Moved g image p (r .«peb_count») o h) where
-  pub p-long : length p ≡ g .«peb_size»
+  p-long : length p ≡ g .«peb_size»
   p-long = rw (m .bytes-are) (peb-length g (r .«peb_count») image (k .reported .whole) o (m .within))
 
   rule : (i : ℕ) → getD (vidRules (g .«leb_size») h) i true ≡ true
@@ -57,13 +57,14 @@ module _ {g : Geometry} {image p : List ℕ} {r : Report} {pebs : List ℕ} {o :
       each-holds (vidRules (g .«leb_size») h)
       (copy-rules g (k .reported .placed) (r .«peb_count») image (k .reported .bytes) (k .reported .whole) o (m .within) (copyOf g p h) (m .copy-is))
 
-  pub pad-fits : 2 * h .«data_pad» < g .«leb_size»
+  pub fits : Fits g p h
   unfolding vidRules
-  pad-fits = ltb-true (2 * h .«data_pad») (g .«leb_size») (rule 5)
-
-  pub data-fits : g .«data_start» + h .«data_size» ≤ length p
-  unfolding vidRules
-  data-fits = omega (arith, p-long, k .reported .placed .leb-fills, leb-true (h .«data_size») (g .«leb_size» - h .«data_pad») (rule 6))
+  fits = record {
+    placed = k .reported .placed;
+    whole = p-long;
+    pad-fits = omega (arith, ltb-true (2 * h .«data_pad») (g .«leb_size») (rule 5));
+    data-fits = omega (arith, p-long, k .reported .placed .leb-fills, leb-true (h .«data_size») (g .«leb_size» - h .«data_pad») (rule 6));
+  }
 
 -- ---- the report's numbers
 
@@ -144,6 +145,10 @@ module _ {g : Geometry} {image : List ℕ} {r : Report} {pebs : List ℕ} (k : T
       let f = class-free (records g n vs) (places g n vs) t (vs t .ec) (vs t .vid) (eqb-true (classAt g n vs t) 0 (not-false (eqb (classAt g n vs t) 0) (or-left b d q))) in
       (ltb-true t n (not-false (ltb t n) (or-left a (b || d) e)), f .1 .0, ap goodEc (f .1 .1))
 
+  -- the stage after 17
+  pub accepts : (t : ℕ) → isNoTarget g image n t ≡ false → r .highest ≢ 2 ^ 64 - 1 → r .highest < 2 ^ 64 → Accepts g image r t
+  accepts t e16 e17 most = record { placed = k .reported .placed; sequence-left = omega arith; target-there = room (k .reported) t (free-target t e16 .0) }
+
   -- ---- 15 to 17
 
   module _ (p : List ℕ) (o : ℕ) (h : VidHeader) (t : ℕ) where
@@ -153,53 +158,40 @@ module _ {g : Geometry} {image : List ℕ} {r : Report} {pebs : List ℕ} (k : T
     abbrev answer : Answer Plan
     answer = planFor g n vs t (some (o, c))
 
-    pub damaged-refused : isDamaged c ≡ true → refused 15 0 ≡ answer
-    unfolding refusal15
-    damaged-refused e = rw e
+    module _ {found : Examined} (found-is : found ≡ examined g c) where
+      damaged-is : isDamaged c ≡ found .damaged
+      damaged-is = ap (λ (x : Examined). x .damaged) (sym found-is)
 
-    module _ (e15 : isDamaged c ≡ false) where
-      pub target-refused : isNoTarget g image n t ≡ true → refused 16 0 ≡ answer
-      unfolding refusal15 refusal16
-      target-refused e = rw (e15, e)
+      pub damaged-refused : found .damaged ≡ true → refused 15 0 ≡ answer
+      unfolding refusal15
+      damaged-refused e = rw (damaged-is, e)
 
-      module _ (e16 : isNoTarget g image n t ≡ false) where
-        pub highest-refused : r .highest ≡ 2 ^ 64 - 1 → refused 17 0 ≡ answer
-        unfolding refusal15 refusal16 refusal17
-        highest-refused e = rw (e15, e16, ← highest-is, eq-eqb (r .highest) (2 ^ 64 - 1) e)
+      module _ (e15 : found .damaged ≡ false) where
+        pub target-refused : isNoTarget g image n t ≡ true → refused 16 0 ≡ answer
+        unfolding refusal15 refusal16
+        target-refused e = rw (damaged-is, e15, e)
 
-        module _ (e17 : r .highest ≢ 2 ^ 64 - 1) {counter : ℕ} (is : counter ≡ oldCounter n vs o) where
-          pub counter-refused : counter ≡ 0x7FFFFFFF → refused 17 0 ≡ answer
+        module _ (e16 : isNoTarget g image n t ≡ false) where
+          pub highest-refused : r .highest ≡ 2 ^ 64 - 1 → refused 17 0 ≡ answer
           unfolding refusal15 refusal16 refusal17
-          counter-refused e = rw (e15, e16, ← highest-is, ne-eqb (r .highest) (2 ^ 64 - 1) e17, ← is, eq-eqb counter 0x7FFFFFFF e)
+          highest-refused e = rw (damaged-is, e15, e16, ← highest-is, eq-eqb (r .highest) (2 ^ 64 - 1) e)
 
-          pub planned : counter ≢ 0x7FFFFFFF → given (makePlan g n vs t o c) ≡ answer
-          unfolding refusal15 refusal16 refusal17
-          planned e = rw (e15, e16, ← highest-is, ne-eqb (r .highest) (2 ^ 64 - 1) e17, ← is, ne-eqb counter 0x7FFFFFFF e)
+          module _ (e17 : r .highest ≢ 2 ^ 64 - 1) {counter : ℕ} (is : counter ≡ oldCounter n vs o) where
+            pub counter-refused : counter ≡ 0x7FFFFFFF → refused 17 0 ≡ answer
+            unfolding refusal15 refusal16 refusal17
+            counter-refused e = rw (damaged-is, e15, e16, ← highest-is, ne-eqb (r .highest) (2 ^ 64 - 1) e17, ← is, eq-eqb counter 0x7FFFFFFF e)
 
-          -- the next stage
-          pub accepts : Moved g image p n o h → r .highest < 2 ^ 64 → Accepts g image p r o h t counter
-          unfolding newEc
-          accepts m most =
-              let u = k .reported in
-              let w = free-target t e16 in
-              let q = good-ec g n vs (parts g n vs (u .attached) .none5678) t (w .1) (w .0) (w .2) in
-              record {
-                placed = u .placed;
-                p-long = p-long k m;
-                pad-fits = omega (arith, pad-fits k m);
-                highest-is = highest-is;
-                sequence-left = omega arith;
-                target-there = room u t (w .0);
-                ec-is = rw (w .2, q .2, is);
-              }
+            ec-is : ecWith g counter (ecs vs t) ≡ newEc g n vs o
+            unfolding newEc
+            ec-is =
+                let w = free-target t e16 in
+                rw (w .2, good-ec g n vs (parts g n vs (k .reported .attached) .none5678) t (w .1) (w .0) (w .2) .2, is)
 
--- the plan of what was made
-pub plan-is : {g : Geometry} {image p : List ℕ} {r : Report} {o : ℕ} {h : VidHeader} {t counter : ℕ} → Accepts g image p r o h t counter → {vid : VidHeader} {ec : EcHeader}
-    → vid ≡ newVid g (r .highest) (copyOf g p h) → ec ≡ ecWith g counter (ecs (viewsOf g image) t)
-    → _≡_ {A = Begun} (Planned (record { «peb_size» = g .«peb_size»; unit = g .unit; «sub_unit» = g .«sub_unit»; old = o; target = t; vid = vid; ec = ec; steps = 0 }))
-    (Planned (makePlan g (r .«peb_count») (viewsOf g image) t o (copyOf g p h)))
-unfolding makePlan
-plan-is a e f = rw (e, f, a .ec-is, a .highest-is)
+            pub planned : counter ≢ 0x7FFFFFFF → given (planWith g o t (renewedAs h found (r .highest + 1)) (ecWith g counter (ecs vs t))) ≡ answer
+            unfolding refusal15 refusal16 refusal17 makePlan
+            planned e =
+                rw (damaged-is, e15, e16, ← highest-is, ne-eqb (r .highest) (2 ^ 64 - 1) e17, ← is, ne-eqb counter 0x7FFFFFFF e)
+                (rw (found-is, renewed g p h (r .highest), ec-is))
 
 -- what is seen of it
 module _ (g : Geometry) (image p : List ℕ) (o : ℕ) (is : p ≡ pebAt g image o) where

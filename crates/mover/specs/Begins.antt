@@ -7,15 +7,15 @@ use lib.ListN.{length}
 use Rattle.base.specs.Answers.{mapO}
 use Rattle.geometry.specs.declared.Geometry.{Geometry}
 use Rattle.geometry.specs.Placed.{Placed}
+use Rattle.header.specs.declared.EcHeader.{EcHeader}
 use Rattle.header.specs.declared.VidHeader.{VidHeader}
-use Rattle.report.specs.View.{Copy, copyOf, pebAt, viewsOf, ecs, copies}
-use Rattle.report.specs.Report.{highestOf}
+use Rattle.report.specs.View.{Copy, copyOf, pebAt, viewsOf, copies}
 use Rattle.report.specs.Attach.{reportOf}
 use Rattle.report.specs.declared.Report.{Report}
 use Rattle.lookup.specs.Lookup.{placeIn}
-use Rattle.plan.specs.Headers.{newEc}
 use Rattle.plan.specs.Begin.{mapped}
-use Rattle.moving.specs.Reported.{Reported, ecWith}
+use Rattle.plan.specs.declared.Plan.{Plan}
+use Rattle.moving.specs.Reported.{Reported}
 
 -- the image attached, with this report and these words
 pub record Told (g : Geometry) (image : List ℕ) (r : Report) (pebs : List ℕ) : Type 0 where
@@ -33,12 +33,12 @@ pub record Moved (g : Geometry) (image p : List ℕ) (n o : ℕ) (h : VidHeader)
   pub bytes-are : p ≡ pebAt g image o
   pub copy-is : copies (viewsOf g image) o ≡ some (copyOf g p h)
 
--- nothing refuses its move to PEB t
-pub record Accepts (g : Geometry) (image p : List ℕ) (r : Report) (o : ℕ) (h : VidHeader) (t counter : ℕ) : Type 0 where
+-- a sequence is left for a move to PEB t, and t is there
+pub record Accepts (g : Geometry) (image : List ℕ) (r : Report) (t : ℕ) : Type 0 where
   pub placed : Placed g
-  pub p-long : length p ≡ g .«peb_size»
-  pub pad-fits : h .«data_pad» ≤ g .«leb_size»
-  pub highest-is : r .highest ≡ highestOf (r .«peb_count») (copies (viewsOf g image))
   pub sequence-left : r .highest + 1 < 2 ^ 64
   pub target-there : t * g .«peb_size» + g .«peb_size» ≤ length image
-  pub ec-is : ecWith g counter (ecs (viewsOf g image) t) ≡ newEc g (r .«peb_count») (viewsOf g image) o
+
+-- the plan from PEB o to PEB t with these headers
+abbrev pub planWith : Geometry → ℕ → ℕ → VidHeader → EcHeader → Plan
+planWith g o t vid ec = record { «peb_size» = g .«peb_size»; unit = g .unit; «sub_unit» = g .«sub_unit»; old = o; target = t; vid = vid; ec = ec; steps = 0 }

@@ -1,19 +1,21 @@
 // The beginning of a move: attaching, refusals 13 to 17, and the plan.
 ghost use mathlib.Core.Path.{_≡_};
 ghost use mathlib.Core.Option.{some};
-ghost use Prim.Native.Nat.{_<_};
+ghost use Prim.Native.Nat.{_+_, _<_};
 ghost use Rattle.base.specs.Answers.{given, refused};
 ghost use Rattle.geometry.specs.Slip.{slipGeometry};
-ghost use Rattle.report.specs.View.{Copy, viewsOf, copies, copyOf};
+ghost use Rattle.report.specs.View.{Copy, viewsOf, ecs, copies, copyOf};
 ghost use Rattle.report.specs.Attach.{attaching, pebsAfter, mapAfter, statesAfter};
-ghost use Rattle.plan.specs.Begin.{makePlan, planFor, planOf, beginning, begunAnswer};
+ghost use Rattle.plan.specs.Begin.{planFor, planOf, beginning, begunAnswer};
 ghost use Rattle.plan.specs.declared.Begun.{Begun};
 ghost use Rattle.plan.specs.declared.Begun.the-variants.{Planned};
-ghost use Rattle.mover.specs.Begins.{Told, Begins, Moved, Accepts};
+ghost use Rattle.moving.specs.Reported.{renewedAs, ecWith};
+ghost use Rattle.mover.specs.Begins.{Told, Begins, Moved, Accepts, planWith};
 use geometry::Geometry;
 use geometry::GeometryRead;
 use header::VidHeader;
 use lookup::LebPlace;
+use moving::Examined;
 use plan::Begun;
 use plan::Plan;
 use report::Attached;
@@ -23,18 +25,18 @@ use scan::VidSeen;
 // The plan, once nothing refuses the move.
 fn make_plan(
     image: &[u8],
-    p: &[u8],
     g: Geometry,
     report: Report,
     old: u32,
     h: VidHeader,
+    found: Examined,
     target: u32,
     counter: u32,
 ) -> Begun
-    requires { ⌜ Accepts g (now image) (now p) report old h target counter ⌝ }
-    ensures { λ r. ⌜ r ≡ Planned (makePlan g (report .«peb_count») (viewsOf g (now (image .entry))) target old (copyOf g (now (p .entry)) h)) ⌝ }
+    requires { ⌜ Accepts g (now image) report target ⌝ }
+    ensures { λ r. ⌜ r ≡ Planned (planWith g old target (renewedAs h found (report .highest + 1)) (ecWith g counter (ecs (viewsOf g (now (image .entry))) target))) ⌝ }
 {
-    let vid = moving::new_vid(p, g, h, report.highest);
+    let vid = moving::new_vid(h, found, report.highest);
     let ec = moving::new_ec(image, g, target, counter);
     Begun::Planned(Plan {
         peb_size: g.peb_size,
@@ -69,7 +71,8 @@ fn plan_copy(
     requires { ⌜ (Told g (now image) report (now pebs)) × (Moved g (now image) (now p) (report .«peb_count») old h) ⌝ }
     ensures { λ r. ⌜ begunAnswer r ≡ planFor g (report .«peb_count») (viewsOf g (now (image .entry))) target (some (old, copyOf g (now (p .entry)) h)) ⌝ }
 {
-    if moving::is_damaged(p, g, h) {
+    let found = moving::examine(p, g, h);
+    if found.damaged {
         return refuse(15);
     }
     let n = report.peb_count as usize;
@@ -83,7 +86,7 @@ fn plan_copy(
     if counter == 0x7FFFFFFF {
         return refuse(17);
     }
-    make_plan(image, p, g, report, old, h, target, counter)
+    make_plan(image, g, report, old, h, found, target, counter)
 }
 
 // The copy in PEB `old`: its header is read anew. It is good, as the PEB is in the map.

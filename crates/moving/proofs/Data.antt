@@ -7,9 +7,10 @@ use native.Mathlib.Omega.{arith}
 use borrow.Author.Tests.{eq-eqb, ne-eqb}
 use lib.Dec.{eqb}
 use lib.ListN.{length, take, drop, getD, length-take}
-use lib.Seq.{take-suc, length-take-le}
+use lib.Seq.{take-suc, length-take-le, take-add, drop-drop}
 use Rattle.base.specs.Lists.{part}
-use Rattle.crc32.specs.Crc.{crcOf}
+use Rattle.crc32.specs.Crc.{crcFrom, crcOf}
+use Rattle.crc32.proofs.Laws.{crcFrom-append}
 use Rattle.geometry.specs.declared.Geometry.{Geometry}
 use Rattle.geometry.specs.Geometry.{roundUp}
 use Rattle.geometry.specs.Placed.{Placed}
@@ -17,7 +18,8 @@ use Rattle.header.specs.declared.VidHeader.{VidHeader}
 use Rattle.report.specs.View.{allFF, copyOf}
 use Rattle.plan.proofs.Data.{round-within}
 use Rattle.plan.specs.Headers.{dataEnd, newSize, newFlag, newCrc, newVid}
-use Rattle.moving.specs.Reported.{isDamaged, renewedAs}
+use Rattle.moving.specs.Reported.{Fits, damagedAs, examined, renewedAs}
+use Rattle.moving.specs.declared.Examined.{Examined}
 
 -- ---- the end of the data, from the last byte down
 
@@ -67,55 +69,81 @@ clean-end (b ∷ l) = go (eqb b 0xFF && allFF l)
 
 -- ---- the copy
 
-module _ (g : Geometry) (p : List ℕ) (h : VidHeader) where
-  pub matches-is : {at size sum : ℕ} → at ≡ g .«data_start» → size ≡ h .«data_size» → sum ≡ crcOf (take (at + size - at) (drop at p))
-      → eqb sum (h .«data_crc») ≡ copyOf g p h .matches
-  unfolding copyOf
-  matches-is {at} {size} {sum} a s e =
-      let d : at + size - at ≡ size = omega arith in
-      let z : sum ≡ crcOf (part at size p) = rw d at e in
-      rw (z, a, s)
+-- a CRC that goes on where another ends
+pub crc-goes-on : (p : List ℕ) (at from to : ℕ) {crc r : ℕ} → from ≤ to → crc ≡ crcOf (part at from p)
+    → r ≡ crcFrom crc (take (at + to - (at + from)) (drop (at + from) p)) → r ≡ crcOf (part at to p)
+crc-goes-on p at from to h e q =
+    let d : at + to - (at + from) ≡ to - from = omega arith in
+    let s : from + (to - from) ≡ to = omega arith in
+    rw (d, e, ← drop-drop from at p) at q
+    ∙ sym (crcFrom-append 0xFFFFFFFF (part at from p) (part from (to - from) (drop at p)))
+    ∙ ap crcOf (sym (take-add from (to - from) (drop at p)) ∙ rw s)
 
-  pub flagged : {r : Bool} → r ≡ copyOf g p h .matches → (h .«copy_flag» ≡ 0 → ⊥) → not r ≡ isDamaged (copyOf g p h)
-  unfolding copyOf
-  flagged {r} e n = rw (ne-eqb (h .«copy_flag») 0 n, ← e) (go r (eqb (h .«vol_type») 2))
+module _ (h : VidHeader) {m : Bool} where
+  pub matching : m ≡ true → false ≡ damagedAs h m
+  matching e = rw e (go (eqb (h .«copy_flag») 0) (eqb (h .«vol_type») 2))
     where
-      go : (m s : Bool) → not m ≡ not m || (s && not m)
+      go : (f s : Bool) → false ≡ not (f || true) || (s && false)
       go true true = refl
       go true false = refl
-      go false s = refl
+      go false true = refl
+      go false false = refl
 
-  pub plain : h .«copy_flag» ≡ 0 → (h .«vol_type» ≡ 2 → ⊥) → false ≡ isDamaged (copyOf g p h)
-  unfolding copyOf
-  plain e n = rw (eq-eqb (h .«copy_flag») 0 e, ne-eqb (h .«vol_type») 2 n)
+  pub flagged : m ≡ false → (h .«copy_flag» ≡ 0 → ⊥) → true ≡ damagedAs h m
+  flagged e n = rw (e, ne-eqb (h .«copy_flag») 0 n)
 
-  pub static : {r : Bool} → r ≡ copyOf g p h .matches → h .«copy_flag» ≡ 0 → h .«vol_type» ≡ 2 → not r ≡ isDamaged (copyOf g p h)
-  unfolding copyOf
-  static {r} e f s = rw (eq-eqb (h .«copy_flag») 0 f, eq-eqb (h .«vol_type») 2 s, ← e)
+  pub plain : m ≡ false → h .«copy_flag» ≡ 0 → eqb (h .«vol_type») 2 ≡ damagedAs h m
+  plain e f = rw (e, eq-eqb (h .«copy_flag») 0 f) (go (eqb (h .«vol_type») 2))
+    where
+      go : (s : Bool) → s ≡ s && true
+      go true = refl
+      go false = refl
 
--- ---- the new header
+-- ---- the new data size
 
-module _ (g : Geometry) (p : List ℕ) (h : VidHeader) (highest : ℕ) where
-  pub static-header : h .«vol_type» ≡ 2 → renewedAs h 1 (h .«data_size») (h .«data_crc») (highest + 1) ≡ newVid g highest (copyOf g p h)
-  unfolding copyOf newVid newFlag newSize newCrc
-  static-header e = rw (eq-eqb (h .«vol_type») 2 e)
+module _ {g : Geometry} {p : List ℕ} {h : VidHeader} (fits : Fits g p h) where
+  pub static-size : h .«vol_type» ≡ 2 → (h .«data_size» ≡ newSize g (copyOf g p h)) × (g .«data_start» + h .«data_size» ≤ length p)
+  unfolding copyOf newSize
+  static-size e = (rw (eq-eqb (h .«vol_type») 2 e), fits .data-fits)
 
-  module _ (dynamic : h .«vol_type» ≡ 2 → ⊥) {size : ℕ} (is : size ≡ roundUp (g .unit) (dataEnd (take (g .«leb_size» - h .«data_pad») (drop (g .«data_start») p)))) where
-    size-is : size ≡ newSize g (copyOf g p h)
-    unfolding copyOf newSize
-    size-is = rw (ne-eqb (h .«vol_type») 2 dynamic) is
+  pub dynamic-size : (h .«vol_type» ≡ 2 → ⊥) → {size : ℕ} → size ≡ roundUp (g .unit) (dataEnd (take (g .«leb_size» - h .«data_pad») (drop (g .«data_start») p))) → size ≤ g .«leb_size»
+      → (size ≡ newSize g (copyOf g p h)) × (g .«data_start» + size ≤ length p)
+  unfolding copyOf newSize
+  dynamic-size n e k = (rw (ne-eqb (h .«vol_type») 2 n) e, omega (arith, fits .whole, fits .placed .leb-fills))
 
-    pub empty-header : size ≡ 0 → renewedAs h 0 0 0 (highest + 1) ≡ newVid g highest (copyOf g p h)
-    unfolding copyOf newVid newFlag newCrc
-    empty-header e = let z : newSize g (copyOf g p h) ≡ 0 = sym size-is ∙ e in rw (ne-eqb (h .«vol_type») 2 dynamic, z)
+-- ---- what is found
 
-    pub dynamic-header : (size ≡ 0 → ⊥) → {at crc : ℕ} → at ≡ g .«data_start» → crc ≡ crcOf (take (at + size - at) (drop at p))
-        → renewedAs h 1 size crc (highest + 1) ≡ newVid g highest (copyOf g p h)
-    unfolding copyOf newVid newFlag newCrc
-    dynamic-header k {at} {crc} a e =
-        let d : at + size - at ≡ size = omega arith in
-        let z : crc ≡ crcOf (take size (drop (g .«data_start») p)) = rw (d, a) at e in
-        rw (z, ne-eqb (h .«vol_type») 2 dynamic, ← size-is, ne-eqb size 0 k)
+-- what was read of the copy
+pub record Read (g : Geometry) (p : List ℕ) (h : VidHeader) (size old new : ℕ) (damaged : Bool) : Type 0 where
+  pub size-is : size ≡ newSize g (copyOf g p h)
+  pub old-is : old ≡ crcOf (part (g .«data_start») (h .«data_size») p)
+  pub new-is : new ≡ crcOf (part (g .«data_start») size p)
+  pub damaged-is : damaged ≡ damagedAs h (eqb old (h .«data_crc»))
+
+module _ {g : Geometry} {p : List ℕ} {h : VidHeader} {size old new : ℕ} {damaged : Bool} (r : Read g p h size old new damaged) where
+  abbrev found : ℕ → ℕ → Examined
+  found flag crc = record { damaged = damaged; flag = flag; size = size; crc = crc }
+
+  abbrev is : Examined
+  is = examined g (copyOf g p h)
+
+  pub static-found : h .«vol_type» ≡ 2 → found 1 (h .«data_crc») ≡ is
+  unfolding copyOf newFlag newCrc
+  static-found e = rw (r .damaged-is, r .old-is, r .size-is, eq-eqb (h .«vol_type») 2 e)
+
+  module _ (dynamic : h .«vol_type» ≡ 2 → ⊥) where
+    pub empty-found : size ≡ 0 → found 0 0 ≡ is
+    unfolding copyOf newFlag newCrc
+    empty-found e = rw (r .damaged-is, r .old-is, ne-eqb (h .«vol_type») 2 dynamic, ← r .size-is, eq-eqb size 0 e)
+
+    pub dynamic-found : (size ≡ 0 → ⊥) → found 1 new ≡ is
+    unfolding copyOf newFlag newCrc
+    dynamic-found n = rw (r .damaged-is, r .old-is, r .new-is, ne-eqb (h .«vol_type») 2 dynamic, ← r .size-is, ne-eqb size 0 n)
+
+-- its new header
+pub renewed : (g : Geometry) (p : List ℕ) (h : VidHeader) (highest : ℕ) → renewedAs h (examined g (copyOf g p h)) (highest + 1) ≡ newVid g highest (copyOf g p h)
+unfolding copyOf newVid
+renewed g p h highest = refl
 
 -- the data's end in whole units, of what was read
 module _ (g : Geometry) (p : List ℕ) (pad : ℕ) {at end : ℕ} (a : at ≡ g .«data_start») where

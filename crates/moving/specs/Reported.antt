@@ -13,10 +13,10 @@ use Rattle.geometry.specs.Placed.{Placed}
 use Rattle.header.specs.declared.EcHeader.{EcHeader}
 use Rattle.header.specs.declared.VidHeader.{VidHeader}
 use Rattle.report.specs.View.{Copy, viewsOf}
-use Rattle.report.specs.Choice.{sound}
 use Rattle.report.specs.Volumes.{orZero}
 use Rattle.report.specs.Report.{refusal, classAt, counterAt}
-use Rattle.plan.specs.Headers.{isStatic}
+use Rattle.plan.specs.Headers.{newSize, newFlag, newCrc}
+use Rattle.moving.specs.declared.Examined.{Examined}
 
 -- an image of n PEBs that attached, with the words of its PEBs
 pub record Reported (g : Geometry) (image : List ℕ) (n : ℕ) (pebs : List ℕ) : Type 0 where
@@ -29,27 +29,41 @@ pub record Reported (g : Geometry) (image : List ℕ) (n : ℕ) (pebs : List ℕ
   pub classes : (i : ℕ) → i < n → getD pebs (i * 2) 0 ≡ classAt g n (viewsOf g image) i
   pub counters : (i : ℕ) → i < n → getD pebs (i * 2 + 1) 0 ≡ counterAt g n (viewsOf g image) i
 
--- refusal 15's test of a copy
+-- the bytes p of a PEB are whole, and hold the data of a copy with the header h
+pub record Fits (g : Geometry) (p : List ℕ) (h : VidHeader) : Type 0 where
+  pub placed : Placed g
+  pub whole : length p ≡ g .«peb_size»
+  pub pad-fits : h .«data_pad» ≤ g .«leb_size»
+  pub data-fits : g .«data_start» + h .«data_size» ≤ length p
+
+-- refusal 15's test of a copy with this header, whose data CRC matches or not
+abbrev pub damagedAs : VidHeader → Bool → Bool
+damagedAs h m = not (eqb (h .«copy_flag») 0 || m) || (eqb (h .«vol_type») 2 && not m)
+
 abbrev pub isDamaged : Copy → Bool
-isDamaged c = not (sound c) || (isStatic c && not (c .matches))
+isDamaged c = damagedAs (c .header) (c .matches)
+
+-- what is found of a copy
+abbrev pub examined : Geometry → Copy → Examined
+examined g c = record { damaged = isDamaged c; flag = newFlag g c; size = newSize g c; crc = newCrc g c }
 
 -- refusal 16's test of a target
 abbrev pub isNoTarget : Geometry → List ℕ → ℕ → ℕ → Bool
 isNoTarget g image n t = not (ltb t n) || (not (eqb (classAt g n (viewsOf g image) t) 0) || not (viewsOf g image t .clean))
 
 -- a header with another flag, data size, data CRC and sequence
-abbrev pub renewedAs : VidHeader → ℕ → ℕ → ℕ → ℕ → VidHeader
-renewedAs h flag size crc sequence = record {
+abbrev pub renewedAs : VidHeader → Examined → ℕ → VidHeader
+renewedAs h found sequence = record {
   version = 1;
   «vol_type» = h .«vol_type»;
-  «copy_flag» = flag;
+  «copy_flag» = found .flag;
   compat = h .compat;
   volume = h .volume;
   lnum = h .lnum;
-  «data_size» = size;
+  «data_size» = found .size;
   «used_lebs» = h .«used_lebs»;
   «data_pad» = h .«data_pad»;
-  «data_crc» = crc;
+  «data_crc» = found .crc;
   sequence = sequence;
 }
 

@@ -1,6 +1,5 @@
 -- `mover::beginning::make_plan` meets its contract. Assumes nothing.
 use borrow.Author.Needs.{needs}
-use Rattle.mover.proofs.Begins.{plan-is}
 use Rattle.mover.proofs.beginning.make_plan.Statement.{statement}
 use Rattle.mover.proofs.beginning.make_plan.Tie as tie
 use Rattle.mover.proofs.beginning.make_plan.Reads as reads
@@ -15,7 +14,7 @@ new-ec-requires : tie.Need-new-ec-requires
 new-ec-requires c κs = search needs
 
 returns : tie.Need-returns
-returns c = plan-is (c .before .before .before .before .pre) (c .before .new-vid .ensures) (c .new-ec .ensures)
+returns c = rw (c .before .new-vid .ensures, c .new-ec .ensures)
 
 pub make-plan-spec : {M : Type 1} → statement M
 make-plan-spec = tie.close (tie.spec new-vid-requires new-ec-requires returns)
