@@ -1,13 +1,12 @@
 -- Laws of the tests, sums and first hits below n. Assumes nothing.
 use mathlib.Core.Path.{_≡_, refl, sym, _∙_, ap, subst}
 use mathlib.Core.Logic.{_≢_, _⊎_, inl, inr, ⊎-elim}
-use mathlib.Core.Bool.{Bool, true, false, _&&_, _||_, true≢false}
+use mathlib.Core.Bool.{Bool, true, false, true≢false}
 use mathlib.Core.Option.{Option, none, some}
-use Prim.Native.Nat.{ℕ, zero, suc, _+_, _*_, _≤_, _<_}
+use Prim.Native.Nat.{ℕ, zero, suc, _+_, _≤_, _<_}
 use native.Mathlib.Omega.{arith}
 use native.Mathlib.Decide.{ℕ-discrete}
-use Rattle.base.specs.Answers.{orElse}
-use Rattle.base.specs.Below.{allBelow, anyBelow, countBelow, sumBelow, numbered, firstBelow, concatBelow}
+use Rattle.base.specs.Below.{allBelow, anyBelow, numbered, firstBelow}
 use Rattle.base.proofs.Answers.{and-left, and-right, and-intro, or-left, or-right, or-intro, orElse-none, orElse-some}
 
 -- a number below suc n is below n or is n

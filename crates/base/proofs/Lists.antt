@@ -1,13 +1,13 @@
 -- Laws of lists of numbers: what a loop that reads, stores, compares or fills needs. Assumes nothing.
 use mathlib.Core.Path.{_≡_, refl, sym, ap, ap₂, _∙_}
 use mathlib.Core.Bool.{Bool, true, false, _&&_}
-use mathlib.Core.List.{List, [], _∷_, _++_, map, append-assoc, append-nil}
+use mathlib.Core.List.{List, [], _∷_, _++_, map, append-assoc}
 use Prim.Native.Nat.{ℕ, zero, suc, _+_, _*_, _-_, _≤_, _<_}
-use native.Mathlib.Nat.{add-suc, suc-add, add-zero, zero-add, not-suc-le-zero, le-of-suc-le-suc, sub-zero}
+use native.Mathlib.Nat.{add-suc, suc-add, add-zero, zero-add, not-suc-le-zero, le-of-suc-le-suc}
 use native.Mathlib.Numerals.{add-one}
 use native.Mathlib.Omega.{arith}
 use borrow.Author.Tests.{eq-eqb, ne-eqb, eqb-true}
-use lib.Dec.{T, eqb, eqb→eq, lit<}
+use lib.Dec.{T, eqb, lit<}
 use lib.ListN.{length, take, drop, getD, set, replicate, length-take, length-drop, length-map, take-append-drop, List·getD-append}
 use lib.Seq.{take-all, take-length, drop-cons, drop-drop, drop-at, take-append-seam, getD-drop, getD-append-add, paste, drop-length}
 use Rattle.base.proofs.Answers.{and-left, and-right}

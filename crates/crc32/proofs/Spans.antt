@@ -1,7 +1,7 @@
 -- The rows of a table by doubling: shifts are linear, so a row is known from its entries at 1, 2, 4, .. 128, and a constant is
 -- compared with it by few shifts. Assumes nothing.
 use mathlib.Core.Path.{_≡_, refl, sym, ap, ap₂, _∙_}
-use Prim.Native.Nat.{ℕ, zero, suc, _+_, _*_, _^_, _≤_, _<_}
+use Prim.Native.Nat.{ℕ, zero, suc, _+_, _*_, _^_, _≤_}
 use lib.Dec.{T}
 use mathlib.Core.List.{List, [], _∷_, _++_, map}
 use native.Mathlib.Nat.{zero-add, suc-add, add-zero, add-suc, one-mul, pow-suc}

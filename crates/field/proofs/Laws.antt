@@ -7,8 +7,8 @@ use native.Mathlib.Numerals.{add-one, sub-one}
 use native.Mathlib.Omega.{arith}
 use lib.Dec.{lit<}
 use lib.Arith.{mod-mul, digits-div, digits-mod}
-use lib.ListN.{length, take, drop, getD, set, length-take, length-drop, length-set, take-append-drop}
-use lib.Seq.{take-suc, getD-drop, drop-at, take-append-seam, drop-drop, drop-cons, take-set-le, getD-set-same, drop-set-lt}
+use lib.ListN.{length, take, drop, getD, set, length-drop, length-set, take-append-drop}
+use lib.Seq.{take-suc, getD-drop, drop-cons, take-set-le, getD-set-same, drop-set-lt}
 use Rattle.base.specs.Lists.{part, put, Bytes}
 use Rattle.base.proofs.Lists.{part-put, bytes-part, length-part, EachByte}
 use Rattle.field.specs.Be.{beFrom, beOf, toBeOn, toBe}

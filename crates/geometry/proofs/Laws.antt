@@ -1,12 +1,12 @@
 -- Laws of units and multiples. Assumes nothing.
-use mathlib.Core.Path.{_≡_, refl, sym, ap, _∙_, subst}
+use mathlib.Core.Path.{_≡_, sym, _∙_, subst}
 use mathlib.Core.Logic.{⊎-elim}
-use mathlib.Core.Bool.{Bool, true, false, _||_, _&&_, false≢true, and-true}
+use mathlib.Core.Bool.{Bool, true, false, false≢true, and-true}
 use Prim.Native.Nat.{ℕ, zero, suc, _+_, _-_, _*_, _/_, _%_, _^_, _≤_, _<_}
-use native.Mathlib.Nat.{pow-suc, pow-le-pow-right, one-le-pow, div-add-mod', mod-lt, mul-mod-left, mul-mod-right, mul-sub, mul-comm, mul-le-mul-right, div-lt-iff-lt-mul}
+use native.Mathlib.Nat.{pow-suc, one-le-pow, div-add-mod', mod-lt, mul-mod-left, mul-mod-right, mul-sub, mul-comm, mul-le-mul-right, div-lt-iff-lt-mul}
 use native.Mathlib.Numerals.{add-one}
 use native.Mathlib.Omega.{arith}
-use lib.Dec.{eqb, leb, lit<}
+use lib.Dec.{eqb, lit<}
 use lib.ListN.{getD, length}
 use mathlib.Core.List.{List}
 use borrow.Author.Tests.{leb-true, eqb-true, eq-eqb, ne-eqb, le-leb, lt-leb}

@@ -1,6 +1,6 @@
 -- What a geometry within the rules has; contracts of inner functions ask for it, and no public promise does. Assumes nothing.
 use mathlib.Core.Path.{_≡_}
-use Prim.Native.Nat.{ℕ, _+_, _%_, _≤_, _<_}
+use Prim.Native.Nat.{_+_, _%_, _≤_, _<_}
 use Rattle.geometry.specs.declared.Geometry.{Geometry}
 
 pub record Placed (g : Geometry) : Type 0 where

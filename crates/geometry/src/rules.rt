@@ -1,6 +1,6 @@
 // The rules of PEB size, unit and sub-unit.
 ghost use mathlib.Core.Path.{_≡_};
-ghost use Prim.Native.Nat.{_+_, _≤_, _<_};
+ghost use Prim.Native.Nat.{_+_, _<_};
 ghost use Rattle.geometry.specs.Geometry.{goodUnit, roundUp, geometryOf, geometryRead};
 use crate::Geometry;
 use crate::GeometryRead;

@@ -1,13 +1,11 @@
 -- Laws of the field table and of judging a header. Assumes nothing.
-use mathlib.Core.Path.{_≡_, refl, sym, ap, _∙_}
+use mathlib.Core.Path.{_≡_, refl}
 use mathlib.Core.Bool.{Bool, true, false, _&&_, cond}
 use mathlib.Core.List.{List, [], _∷_, _++_}
-use Prim.Native.Nat.{ℕ, zero, suc, _+_, _≤_, _<_}
-use native.Mathlib.Omega.{arith}
-use lib.Dec.{eqb, ltb, leb}
-use lib.ListN.{length, take, drop, getD}
-use borrow.Author.Tests.{eq-eqb, ne-eqb, lt-ltb, le-ltb, le-leb, lt-leb, leb-true}
-use Rattle.base.specs.Answers.{Answer, given, refused}
+use Prim.Native.Nat.{ℕ, _+_, _≤_}
+use lib.Dec.{eqb, leb}
+use lib.ListN.{take, drop}
+use borrow.Author.Tests.{ne-eqb, leb-true}
 use Rattle.base.proofs.Answers.{and-left, and-right}
 use Rattle.base.proofs.Lists.{every-entry}
 use Rattle.header.specs.declared.Field.{Field}

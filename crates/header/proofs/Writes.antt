@@ -1,13 +1,12 @@
 -- What the stores of a header come to: its bytes as the definitions lay them out, by computation. Assumes nothing.
-use mathlib.Core.Path.{_≡_, refl, sym, ap, _∙_}
-use mathlib.Core.Bool.{Bool, true, false}
+use mathlib.Core.Path.{_≡_, refl, ap, _∙_}
+use mathlib.Core.Bool.{true}
 use mathlib.Core.List.{List, _++_}
 use Prim.Native.Nat.{ℕ, _≤_}
-use lib.ListN.{length, take, drop, replicate}
+use lib.ListN.{length, drop, replicate}
 use borrow.Author.Tests.{le-ltb}
 use Rattle.base.specs.Lists.{put}
-use Rattle.field.specs.Be.{toBeOn, toBe}
-use Rattle.crc32.specs.Crc.{crcOf}
+use Rattle.field.specs.Be.{toBeOn}
 use Rattle.header.specs.Fields.{fieldOf, isGood}
 use Rattle.header.specs.Stores.{stored, blankHeader, withSum, ecStored, kindStored, placeStored, dataStored}
 use Rattle.header.specs.Ec.{ecMagic, ecHead, ecBytes, judgeEc, ecOut}

@@ -1,16 +1,16 @@
 -- No listing is longer than 16,384 bytes, and the program's tables are never too short. Assumes nothing.
-use mathlib.Core.Path.{_≡_, refl, sym, ap, _∙_, subst}
+use mathlib.Core.Path.{_≡_, refl, sym, ap}
 use mathlib.Core.Logic.{_≢_}
-use mathlib.Core.Bool.{Bool, true, false, _&&_, cond, true≢false}
+use mathlib.Core.Bool.{Bool, true, false, cond, true≢false}
 use mathlib.Core.Option.{Option, none, some}
-use mathlib.Core.List.{List, [], _∷_, _++_}
-use Prim.Native.Nat.{ℕ, zero, suc, _+_, _*_, _/_, _%_, _≤_, _<_}
+use mathlib.Core.List.{List, [], _++_}
+use Prim.Native.Nat.{ℕ, zero, suc, _+_, _*_, _/_, _%_, _≤_}
 use Prim.Native.String.{String}
 use native.Mathlib.Nat.{mul-le-mul-left, div-mul-le-self}
 use native.Mathlib.Omega.{arith}
 use borrow.Author.Tests.{leb-true, le-leb, ltb-false}
 use lib.Dec.{eqb, leb, ltb}
-use lib.ListN.{length, drop, getD, replicate, length-append, length-drop, length-replicate}
+use lib.ListN.{length, getD, length-append, length-drop}
 use Rattle.base.specs.Answers.{Answer, given, refused, allOf}
 use Rattle.base.specs.Below.{concatBelow}
 use Rattle.base.proofs.Answers.{and-left, and-right, and-intro, or-right}
@@ -35,22 +35,7 @@ use Rattle.report.specs.Attach.{
   reportOf,
 }
 use Rattle.report.proofs.Tables.{entries-fit}
-use Rattle.listing.specs.Text.{
-  ascii,
-  decimal,
-  labelled,
-  numbersPart,
-  marksPart,
-  counterWord,
-  pebLine,
-  mapLine,
-  volLine,
-  pebLines,
-  mapLines,
-  volLines,
-  reportText,
-  refusedText,
-}
+use Rattle.listing.specs.Text.{ascii, labelled, numbersPart, marksPart, counterWord, pebLine, mapLine, volLine, pebLines, mapLines, volLines, reportText, refusedText}
 use Rattle.listing.specs.Listing.{slipPart, imagePart, tooMuch, afterSlip, pebTable, mapTable, stateTable, textFor, judging, listingOf}
 use Rattle.listing.proofs.Laws.{decimal-short}
 

@@ -1,8 +1,8 @@
 -- A text fits its buffer or not, and the tables of an answer hold its lines. Assumes nothing.
-use mathlib.Core.Path.{_≡_, refl, sym, ap, ap₂, _∙_, subst}
-use mathlib.Core.Bool.{Bool, true, false, _&&_, cond, and-false, and-true}
-use mathlib.Core.List.{List, [], _∷_, _++_, append-nil}
-use Prim.Native.Nat.{ℕ, zero, suc, _+_, _*_, _-_, _≤_, _<_}
+use mathlib.Core.Path.{_≡_, refl, sym, ap, _∙_}
+use mathlib.Core.Bool.{Bool, true, false, _&&_}
+use mathlib.Core.List.{List}
+use Prim.Native.Nat.{ℕ, zero, suc, _*_, _-_, _≤_, _<_}
 use native.Mathlib.Omega.{arith}
 use borrow.Author.Tests.{leb-true, le-leb, lt-leb}
 use lib.Dec.{leb}
@@ -17,27 +17,11 @@ use Rattle.report.specs.declared.Report.{Report}
 use Rattle.report.specs.View.{Views}
 use Rattle.report.specs.Volumes.{Entry}
 use Rattle.report.specs.Report.{entries, stateAt}
-use Rattle.report.specs.Attach.{
-  Outcome,
-  early,
-  late,
-  whole,
-  over,
-  attaching,
-  answerOf,
-  reportOf,
-  pebWords,
-  entryWords,
-  mapWords,
-  stateWords,
-  pebsAfter,
-  mapAfter,
-  statesAfter,
-}
+use Rattle.report.specs.Attach.{Outcome, early, late, whole, over, attaching, answerOf, reportOf, pebWords, mapWords, stateWords, pebsAfter, mapAfter, statesAfter}
 use Rattle.report.proofs.Words.{entry-words-length, peb-words-length}
 use Rattle.listing.specs.Text.{textOf}
 use Rattle.listing.specs.Render.{tablesHold, hasRoom, rendering, outAfter}
-use Rattle.listing.specs.Listing.{slipPart, imagePart, tooMuch, afterSlip, pebTable, mapTable, stateTable, textFor, judging, listingOf, listed, listedOut}
+use Rattle.listing.specs.Listing.{slipPart, imagePart, tooMuch, afterSlip, pebTable, mapTable, stateTable, judging, listingOf, listed, listedOut}
 use Rattle.listing.specs.Written.{Written, SplitAt}
 use Rattle.listing.proofs.Laws.{clip-over}
 

@@ -1,7 +1,7 @@
 // A report, or a refusal, as text in a lent buffer.
 ghost use mathlib.Core.Path.{_≡_};
 ghost use mathlib.Core.Bool.{true};
-ghost use Prim.Native.Nat.{_+_, _*_, _≤_};
+ghost use Prim.Native.Nat.{_*_, _≤_};
 ghost use lib.ListN.{length};
 ghost use Rattle.report.specs.Attach.{attachedAnswer};
 ghost use Rattle.listing.specs.Text.{textOf, reportText};

@@ -1,5 +1,4 @@
 // Bytes and numbers written one after the other into a buffer. What does not fit is counted and not stored.
-ghost use mathlib.Core.Path.{_≡_};
 ghost use mathlib.Core.List.{_++_};
 ghost use Prim.Native.Nat.{_+_, _≤_};
 ghost use lib.ListN.{length};

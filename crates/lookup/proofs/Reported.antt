@@ -4,11 +4,11 @@ use mathlib.Core.Bool.{Bool, true, false, _&&_, cond}
 use mathlib.Core.Option.{Option, none, some}
 use mathlib.Core.List.{List, [], _∷_, _++_, append-assoc, List·Memᴰ, List·Memᴰ·head, List·Memᴰ·tail, List·Memᴰ·cases-cons, List·Memᴰ·not-nil}
 use mathlib.Core.Logic.{_⊎_, inl, inr}
-use Prim.Native.Nat.{ℕ, zero, suc, _+_, _*_, _-_, _≤_, _<_}
+use Prim.Native.Nat.{ℕ, zero, suc, _+_, _*_, _-_, _<_}
 use native.Mathlib.Omega.{arith}
 use borrow.Author.Tests.{eq-eqb, eqb-true, le-leb}
-use lib.Dec.{eqb, leb}
-use lib.ListN.{length, drop, getD, replicate, length-append}
+use lib.Dec.{eqb}
+use lib.ListN.{length, drop, replicate, length-append}
 use Rattle.base.specs.Answers.{mapO}
 use Rattle.base.specs.Below.{firstBelow, concatBelow}
 use Rattle.base.proofs.Answers.{and-left, and-right}
@@ -18,7 +18,7 @@ use Rattle.geometry.specs.declared.Geometry.{Geometry}
 use Rattle.report.specs.View.{Views}
 use Rattle.report.specs.Volumes.{Entry, mapOf}
 use Rattle.report.specs.Report.{noWord, records, places, entries, classAt, counterAt}
-use Rattle.report.specs.Attach.{Outcome, whole, over, pebWords, entryWords, mapWordsNeeded, mapWords, pebsAfter, mapAfter}
+use Rattle.report.specs.Attach.{whole, pebWords, entryWords, mapWordsNeeded, mapWords, pebsAfter, mapAfter}
 use Rattle.report.proofs.First.{none-some}
 use Rattle.report.proofs.Map.{Listed, in-map}
 use Rattle.report.proofs.Words.{entry-words-length, peb-words-length}

@@ -14,7 +14,7 @@ use Rattle.base.specs.Answers.{given}
 use Rattle.geometry.specs.declared.Geometry.{Geometry}
 use Rattle.report.specs.View.{pebAt}
 use Rattle.plan.specs.declared.Plan.{Plan}
-use Rattle.plan.specs.Write.{nothing, planGeometry, dataSteps, stepCount, unitBytes, writeAfter}
+use Rattle.plan.specs.Write.{planGeometry, dataSteps, stepCount, unitBytes, writeAfter}
 use Rattle.plan.specs.Step.{stepRules, runnable, stepWrite, oneOn, on, done, stepAnswer, stepping, stepCut}
 use Rattle.plan.proofs.Steps.{late-write}
 use Rattle.powercut.specs.Calls.{planLeft, nextStep, oneStep, afterSteps}

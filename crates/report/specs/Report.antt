@@ -9,24 +9,7 @@ use Rattle.base.specs.Below.{allBelow, anyBelow, countBelow, sumBelow, maxBelow
 use Rattle.geometry.specs.declared.Geometry.{Geometry}
 use Rattle.header.specs.Vid.{layoutVolume}
 use Rattle.header.specs.declared.EcHeader.{EcHeader}
-use Rattle.report.specs.View.{
-  Copy,
-  EcView,
-  ecGood,
-  ecNewer,
-  ecBlank,
-  ecLost,
-  VidView,
-  vidGood,
-  vidNewer,
-  vidBlank,
-  vidBad,
-  View,
-  Views,
-  ecs,
-  copies,
-  isMappable,
-}
+use Rattle.report.specs.View.{Copy, EcView, ecGood, ecNewer, ecBlank, ecLost, VidView, vidGood, vidNewer, vidBlank, vidBad, Views, ecs, copies, isMappable}
 use Rattle.report.specs.Scan.{Refusal, refusal5678, refusal10}
 use Rattle.report.specs.Choice.{refusal9}
 use Rattle.report.specs.Volumes.{

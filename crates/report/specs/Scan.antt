@@ -7,23 +7,7 @@ use Rattle.base.specs.Answers.{orElse, mapO}
 use Rattle.base.specs.Below.{allBelow, firstBelow}
 use Rattle.geometry.specs.declared.Geometry.{Geometry}
 use Rattle.header.specs.declared.EcHeader.{EcHeader}
-use Rattle.report.specs.View.{
-  Copy,
-  EcView,
-  ecGood,
-  ecNewer,
-  ecBlank,
-  ecLost,
-  VidView,
-  vidGood,
-  vidNewer,
-  vidBlank,
-  vidBad,
-  View,
-  Views,
-  ecs,
-  isMappable,
-}
+use Rattle.report.specs.View.{EcView, ecGood, ecNewer, ecBlank, ecLost, VidView, vidGood, vidNewer, vidBlank, vidBad, View, Views, ecs, isMappable}
 
 -- a refusal: "number and place"
 pub record Refusal : Type 0 where

@@ -1,30 +1,12 @@
 -- What attaching keeps in the lent words before the report is done. Contracts of inner functions cite it; no public promise does.
 -- Assumes nothing.
-use mathlib.Core.Path.{_≡_}
-use Prim.Native.Nat.{ℕ, _*_}
-use mathlib.Core.Bool.{Bool, cond}
+use Prim.Native.Nat.{ℕ}
+use mathlib.Core.Bool.{cond}
 use mathlib.Core.List.{List, [], _∷_}
 use lib.Dec.{eqb}
-use lib.ListN.{take}
 use Rattle.base.specs.Below.{concatBelow}
 use Rattle.header.specs.declared.VidHeader.{VidHeader}
-use Rattle.report.specs.View.{
-  Copy,
-  EcView,
-  ecGood,
-  ecNewer,
-  ecBlank,
-  ecLost,
-  VidView,
-  vidGood,
-  vidNewer,
-  vidBlank,
-  vidBad,
-  View,
-  Views,
-  isMappable,
-  ecs,
-}
+use Rattle.report.specs.View.{EcView, ecGood, ecNewer, ecBlank, ecLost, VidView, vidGood, vidNewer, vidBlank, vidBad, Views, isMappable, ecs}
 use Rattle.report.specs.Volumes.{Places}
 use Rattle.report.specs.Report.{noWord, counterOr, isPlace}
 

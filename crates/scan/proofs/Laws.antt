@@ -1,6 +1,6 @@
 -- Laws of what is seen of a PEB. Assumes nothing.
 use mathlib.Core.Path.{_≡_, refl, sym, ap, _∙_}
-use mathlib.Core.Bool.{Bool, true, false, _&&_, cond, true≢false, false≢true}
+use mathlib.Core.Bool.{Bool, true, false, _&&_, cond}
 use mathlib.Core.List.{List, [], _∷_}
 use Prim.Native.Nat.{ℕ, zero, suc, _+_, _-_, _≤_, _<_}
 use native.Mathlib.Nat.{suc-add}
@@ -8,18 +8,18 @@ use native.Mathlib.Numerals.{add-one}
 use native.Mathlib.Omega.{arith}
 use borrow.Author.Tests.{eq-eqb, ne-eqb, eqb-true, le-ltb}
 use lib.Dec.{eqb, ltb}
-use lib.ListN.{length, take, drop, getD, set}
+use lib.ListN.{length, drop, getD, set}
 use lib.Seq.{drop-cons, drop-length}
-use Rattle.base.specs.Answers.{Answer, given, refused}
+use Rattle.base.specs.Answers.{given, refused}
 use Rattle.base.specs.Lists.{part, put, eqs}
-use Rattle.base.proofs.Answers.{and-left, clash}
-use Rattle.header.specs.Fields.{Verdict, good, bad, newer, crcMatches}
-use Rattle.header.specs.Ec.{ecMagic, ecFields, judgeEc, readEc, ecRead}
-use Rattle.header.specs.Vid.{vidMagic, vidFields, judgeVid, readVid, vidRead}
+use Rattle.base.proofs.Answers.{and-left}
+use Rattle.header.specs.Fields.{Verdict, good, bad, newer}
+use Rattle.header.specs.Ec.{readEc, ecRead}
+use Rattle.header.specs.Vid.{readVid, vidRead}
 use Rattle.header.specs.declared.EcHeader.{EcHeader}
 use Rattle.header.specs.declared.VidHeader.{VidHeader}
 use Rattle.geometry.specs.declared.Geometry.{Geometry}
-use Rattle.report.specs.View.{allFF, EcView, ecGood, ecNewer, ecBlank, ecLost, VidView, vidGood, vidNewer, vidBlank, vidBad, ecOf, vidOf, copyOf}
+use Rattle.report.specs.View.{allFF, ecGood, ecNewer, ecBlank, ecLost, vidGood, vidNewer, vidBlank, vidBad, ecOf, vidOf, copyOf}
 
 -- ---- all 0xFF
 

@@ -1,55 +1,31 @@
 -- Laws of the whole pass: sums, words and refusals grow PEB by PEB. Assumes nothing.
-use mathlib.Core.Path.{_≡_, refl, sym, ap, ap₂, _∙_, subst}
-use mathlib.Core.Logic.{_⊎_, inl, inr, ⊎-elim}
-use mathlib.Core.Bool.{Bool, true, false, not, _&&_, _||_, cond}
+use mathlib.Core.Path.{_≡_, refl, sym, ap, _∙_}
+use mathlib.Core.Bool.{Bool, true, false, not, _&&_, cond}
 use mathlib.Core.Option.{Option, none, some}
-use mathlib.Core.List.{List, [], _∷_, _++_, append-assoc}
+use mathlib.Core.List.{List, [], _∷_, _++_}
 use Prim.Native.Nat.{ℕ, zero, suc, _+_, _*_, _-_, _≤_, _<_}
-use native.Mathlib.Nat.{mul-le-mul-right}
 use native.Mathlib.Numerals.{add-one}
 use native.Mathlib.Omega.{arith}
 use borrow.Author.Tests.{eq-eqb, ne-eqb}
-use lib.Dec.{eqb, lit≤}
-use lib.ListN.{length, take, drop, length-append}
-use lib.Seq.{take-at, drop-append-add, drop-drop}
+use lib.Dec.{eqb}
+use lib.ListN.{length, take, drop}
 use Rattle.base.specs.Answers.{orElse, mapO}
-use Rattle.base.specs.Below.{firstBelow, numbered, concatBelow}
-use Rattle.base.specs.Lists.{put}
-use Rattle.base.proofs.Below.{below-suc, first-keeps, first-is}
+use Rattle.base.specs.Below.{firstBelow, numbered}
+use Rattle.base.proofs.Below.{first-keeps, first-is}
 use Rattle.base.proofs.Rows.{rows-step, rows-tail}
 use Rattle.base.proofs.Lists.{length-part}
 use Rattle.geometry.specs.declared.Geometry.{Geometry}
 use Rattle.header.specs.declared.EcHeader.{EcHeader}
-use Rattle.report.specs.View.{
-  Copy,
-  EcView,
-  ecGood,
-  ecNewer,
-  ecBlank,
-  ecLost,
-  VidView,
-  vidGood,
-  vidNewer,
-  vidBlank,
-  vidBad,
-  View,
-  Views,
-  ecs,
-  goodEc,
-  goodVid,
-  copies,
-  isMappable,
-}
+use Rattle.report.specs.View.{EcView, ecGood, ecNewer, ecBlank, ecLost, VidView, vidGood, vidNewer, vidBlank, vidBad, View, Views, ecs, goodEc, isMappable}
 use Rattle.scan.proofs.Turns.{ec-zero}
-use Rattle.report.specs.Scan.{Refusal, when, imageSeq, ecRefusal, vidRefusal, viewRefusal, isUnused, refusal5678, atPeb}
-use Rattle.report.specs.Report.{noWord, counterOr, hasCounter, sequenceOr0, isInternal, highestOf, readOnlyOf}
+use Rattle.report.specs.Scan.{when, imageSeq, ecRefusal, vidRefusal, viewRefusal, isUnused, refusal5678}
+use Rattle.report.specs.Report.{noWord, counterOr, hasCounter, highestOf, readOnlyOf}
 use Rattle.report.specs.Volumes.{orZero}
 use Rattle.report.specs.Scratch.{firstClass, keyWords, keysOf}
 use Rattle.report.proofs.Words.{key-length}
 use Rattle.scan.specs.Pass.{seqIn, withEc, withVid, smallCounter, SumsOf, Turned, firstWords, refusedAt, Passed}
 use Rattle.scan.specs.declared.Sums.{Sums}
 use Rattle.scan.specs.declared.Turn.{Turn}
-use Rattle.scan.specs.declared.Passage.{Passage}
 
 -- ---- the image sequence
 

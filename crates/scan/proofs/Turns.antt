@@ -1,54 +1,28 @@
 -- Laws of one turn of the pass: what is seen of a PEB is its view, and the sums and words with it. Assumes nothing.
-use mathlib.Core.Path.{_≡_, refl, sym, ap, ap₂, _∙_, subst}
-use mathlib.Core.Bool.{Bool, true, false, not, _&&_, _||_, cond, true≢false, false≢true}
+use mathlib.Core.Path.{_≡_, refl, sym, _∙_}
+use mathlib.Core.Bool.{Bool, true, false, not, _&&_, _||_, cond}
 use mathlib.Core.Option.{Option, none, some}
 use mathlib.Core.List.{List, [], _∷_}
-use Prim.Native.Nat.{ℕ, zero, suc, _+_, _*_, _≤_, _<_}
+use Prim.Native.Nat.{ℕ, _*_, _≤_}
 use native.Mathlib.Omega.{arith}
-use borrow.Author.Tests.{eq-eqb, ne-eqb, leb-true}
+use borrow.Author.Tests.{ne-eqb, leb-true}
 use lib.Dec.{eqb, leb}
 use lib.ListN.{take}
-use Rattle.base.specs.Answers.{orElse, mapO, allOf}
-use Rattle.base.specs.Below.{firstBelow, numbered}
+use Rattle.base.specs.Answers.{orElse}
 use Rattle.base.specs.Lists.{put, eqs, part}
-use Rattle.base.proofs.Answers.{and-left, each-holds}
+use Rattle.base.proofs.Answers.{and-left}
 use Rattle.geometry.specs.declared.Geometry.{Geometry}
-use Rattle.header.specs.Fields.{Verdict, good, bad, newer, byVersion, crcMatches}
+use Rattle.header.specs.Fields.{good, bad, newer, byVersion, crcMatches}
 use Rattle.header.specs.Ec.{ecMagic, ecRules, ecFields, judgeEc, readEc}
 use Rattle.header.specs.declared.EcHeader.{EcHeader}
-use Rattle.header.specs.declared.VidHeader.{VidHeader}
-use Rattle.report.specs.View.{
-  allFF,
-  Copy,
-  EcView,
-  ecGood,
-  ecNewer,
-  ecBlank,
-  ecLost,
-  VidView,
-  vidGood,
-  vidNewer,
-  vidBlank,
-  vidBad,
-  View,
-  Views,
-  ecOf,
-  copyOf,
-  viewOf,
-  ecs,
-  goodEc,
-  goodVid,
-  copies,
-  isMappable,
-}
-use Rattle.report.specs.Scan.{when, differs, imageSeq, ecRefusal, vidRefusal, viewRefusal, isUnused}
-use Rattle.report.specs.Report.{noWord, counterOr, hasCounter, sequenceOr0, isInternal, highestOf, readOnlyOf}
+use Rattle.report.specs.View.{allFF, EcView, ecGood, ecNewer, ecBlank, ecLost, VidView, vidGood, vidNewer, vidBlank, vidBad, View, ecOf, copyOf, viewOf, goodEc, isMappable}
+use Rattle.report.specs.Scan.{when, differs, ecRefusal, vidRefusal, viewRefusal, isUnused}
+use Rattle.report.specs.Report.{noWord, counterOr}
 use Rattle.report.specs.Volumes.{orZero}
 use Rattle.report.specs.Scratch.{firstClass, keyWords}
 use Rattle.scan.specs.Seen.{ecSeen, vidSeen, seenRefusal}
-use Rattle.scan.specs.Pass.{seqIn, withEc, withVid, withSeen, smallCounter, SumsOf, Turned}
+use Rattle.scan.specs.Pass.{seqIn, withEc, withVid, withSeen, smallCounter, Turned}
 use Rattle.scan.specs.declared.Sums.{Sums}
-use Rattle.scan.specs.declared.Turn.{Turn}
 use Rattle.scan.specs.declared.EcSeen.{EcSeen}
 use Rattle.scan.specs.declared.VidSeen.{VidSeen}
 use Rattle.scan.specs.declared.VidSeen.the-variants as vid

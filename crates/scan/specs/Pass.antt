@@ -8,26 +8,7 @@ use mathlib.Core.Bool.{Bool, true, false, not, _&&_, _||_, cond}
 use lib.Dec.{eqb}
 use mathlib.Core.Option.{Option, none, some}
 use Rattle.base.specs.Below.{allBelow, countBelow, sumBelow, concatBelow}
-use Rattle.report.specs.View.{
-  Copy,
-  EcView,
-  ecGood,
-  ecNewer,
-  ecBlank,
-  ecLost,
-  VidView,
-  vidGood,
-  vidNewer,
-  vidBlank,
-  vidBad,
-  View,
-  Views,
-  ecs,
-  copies,
-  goodEc,
-  goodVid,
-  isMappable,
-}
+use Rattle.report.specs.View.{EcView, ecGood, ecNewer, ecBlank, ecLost, VidView, View, Views, ecs, copies, goodEc, goodVid, isMappable}
 use Rattle.geometry.specs.declared.Geometry.{Geometry}
 use Rattle.report.specs.Scan.{Refusal, imageSeq, isUnused, viewRefusal, refusal5678}
 use Rattle.report.specs.Volumes.{orZero}

@@ -1,28 +1,11 @@
 -- What the contracts here cite beside the report's definitions: how what was seen of a PEB stands for its view. Assumes nothing.
 use Prim.Native.Nat.{ℕ}
-use mathlib.Core.Bool.{Bool, true, false, not, _&&_, cond}
-use mathlib.Core.Option.{Option, none, some}
-use mathlib.Core.List.{List, [], _∷_}
+use mathlib.Core.Bool.{not, _&&_, cond}
+use mathlib.Core.List.{List}
 use lib.Dec.{eqb}
 use Rattle.geometry.specs.declared.Geometry.{Geometry}
 use Rattle.header.specs.declared.VidHeader.{VidHeader}
-use Rattle.report.specs.View.{
-  Copy,
-  EcView,
-  ecGood,
-  ecNewer,
-  ecBlank,
-  ecLost,
-  VidView,
-  vidGood,
-  vidNewer,
-  vidBlank,
-  vidBad,
-  View,
-  Views,
-  copyOf,
-  isMappable,
-}
+use Rattle.report.specs.View.{EcView, ecGood, ecNewer, ecBlank, ecLost, VidView, vidGood, vidNewer, vidBlank, vidBad, copyOf, isMappable}
 use Rattle.scan.specs.declared.EcSeen.{EcSeen}
 use Rattle.scan.specs.declared.EcSeen.the-variants as ec
 use Rattle.scan.specs.declared.VidSeen.{VidSeen}

@@ -1,8 +1,7 @@
 // The two headers of a PEB.
 ghost use mathlib.Core.Path.{_≡_};
 ghost use mathlib.Core.Bool.{cond};
-ghost use Prim.Native.Nat.{_≤_};
-ghost use lib.ListN.{length, take};
+ghost use lib.ListN.{length};
 ghost use Rattle.geometry.specs.Placed.{Placed};
 ghost use Rattle.report.specs.View.{allFF, viewOf};
 ghost use Rattle.scan.specs.Seen.{ecSeen, vidSeen};

@@ -1,6 +1,6 @@
 // The pass over an image's PEBs.
 ghost use mathlib.Core.Path.{_≡_};
-ghost use Prim.Native.Nat.{ℕ, _+_, _*_, _≤_, _<_};
+ghost use Prim.Native.Nat.{_+_, _*_, _≤_, _<_};
 ghost use lib.ListN.{length};
 ghost use Rattle.geometry.specs.Placed.{Placed};
 ghost use Rattle.report.specs.View.{Views, viewOf, viewsOf};

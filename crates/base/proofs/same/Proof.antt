@@ -1,9 +1,9 @@
 -- `base::same` meets its contract: what is left to compare gives the answer of the whole. Assumes nothing.
-use mathlib.Core.Path.{_≡_, refl, sym, ap, _∙_}
-use Prim.Native.Nat.{_≤_, _<_, _-_, _+_}
+use mathlib.Core.Path.{_≡_, sym, _∙_}
+use Prim.Native.Nat.{_≤_, _-_}
 use native.Mathlib.Omega.{arith}
 use borrow.Author.Needs.{needs}
-use lib.ListN.{length, drop, getD}
+use lib.ListN.{length, drop}
 use Rattle.base.specs.Lists.{eqs}
 use Rattle.base.proofs.Lists.{eqs-lengths, eqs-go, eqs-stop, eqs-end}
 use Rattle.base.proofs.same.Statement.{statement}

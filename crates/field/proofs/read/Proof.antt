@@ -2,7 +2,7 @@
 use mathlib.Core.Path.{_≡_, refl}
 use Prim.Native.Nat.{_≤_, _<_, _-_, _^_, _+_}
 use native.Mathlib.Omega.{arith}
-use lib.ListN.{length, getD}
+use lib.ListN.{getD}
 use Rattle.base.specs.Lists.{part}
 use Rattle.field.specs.Be.{beFrom, beOf}
 use Rattle.field.proofs.Laws.{beOf-next, grows, below-eight}

@@ -1,6 +1,6 @@
 -- `field::write` meets its contract: what is left to store, at the slice as it is, is what was to be stored at first. Assumes nothing.
 use mathlib.Core.Path.{_≡_, refl, _∙_, sym}
-use Prim.Native.Nat.{_≤_, _<_, _-_}
+use Prim.Native.Nat.{_≤_, _-_}
 use native.Mathlib.Omega.{arith}
 use lib.ListN.{length, length-set}
 use Rattle.field.proofs.Laws.{leftTo, store-step, store-all, store-none}

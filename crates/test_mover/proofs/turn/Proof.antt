@@ -1,7 +1,5 @@
 -- `test_mover::turn` meets its contract. Assumes nothing.
-use mathlib.Core.Path.{_≡_, refl, sym, ap, _∙_}
-use Prim.Native.Nat.{_≤_, _<_, _-_, _+_}
-use native.Mathlib.Omega.{arith}
+use Prim.Native.Nat.{_-_}
 use borrow.Author.Needs.{needs}
 use Rattle.test_mover.proofs.turn.Statement.{statement}
 use Rattle.test_mover.proofs.turn.Tie as tie

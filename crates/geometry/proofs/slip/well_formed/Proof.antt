@@ -1,10 +1,8 @@
 -- `geometry::slip::well_formed` meets its contract: one field that is not the next one of a slip is enough. Assumes nothing.
-use mathlib.Core.Path.{_≡_, refl, sym, ap, _∙_}
-use Prim.Native.Nat.{_≤_, _<_, _-_, _+_}
-use native.Mathlib.Omega.{arith}
+use mathlib.Core.Path.{sym, _∙_}
+use Prim.Native.Nat.{_-_}
 use borrow.Author.Needs.{needs}
-use mathlib.Core.Bool.{true}
-use borrow.Author.Tests.{not-true, not-false, eq-eqb, ne-eqb}
+use borrow.Author.Tests.{not-true, not-false, ne-eqb}
 use Rattle.field.specs.Be.{toBeOn}
 use Rattle.geometry.specs.Slip.{hasField, slipRules}
 use Rattle.geometry.proofs.Laws.{malformed, last-field}

@@ -1,8 +1,6 @@
 -- `header::ec_header::ec_readable` meets its contract. Assumes nothing.
-use mathlib.Core.Path.{_≡_, refl, sym, ap, _∙_}
-use Prim.Native.Nat.{_≤_, _<_, _-_, _+_}
-use native.Mathlib.Omega.{arith}
-use borrow.Author.Needs.{needs}
+use mathlib.Core.Path.{sym, _∙_}
+use Prim.Native.Nat.{_-_}
 use mathlib.Core.Bool.{and-true}
 use Rattle.header.specs.Ec.{ecRules, judgeEc}
 use Rattle.header.proofs.Laws.{not-version-one, version-one, good-if}

@@ -1,10 +1,6 @@
 -- `header::ec_header::judge_ec` meets its contract. Assumes nothing.
-use mathlib.Core.Path.{_≡_, refl, sym, ap, _∙_}
-use Prim.Native.Nat.{_≤_, _<_, _-_, _+_}
-use native.Mathlib.Omega.{arith}
-use borrow.Author.Needs.{needs}
+use Prim.Native.Nat.{_-_}
 use borrow.Author.Tests.{le-leb, lt-leb}
-use Rattle.base.specs.Answers.{given}
 use Rattle.header.specs.Ec.{ecRules, judgeEc}
 use Rattle.header.proofs.Laws.{version-zero, version-newer, version-one}
 use Rattle.header.proofs.ec_header.judge_ec.Statement.{statement}

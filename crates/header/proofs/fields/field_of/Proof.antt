@@ -1,7 +1,6 @@
 -- `header::fields::field_of` meets its contract: the constant is the table, and every field fits. Assumes nothing.
-use mathlib.Core.Path.{_≡_, refl, sym, ap, _∙_}
-use Prim.Native.Nat.{_≤_, _<_, _-_, _+_}
-use native.Mathlib.Omega.{arith}
+use mathlib.Core.Path.{refl}
+use Prim.Native.Nat.{_-_}
 use borrow.Author.Needs.{needs}
 use Rattle.header.specs.Fields.{fieldOf}
 use Rattle.header.proofs.Laws.{fits}

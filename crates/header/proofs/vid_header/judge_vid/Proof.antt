@@ -1,10 +1,7 @@
 -- `header::vid_header::judge_vid` meets its contract. Assumes nothing.
-use mathlib.Core.Path.{_≡_, refl, sym, ap, _∙_}
-use Prim.Native.Nat.{_≤_, _<_, _-_, _+_}
-use native.Mathlib.Omega.{arith}
+use Prim.Native.Nat.{_-_}
 use borrow.Author.Needs.{needs}
-use borrow.Author.Tests.{lt-ltb, le-ltb, le-leb, lt-leb, eq-eqb, ne-eqb, not-true, not-false}
-use Rattle.base.specs.Answers.{given}
+use borrow.Author.Tests.{not-true, not-false}
 use Rattle.header.specs.Vid.{judgeVid}
 use Rattle.header.proofs.Laws.{version-zero, version-newer, version-one}
 use borrow.Author.Needs.{needs}

@@ -1,7 +1,6 @@
 -- `header::vid_header::vid_readable` meets its contract. Assumes nothing.
-use mathlib.Core.Path.{_≡_, refl, sym, ap, _∙_}
-use Prim.Native.Nat.{_≤_, _<_, _-_, _+_}
-use native.Mathlib.Omega.{arith}
+use mathlib.Core.Path.{sym, _∙_}
+use Prim.Native.Nat.{_-_}
 use borrow.Author.Needs.{needs}
 use Rattle.header.specs.Vid.{judgeVid}
 use Rattle.header.proofs.Laws.{not-version-one, version-one, good-if}

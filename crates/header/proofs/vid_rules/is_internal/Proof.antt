@@ -1,9 +1,6 @@
 -- `header::vid_rules::is_internal` meets its contract. Assumes nothing.
-use mathlib.Core.Path.{_≡_, refl, sym, ap, _∙_}
-use Prim.Native.Nat.{_≤_, _<_, _-_, _+_}
-use native.Mathlib.Omega.{arith}
-use borrow.Author.Needs.{needs}
-use borrow.Author.Tests.{eq-eqb, ne-eqb}
+use Prim.Native.Nat.{_-_}
+use borrow.Author.Tests.{ne-eqb}
 use Rattle.header.proofs.vid_rules.is_internal.Statement.{statement}
 use Rattle.header.proofs.vid_rules.is_internal.Tie as tie
 use Rattle.header.proofs.vid_rules.is_internal.Reads as reads

@@ -1,9 +1,6 @@
 -- `header::vid_rules::is_type` meets its contract. Assumes nothing.
-use mathlib.Core.Path.{_≡_, refl, sym, ap, _∙_}
-use Prim.Native.Nat.{_≤_, _<_, _-_, _+_}
-use native.Mathlib.Omega.{arith}
-use borrow.Author.Needs.{needs}
-use borrow.Author.Tests.{lt-ltb, le-ltb, le-leb, lt-leb, eq-eqb, ne-eqb, not-true, not-false}
+use Prim.Native.Nat.{_-_}
+use borrow.Author.Tests.{eq-eqb, ne-eqb}
 use Rattle.header.proofs.vid_rules.is_type.Statement.{statement}
 use Rattle.header.proofs.vid_rules.is_type.Tie as tie
 use Rattle.header.proofs.vid_rules.is_type.Reads as reads

@@ -1,9 +1,8 @@
 -- `header::vid_rules::rules_hold` meets its contract: one broken rule is enough, and past all others the last decides. Assumes nothing.
-use mathlib.Core.Path.{_≡_, refl, sym, ap, _∙_}
-use Prim.Native.Nat.{_≤_, _<_, _-_, _+_}
-use native.Mathlib.Omega.{arith}
+use mathlib.Core.Path.{sym, _∙_}
+use Prim.Native.Nat.{_-_}
 use borrow.Author.Needs.{needs}
-use borrow.Author.Tests.{lt-ltb, le-ltb, le-leb, lt-leb, eq-eqb, ne-eqb, not-true, not-false}
+use borrow.Author.Tests.{lt-ltb, le-ltb, le-leb, lt-leb, not-true, not-false}
 use mathlib.Core.Bool.{and-true}
 use Rattle.base.proofs.Answers.{one-broken}
 use Rattle.header.specs.Vid.{layoutRule, vidRules}

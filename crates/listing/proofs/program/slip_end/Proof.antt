@@ -1,7 +1,5 @@
 -- `listing::program::slip_end` meets its contract. Assumes nothing.
-use mathlib.Core.Path.{_≡_, refl, sym, ap, _∙_}
-use Prim.Native.Nat.{_≤_, _<_, _-_, _+_}
-use native.Mathlib.Omega.{arith}
+use Prim.Native.Nat.{_-_}
 use borrow.Author.Needs.{needs}
 use Rattle.listing.proofs.Texts.{short-split}
 use Rattle.listing.proofs.program.slip_end.Statement.{statement}

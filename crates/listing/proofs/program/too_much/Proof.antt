@@ -1,7 +1,5 @@
 -- `listing::program::too_much` meets its contract. Assumes nothing.
-use mathlib.Core.Path.{_≡_, refl, sym, ap, _∙_}
-use Prim.Native.Nat.{_≤_, _<_, _-_, _+_}
-use native.Mathlib.Omega.{arith}
+use Prim.Native.Nat.{_-_}
 use borrow.Author.Needs.{needs}
 use Rattle.listing.proofs.program.too_much.Statement.{statement}
 use Rattle.listing.proofs.program.too_much.Tie as tie

@@ -1,9 +1,7 @@
 -- `listing::write::number` meets its contract. Assumes nothing.
-use mathlib.Core.Path.{_≡_, refl, sym, ap, _∙_}
-use Prim.Native.Nat.{_≤_, _<_, _-_, _+_}
+use Prim.Native.Nat.{_-_}
 use native.Mathlib.Omega.{arith}
 use borrow.Author.Needs.{needs}
-use lib.ListN.{length-take}
 use Rattle.listing.proofs.Laws.{number-written, decimal-short, twenty-digits}
 use Rattle.listing.proofs.write.number.Statement.{statement}
 use Rattle.listing.proofs.write.number.Tie as tie

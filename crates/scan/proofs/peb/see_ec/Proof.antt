@@ -1,16 +1,13 @@
 -- `scan::peb::see_ec` meets its contract. Assumes nothing.
-use mathlib.Core.Path.{_≡_, refl, sym, ap, _∙_}
-use Prim.Native.Nat.{_≤_, _<_, _-_, _+_}
+use mathlib.Core.Path.{_≡_, ap, _∙_}
+use Prim.Native.Nat.{_-_}
 use native.Mathlib.Omega.{arith}
 use borrow.Author.Needs.{needs}
-use mathlib.Core.List.{List}
-use Prim.Native.Nat.{ℕ}
-use lib.ListN.{length, take, length-take}
+use lib.ListN.{length, take}
 use Rattle.base.proofs.Lists.{length-part}
 use Rattle.report.specs.View.{allFF, viewOf}
 use Rattle.scan.specs.Seen.{ecSeen}
 use Rattle.scan.specs.declared.EcSeen.the-variants.{Blank, Lost}
-use Rattle.header.specs.Ec.{ecAnswer}
 use Rattle.scan.proofs.Laws.{ec-good, ec-newer, ec-bad, ec-not-short, through}
 use borrow.Author.Needs.{needs}
 use Rattle.scan.proofs.peb.see_ec.Statement.{statement}

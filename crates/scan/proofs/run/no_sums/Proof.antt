@@ -1,8 +1,6 @@
 -- `scan::run::no_sums` meets its contract. Assumes nothing.
-use mathlib.Core.Path.{_≡_, refl, sym, ap, _∙_}
-use Prim.Native.Nat.{_≤_, _<_, _-_, _+_}
-use native.Mathlib.Omega.{arith}
-use borrow.Author.Needs.{needs}
+use mathlib.Core.Path.{refl}
+use Prim.Native.Nat.{_-_}
 use Rattle.scan.proofs.Passes.{sums-none}
 use Rattle.scan.proofs.run.no_sums.Statement.{statement}
 use Rattle.scan.proofs.run.no_sums.Tie as tie

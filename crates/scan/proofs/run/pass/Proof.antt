@@ -1,15 +1,12 @@
 -- `scan::run::pass` meets its contract: the PEBs passed so far have given no refusal, and their sums and words are there. Assumes nothing.
-use mathlib.Core.Path.{_≡_, refl, sym, ap, _∙_}
-use Prim.Native.Nat.{_≤_, _<_, _-_, _+_}
+use mathlib.Core.Path.{_≡_, refl}
+use Prim.Native.Nat.{_≤_, _-_, _+_}
 use native.Mathlib.Omega.{arith}
 use borrow.Author.Needs.{needs}
-use Prim.Native.Nat.{ℕ, _*_}
-use mathlib.Core.List.{List}
+use Prim.Native.Nat.{_*_}
 use native.Mathlib.Nat.{mul-le-mul, mul-le-mul-right}
-use lib.ListN.{length, take, drop}
-use Rattle.base.proofs.Lists.{length-part}
-use Rattle.report.specs.View.{viewOf, viewsOf, pebAt}
-use Rattle.scan.specs.Pass.{Turned, smallCounter}
+use lib.ListN.{length}
+use Rattle.report.specs.View.{viewsOf, pebAt}
 use Rattle.scan.proofs.Turns.{small-view}
 use Rattle.scan.proofs.Passes.{Passing, passing-none, pass-on, pass-refused, pass-whole, peb-part}
 use Rattle.scan.proofs.run.pass.Statement.{statement}

@@ -1,7 +1,5 @@
 -- `scan::run::pass_peb` meets its contract. Assumes nothing.
-use mathlib.Core.Path.{_≡_, refl, sym, ap, _∙_}
-use Prim.Native.Nat.{_≤_, _<_, _-_, _+_}
-use native.Mathlib.Omega.{arith}
+use Prim.Native.Nat.{_-_}
 use borrow.Author.Needs.{needs}
 use Rattle.report.specs.View.{viewOf}
 use Rattle.scan.proofs.Turns.{small-view, turned-ec, turned-vid, turned-whole}

@@ -1,9 +1,6 @@
 -- `scan::totals::good_ec_refusal` meets its contract. Assumes nothing.
-use mathlib.Core.Path.{_≡_, refl, sym, ap, _∙_}
-use Prim.Native.Nat.{_≤_, _<_, _-_, _+_}
-use native.Mathlib.Omega.{arith}
-use borrow.Author.Needs.{needs}
-use borrow.Author.Tests.{lt-ltb, le-ltb, eq-eqb, ne-eqb, not-true, not-false}
+use Prim.Native.Nat.{_-_}
+use borrow.Author.Tests.{eq-eqb, ne-eqb, not-true, not-false}
 use Rattle.scan.proofs.totals.good_ec_refusal.Statement.{statement}
 use Rattle.scan.proofs.totals.good_ec_refusal.Tie as tie
 use Rattle.scan.proofs.totals.good_ec_refusal.Reads as reads

@@ -1,9 +1,6 @@
 -- `scan::totals::is_mappable` meets its contract. Assumes nothing.
-use mathlib.Core.Path.{_≡_, refl, sym, ap, _∙_}
-use Prim.Native.Nat.{_≤_, _<_, _-_, _+_}
-use native.Mathlib.Omega.{arith}
-use borrow.Author.Needs.{needs}
-use borrow.Author.Tests.{lt-ltb, le-ltb, eq-eqb, ne-eqb, not-true, not-false}
+use Prim.Native.Nat.{_-_}
+use borrow.Author.Tests.{lt-ltb, le-ltb}
 use Rattle.scan.proofs.totals.is_mappable.Statement.{statement}
 use Rattle.scan.proofs.totals.is_mappable.Tie as tie
 use Rattle.scan.proofs.totals.is_mappable.Reads as reads

@@ -1,10 +1,6 @@
 -- `scan::totals::with_ec` meets its contract. Assumes nothing.
-use mathlib.Core.Path.{_≡_, refl, sym, ap, _∙_}
-use Prim.Native.Nat.{_≤_, _<_, _-_, _+_}
-use native.Mathlib.Omega.{arith}
+use Prim.Native.Nat.{_-_}
 use borrow.Author.Needs.{needs}
-use Rattle.scan.specs.Seen.{ecSeen}
-use Rattle.scan.specs.Pass.{smallCounter}
 use borrow.Author.Needs.{needs}
 use Rattle.scan.proofs.totals.with_ec.Statement.{statement}
 use Rattle.scan.proofs.totals.with_ec.Tie as tie

@@ -1,9 +1,6 @@
 -- `scan::words::is_idle` meets its contract. Assumes nothing.
-use mathlib.Core.Path.{_≡_, refl, sym, ap, _∙_}
-use Prim.Native.Nat.{_≤_, _<_, _-_, _+_}
-use native.Mathlib.Omega.{arith}
-use borrow.Author.Needs.{needs}
-use borrow.Author.Tests.{lt-ltb, le-ltb, eq-eqb, ne-eqb}
+use Prim.Native.Nat.{_-_}
+use borrow.Author.Tests.{eq-eqb, ne-eqb}
 use Rattle.scan.proofs.words.is_idle.Statement.{statement}
 use Rattle.scan.proofs.words.is_idle.Tie as tie
 use Rattle.scan.proofs.words.is_idle.Reads as reads

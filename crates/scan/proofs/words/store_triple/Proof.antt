@@ -1,9 +1,8 @@
 -- `scan::words::store_triple` meets its contract. Assumes nothing.
-use mathlib.Core.Path.{_≡_, refl, sym, ap, _∙_}
-use Prim.Native.Nat.{_≤_, _<_, _-_, _+_, _*_}
+use Prim.Native.Nat.{_-_, _*_}
 use native.Mathlib.Omega.{arith}
 use borrow.Author.Needs.{needs}
-use lib.ListN.{length, length-set}
+use lib.ListN.{length-set}
 use Rattle.scan.proofs.Laws.{set-three}
 use borrow.Author.Needs.{needs}
 use Rattle.scan.proofs.words.store_triple.Statement.{statement}
