@@ -9,7 +9,7 @@ use native.Mathlib.Omega.{arith}
 use borrow.Author.Tests.{lt-ltb, ltb-true, ltb-false, leb-true, leb-false, eqb-true, eqb-false}
 use lib.Dec.{eqb, ltb, leb}
 use Rattle.base.proofs.Answers.{clash}
-use Rattle.base.proofs.Below.{eq-or-ne, none-intro, any-intro, first-only, one-more}
+use Rattle.base.proofs.Below.{eq-or-ne, none-intro, any-intro, first-only}
 use Rattle.geometry.specs.declared.Geometry.{Geometry}
 use Rattle.report.specs.Report.{noWord}
 use Rattle.report.specs.View.{Copy, copyOf, viewsOf, copies}
@@ -18,6 +18,8 @@ use Rattle.report.proofs.Choice.{beats-irreflexive, beats-trans, ofKey-hit, ofK
 use Rattle.choice.specs.Keyed.{Choosing, copyAt, sequenceAt, volumeWord, lebWord, sameLeb, higherOf, Highest}
 use Rattle.choice.proofs.Copies.{copy-is}
 use Rattle.choice.proofs.Words.{Held, held, has-words, same-true, true-same, repeat-sequence}
+use Rattle.choice.specs.Chain.{bucketAt}
+use Rattle.choice.proofs.Chains.{Along, same-bucket, walk-on, walk-end}
 use Rattle.choice.proofs.Repeats.{all-fresh}
 
 -- ---- a copy that beats all others is picked
@@ -67,42 +69,54 @@ module _ (n : ℕ) (f : ℕ → Option Copy) (i : ℕ) (c : Copy) (h : i < n) (e
 -- ---- the highest sequence up to a bound
 
 module _ (g : Geometry) (image : List ℕ) (n : ℕ) (map : List ℕ) (i most : ℕ) where
-  pub highest-none : Highest g image n map i most 0 n
-  highest-none = record { range = omega arith; is = λ h. absurd (omega arith); leads = λ j h. absurd (omega arith) }
+  pub highest-none : Highest g image n map i most n n
+  highest-none = record { range = omega arith; is = λ h. absurd (omega arith); leads = λ j h k. absurd (omega arith) }
 
   Leads : ℕ → ℕ → Type 0
   Leads r j = sameLeb map i j ≡ true → sequenceAt g image j ≤ most → (r < n) × (sequenceAt g image j ≤ sequenceAt g image r)
 
-  module _ (k best : ℕ) (h : k < n) (b : Highest g image n map i most k best) where
-    stays : Leads best k → Highest g image n map i most (k + 1) best
+  module _ (c : volumeWord map i ≡ noWord → ⊥) (at k best : ℕ) (o : Along map i n at k) (b : Highest g image n map i most at best) where
+    apart-leads : (r x : ℕ) → x < n → ((volumeWord map i ≡ noWord → ⊥) → bucketAt map x ≡ bucketAt map i → ⊥) → Leads r x
     unfolding Leads
-    stays l = record { range = b .range; is = b .is; leads = one-more (Leads best) k (b .leads) l }
+    apart-leads r x h f s l = absurd (f c (same-bucket map i x c s))
 
-    takes : sameLeb map i k ≡ true → sequenceAt g image k ≤ most → (best < n → sequenceAt g image best ≤ sequenceAt g image k)
-        → Highest g image n map i most (k + 1) k
+    -- the chain ends
+    pub highest-all : at ≤ k → Highest g image n map i most 0 best
     unfolding Leads
-    takes s l up = record {
-      range = omega arith;
-      is = λ _. (s, l);
-      leads = one-more (Leads k) k (λ j q t m. let y = b .leads j q t m in (h, let z = up (y .0) in omega arith)) (λ _ _. (h, omega arith));
-    }
+    highest-all h = record { range = b .range; is = b .is; leads = λ j _ l. walk-end o (Leads best) (b .leads) (apart-leads best) h j l }
 
-    -- one PEB more
-    pub highest-more : Highest g image n map i most (k + 1) (higherOf g image n map i most best k)
-    unfolding Leads
-    highest-more =
-        go (sameLeb map i k) (leb (sequenceAt g image k) most) (eqb best n) (ltb (sequenceAt g image best) (sequenceAt g image k)) refl refl refl refl
-      where
-        go : (s l e t : Bool) → sameLeb map i k ≡ s → leb (sequenceAt g image k) most ≡ l → eqb best n ≡ e
-            → ltb (sequenceAt g image best) (sequenceAt g image k) ≡ t → Highest g image n map i most (k + 1) (cond (s && (l && (e || t))) k best)
-        go false l e t p q u w = stays (λ s _. clash p s)
-        go true false e t p q u w = stays (λ _ m. absurd (let z = leb-false (sequenceAt g image k) most q in omega arith))
-        go true true true t p q u w = takes p (leb-true (sequenceAt g image k) most q) (λ z. absurd (let y = eqb-true best n u in omega arith))
-        go true true false true p q u w =
-            takes p (leb-true (sequenceAt g image k) most q) (λ z. let y = ltb-true (sequenceAt g image best) (sequenceAt g image k) w in omega arith)
-        go true true false false p q u w =
-            stays
-            (λ _ _. (let y = b .range in let z = eqb-false best n u in omega (arith, z), ltb-false (sequenceAt g image best) (sequenceAt g image k) w))
+    module _ (h : k < at) where
+      stays : Leads best k → Highest g image n map i most k best
+      unfolding Leads
+      stays l = record { range = b .range; is = b .is; leads = walk-on o (Leads best) (b .leads) (apart-leads best) l }
+
+      takes : sameLeb map i k ≡ true → sequenceAt g image k ≤ most → (best < n → sequenceAt g image best ≤ sequenceAt g image k)
+          → Highest g image n map i most k k
+      unfolding Leads
+      takes s l up =
+          let q : k < n = let r = o .range in omega arith in
+          record {
+            range = omega arith;
+            is = λ _. (s, l);
+            leads = walk-on o (Leads k) (λ j p r t m. let y = b .leads j p r t m in (q, let z = up (y .0) in omega arith)) (apart-leads k) (λ _ _. (q, omega arith));
+          }
+
+      -- one PEB of the chain more
+      pub highest-more : Highest g image n map i most k (higherOf g image n map i most best k)
+      unfolding Leads
+      highest-more =
+          go (sameLeb map i k) (leb (sequenceAt g image k) most) (eqb best n) (ltb (sequenceAt g image best) (sequenceAt g image k)) refl refl refl refl
+        where
+          go : (s l e t : Bool) → sameLeb map i k ≡ s → leb (sequenceAt g image k) most ≡ l → eqb best n ≡ e
+              → ltb (sequenceAt g image best) (sequenceAt g image k) ≡ t → Highest g image n map i most k (cond (s && (l && (e || t))) k best)
+          go false l e t p q u w = stays (λ s _. clash p s)
+          go true false e t p q u w = stays (λ _ m. absurd (let z = leb-false (sequenceAt g image k) most q in omega arith))
+          go true true true t p q u w = takes p (leb-true (sequenceAt g image k) most q) (λ z. absurd (let y = eqb-true best n u in omega arith))
+          go true true false true p q u w =
+              takes p (leb-true (sequenceAt g image k) most q) (λ z. let y = ltb-true (sequenceAt g image best) (sequenceAt g image k) w in omega arith)
+          go true true false false p q u w =
+              stays
+              (λ _ _. (let y = b .range in let z = eqb-false best n u in omega (arith, z), ltb-false (sequenceAt g image best) (sequenceAt g image k) w))
 
 -- ---- the copies of one LEB
 
@@ -167,18 +181,18 @@ module _ {g : Geometry} {image : List ℕ} {n : ℕ} {map : List ℕ} {i : ℕ} 
       (⊎-elim (λ s. inl s) (λ l. inr (l j k (m .0))) low)))
 
   -- the first copy met is the highest
-  pub down-first : {most at : ℕ} → Highest g image n map i most n at → ((j : ℕ) → j < n → sequenceAt g image j ≤ most) → Down g image n map i at
+  pub down-first : {most at : ℕ} → Highest g image n map i most 0 at → ((j : ℕ) → j < n → sequenceAt g image j ≤ most) → Down g image n map i at
   down-first t fits =
-      let y = t .leads i (v .below) (true-same map i i refl refl) (fits i (v .below)) in
+      let y = t .leads i (omega arith) (v .below) (true-same map i i refl refl) (fits i (v .below)) in
       record {
         below = y .0;
         same = t .is (y .0) .0;
-        above = λ k l s o. absurd (let x = t .leads k l s (fits k l) in omega arith);
+        above = λ k l s o. absurd (let x = t .leads k (omega arith) l s (fits k l) in omega arith);
       }
 
   -- and then the next lower one
   pub down-next : {at next s : ℕ} → Down g image n map i at → s ≡ sequenceAt g image at → (s ≡ 0 → ⊥) → sound (copyAt g image at) ≡ false
-      → Highest g image n map i (s - 1) n next → (next ≡ n → ⊥) → Down g image n map i next
+      → Highest g image n map i (s - 1) 0 next → (next ≡ n → ⊥) → Down g image n map i next
   down-next {at} {next} {s} w e p u t q =
       let l : next < n = let y = t .range in omega (arith, q) in
       record { below = l; same = t .is l .0; above = λ k o m x. go k o m x (eq-or-ne k at) }
@@ -189,16 +203,16 @@ module _ {g : Geometry} {image : List ℕ} {n : ℕ} {map : List ℕ} {i : ℕ} 
       go k o m x (inr ne) = w .above k o m (over (leb (sequenceAt g image k) (s - 1)) refl)
         where
           over : (b : Bool) → leb (sequenceAt g image k) (s - 1) ≡ b → sequenceAt g image at < sequenceAt g image k
-          over true y = absurd (let x′ = t .leads k o m (leb-true (sequenceAt g image k) (s - 1) y) in omega arith)
+          over true y = absurd (let x′ = t .leads k (omega arith) o m (leb-true (sequenceAt g image k) (s - 1) y) in omega arith)
           over false y =
               let x′ = leb-false (sequenceAt g image k) (s - 1) y in
               let a = distinct k at o (w .below) ne m (w .same) in omega (arith, a, p)
 
   -- a copy with no next lower one is the lowest
-  pub lowest : (at : ℕ) {next s : ℕ} → s ≡ sequenceAt g image at → (s ≡ 0 → ⊥) → Highest g image n map i (s - 1) n next → next ≡ n
+  pub lowest : (at : ℕ) {next s : ℕ} → s ≡ sequenceAt g image at → (s ≡ 0 → ⊥) → Highest g image n map i (s - 1) 0 next → next ≡ n
       → (k : ℕ) → k < n → sameLeb map i k ≡ true → sequenceAt g image at ≤ sequenceAt g image k
   lowest at {next} {s} e p t q k l m = go (leb (sequenceAt g image k) (s - 1)) refl
     where
       go : (b : Bool) → leb (sequenceAt g image k) (s - 1) ≡ b → sequenceAt g image at ≤ sequenceAt g image k
-      go true y = absurd (let x = t .leads k l m (leb-true (sequenceAt g image k) (s - 1) y) in omega arith)
+      go true y = absurd (let x = t .leads k (omega arith) l m (leb-true (sequenceAt g image k) (s - 1) y) in omega arith)
       go false y = let x = leb-false (sequenceAt g image k) (s - 1) y in omega (arith, p)

@@ -65,57 +65,29 @@ pub record Held (g : Geometry) (image map : List ℕ) (i : ℕ) : Type 0 where
   pub volume : copyAt g image i .header .volume ≡ volumeWord map i
   pub leb : copyAt g image i .header .lnum ≡ lebWord map i
 
-module _ {g : Geometry} {image : List ℕ} {n : ℕ} {map : List ℕ} (d : Keyed g image n map) where
-  row : ℕ → List ℕ
-  row i = keyWords i (viewsOf g image i .vid)
+module _ {g : Geometry} {image : List ℕ} {n : ℕ} {map : List ℕ} (d : Keyed g image n map) (i : ℕ) (h : i < n) where
+  pub within : Within g image map i
+  within = record {
+    placed = d .placed;
+    bytes = omega (arith, d .whole, mul-le-mul-right (g .«peb_size») h);
+    words = omega (arith, d .long);
+  }
 
-  rows-three : (i : ℕ) → length (row i) ≡ 3
-  unfolding row
-  rows-three i = key-length i (viewsOf g image i .vid)
+  pub held : (volumeWord map i ≡ noWord → ⊥) → Held g image map i
+  held n =
+      let w = named i (viewsOf g image i .vid) (λ (e : getD (keyWords i (viewsOf g image i .vid)) 0 0 ≡ noWord). n (d .volumes i h ∙ e)) in
+      let e : w .copy ≡ copyAt g image i = copy-is g image i (w .copy) (w .is) in
+      record {
+        is = w .is ∙ ap some e;
+        mappable = rw e at (w .mappable);
+        volume = rw e at (w .volume) ∙ sym (d .volumes i h);
+        leb = rw e at (w .leb) ∙ sym (d .lebs i h);
+      }
 
-  pub map-long : n * 3 ≤ length map
-  unfolding row
-  map-long =
-      let e : length (take (n * 3) map) ≡ n * 3 = ap length (d .keys) ∙ rows-length n 3 row rows-three in
-      omega (arith, simp length-take at e)
-
-  map-word : (i k : ℕ) → i < n → k < 3 → getD map (i * 3 + k) 0 ≡ getD (row i) k 0
-  unfolding row
-  map-word i k h l =
-      sym (getD-take (n * 3) map (i * 3 + k) 0 (omega arith)) ∙ ap (λ (s : List ℕ). getD s (i * 3 + k) 0) (d .keys)
-      ∙ ap (λ (s : List ℕ). getD s (i * 3 + k) 0) (sym (append-nil (concatBelow n row))) ∙ row-word n 3 row [] rows-three i k h l
-
-  module _ (i : ℕ) (h : i < n) where
-    pub within : Within g image map i
-    within = record {
-      placed = d .placed;
-      bytes = omega (arith, d .whole, mul-le-mul-right (g .«peb_size») h);
-      words = omega (arith, map-long);
-    }
-
-    volume-word : volumeWord map i ≡ getD (row i) 0 0
-    volume-word = let e : i * 3 ≡ i * 3 + 0 = omega arith in rw e (map-word i 0 h (omega arith))
-
-    pub held : (volumeWord map i ≡ noWord → ⊥) → Held g image map i
-    unfolding row
-    held n =
-        let w : Named (copies (viewsOf g image) i) (getD (row i) 0 0) (getD (row i) 1 0) =
-        named i (viewsOf g image i .vid) (λ (e : getD (row i) 0 0 ≡ noWord). n (volume-word ∙ e)) in
-        let e : w .copy ≡ copyAt g image i = copy-is g image i (w .copy) (w .is) in
-        record {
-          is = w .is ∙ ap some e;
-          mappable = rw e at (w .mappable);
-          volume = rw e at (w .volume) ∙ sym volume-word;
-          leb = rw e at (w .leb) ∙ sym (map-word i 1 h (omega arith));
-        }
-
-    -- the words of a copy of a user or layout LEB
-    pub has-words : (c : Copy) → copies (viewsOf g image) i ≡ some c → isMappable (c .header .volume) ≡ true
-        → (volumeWord map i ≡ c .header .volume) × (lebWord map i ≡ c .header .lnum)
-    unfolding row
-    has-words c e m =
-        let w = words-of i (viewsOf g image i .vid) c e m in
-        (volume-word ∙ w .0, map-word i 1 h (omega arith) ∙ w .1)
+  -- the words of a copy of a user or layout LEB
+  pub has-words : (c : Copy) → copies (viewsOf g image) i ≡ some c → isMappable (c .header .volume) ≡ true
+      → (volumeWord map i ≡ c .header .volume) × (lebWord map i ≡ c .header .lnum)
+  has-words c e m = let w = words-of i (viewsOf g image i .vid) c e m in (d .volumes i h ∙ w .0, d .lebs i h ∙ w .1)
 
 -- ---- repeats
 
@@ -147,7 +119,7 @@ repeat-of (some c) (some d) e =
       leb = eqb-true (c .header .lnum) (d .header .lnum) (and-left l t (and-right v (l && t) r));
     }
 
-not-so : (b : Bool) → (b ≡ true → ⊥) → b ≡ false
+pub not-so : (b : Bool) → (b ≡ true → ⊥) → b ≡ false
 not-so true h = absurd (h refl)
 not-so false h = refl
 
@@ -164,7 +136,7 @@ module _ {g : Geometry} {image : List ℕ} {n : ℕ} {map : List ℕ} (d : Keyed
   abbrev cs : ℕ → Option Copy
   cs = copies (viewsOf g image)
 
-  repeat-words : repeats (cs i) (cs j) ≡ true → (volumeWord map i ≡ noWord → ⊥) × (sameLeb map i j ≡ true)
+  pub repeat-words : repeats (cs i) (cs j) ≡ true → (volumeWord map i ≡ noWord → ⊥) × (sameLeb map i j ≡ true)
   repeat-words e =
       let r = repeat-of (cs i) (cs j) e in
       let a = has-words d i h (r .c) (r .is) (r .mappable) in

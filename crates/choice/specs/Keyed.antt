@@ -5,7 +5,7 @@ use mathlib.Core.Option.{Option, none, some}
 use mathlib.Core.List.{List}
 use Prim.Native.Nat.{ℕ, _+_, _*_, _≤_, _<_}
 use lib.Dec.{eqb, ltb, leb}
-use lib.ListN.{length, take, getD}
+use lib.ListN.{length, getD}
 use Rattle.geometry.specs.declared.Geometry.{Geometry}
 use Rattle.geometry.specs.Placed.{Placed}
 use Rattle.header.specs.declared.VidHeader.{VidHeader}
@@ -13,14 +13,23 @@ use Rattle.header.specs.Vid.{vidFields}
 use Rattle.report.specs.View.{Copy, vidPart, pebAt, viewsOf, copyOf, copies}
 use Rattle.report.specs.Choice.{refusal9}
 use Rattle.report.specs.Scan.{Refusal}
-use Rattle.report.specs.Scratch.{keysOf}
+use Rattle.report.specs.Scratch.{keyWords}
 use Rattle.report.specs.Report.{noWord}
 
--- an image of n PEBs, and the lent words that hold each PEB's volume, LEB and number
+-- the volume and LEB in PEB i's words
+abbrev pub volumeWord : List ℕ → ℕ → ℕ
+volumeWord map i = getD map (i * 3) 0
+
+abbrev pub lebWord : List ℕ → ℕ → ℕ
+lebWord map i = getD map (i * 3 + 1) 0
+
+-- an image of n PEBs, and the lent words: the first two of each PEB's three hold its volume and LEB
 pub record Keyed (g : Geometry) (image : List ℕ) (n : ℕ) (map : List ℕ) : Type 0 where
   pub placed : Placed g
   pub whole : length image ≡ n * g .«peb_size»
-  pub keys : take (n * 3) map ≡ keysOf n (viewsOf g image)
+  pub long : n * 3 ≤ length map
+  pub volumes : (i : ℕ) → i < n → volumeWord map i ≡ getD (keyWords i (viewsOf g image i .vid)) 0 0
+  pub lebs : (i : ℕ) → i < n → lebWord map i ≡ getD (keyWords i (viewsOf g image i .vid)) 1 0
 
 -- the fields in the place of PEB i's VID header, and the copy that they make if the header is good
 unfoldable pub headerAt : Geometry → List ℕ → ℕ → VidHeader
@@ -31,13 +40,6 @@ copyAt g image i = copyOf g (pebAt g image i) (headerAt g image i)
 
 abbrev pub sequenceAt : Geometry → List ℕ → ℕ → ℕ
 sequenceAt g image i = headerAt g image i .sequence
-
--- the volume and LEB in PEB i's words
-abbrev pub volumeWord : List ℕ → ℕ → ℕ
-volumeWord map i = getD map (i * 3) 0
-
-abbrev pub lebWord : List ℕ → ℕ → ℕ
-lebWord map i = getD map (i * 3 + 1) 0
 
 -- PEB i lies within the image, and its three words within the map
 pub record Within (g : Geometry) (image map : List ℕ) (i : ℕ) : Type 0 where
@@ -70,8 +72,8 @@ abbrev pub higherOf : Geometry → List ℕ → ℕ → List ℕ → ℕ → ℕ
 higherOf g image n map i most best j =
     cond (sameLeb map i j && (leb (sequenceAt g image j) most && (eqb best n || ltb (sequenceAt g image best) (sequenceAt g image j)))) j best
 
--- r is, of the copies of PEB i's LEB in the PEBs below k with a sequence of at most `most`, one with the highest sequence; n if there is none
+-- r is, of the copies of PEB i's LEB in the PEBs from k on with a sequence of at most `most`, one with the highest sequence; n if there is none
 pub record Highest (g : Geometry) (image : List ℕ) (n : ℕ) (map : List ℕ) (i most k r : ℕ) : Type 0 where
   pub range : r ≤ n
   pub is : r < n → (sameLeb map i r ≡ true) × (sequenceAt g image r ≤ most)
-  pub leads : (j : ℕ) → j < k → sameLeb map i j ≡ true → sequenceAt g image j ≤ most → (r < n) × (sequenceAt g image j ≤ sequenceAt g image r)
+  pub leads : (j : ℕ) → k ≤ j → j < n → sameLeb map i j ≡ true → sequenceAt g image j ≤ most → (r < n) × (sequenceAt g image j ≤ sequenceAt g image r)

@@ -1,2 +1,3 @@
 -- The definitions that contracts here cite. Assumes nothing.
 pub mod Keyed
+pub mod Chain

@@ -5,6 +5,9 @@ ghost use Prim.Native.Nat.{_≤_, _<_};
 ghost use Rattle.report.specs.View.{viewsOf, copies};
 ghost use Rattle.report.specs.Choice.{chosen};
 ghost use Rattle.choice.specs.Keyed.{Keyed, Choosing, copyAt, volumeWord, lebWord, higherOf, Highest};
+ghost use Rattle.choice.specs.Chain.{bucketAt, Nearest, Linked, Chained};
+use crate::chain::head;
+use crate::chain::link;
 use crate::copy::is_sound;
 use crate::copy::sequence;
 use crate::repeat::same_leb;
@@ -12,17 +15,25 @@ use geometry::Geometry;
 
 // The PEB of the chosen copy of the LEB that PEB i holds. The copies are met from the highest sequence down; the lowest needs no
 // checksum, for it counts if no other does.
-pub fn chosen_peb(image: &[u8], g: Geometry, n: usize, map: &[u32], i: usize) -> usize
-    requires { ⌜ Choosing g (now image) n (now map) i ⌝ }
+pub fn chosen_peb(
+    image: &[u8],
+    g: Geometry,
+    n: usize,
+    map: &[u32],
+    heads: &[u32],
+    i: usize,
+) -> usize
+    requires { ⌜ (Choosing g (now image) n (now map) i) × Chained n n (now map) (now heads) ⌝ }
     ensures { λ r. ⌜ (chosen n (copies (viewsOf g (now (image .entry)))) (volumeWord (now (map .entry)) i) (lebWord (now (map .entry)) i) ≡ some (r, copyAt g (now (image .entry)) r)) × (r < n) ⌝ }
 {
-    let mut at = highest_up_to(image, g, n, map, i, 0xFFFFFFFFFFFFFFFF);
+    let top = head(map, heads, i);
+    let mut at = highest_up_to(image, g, n, map, i, top, 0xFFFFFFFFFFFFFFFF);
     loop {
         let s = sequence(image, g, at);
         if s == 0 {
             return at;
         }
-        let next = highest_up_to(image, g, n, map, i, s - 1);
+        let next = highest_up_to(image, g, n, map, i, top, s - 1);
         if next == n {
             return at;
         }
@@ -33,16 +44,27 @@ pub fn chosen_peb(image: &[u8], g: Geometry, n: usize, map: &[u32], i: usize) ->
     }
 }
 
-// Of the copies of PEB i's LEB with a sequence of at most `most`, the PEB of the highest; n if there is none.
-fn highest_up_to(image: &[u8], g: Geometry, n: usize, map: &[u32], i: usize, most: u64) -> usize
-    requires { ⌜ (Keyed g (now image) n (now map)) × (i < n) ⌝ }
-    ensures { λ r. ⌜ Highest g (now (image .entry)) n (now (map .entry)) i most n r ⌝ }
+// Of the copies of PEB i's LEB with a sequence of at most `most`, the PEB of the highest; n if there is none. The chain of its bucket
+// starts at `top`.
+fn highest_up_to(
+    image: &[u8],
+    g: Geometry,
+    n: usize,
+    map: &[u32],
+    i: usize,
+    top: usize,
+    most: u64,
+) -> usize
+    requires { ⌜ (Choosing g (now image) n (now map) i) × ((Linked n (now map)) × Nearest (now map) (bucketAt (now map) i) n top) ⌝ }
+    ensures { λ r. ⌜ Highest g (now (image .entry)) n (now (map .entry)) i most 0 r ⌝ }
 {
     let mut best = n;
-    let mut j: usize = 0;
-    while j < n {
+    let mut at = n;
+    let mut j = top;
+    while j < at {
         best = higher(image, g, n, map, i, most, best, j);
-        j += 1;
+        at = j;
+        j = link(map, j);
     }
     best
 }

@@ -5,22 +5,27 @@ ghost use lib.ListN.{length};
 ghost use Rattle.report.specs.View.{viewsOf, copies};
 ghost use Rattle.report.specs.Choice.{refusal9};
 ghost use Rattle.choice.specs.Keyed.{Keyed, Within, sameLeb, repeatsAt, repeatAt};
+ghost use Rattle.choice.specs.Chain.{Linked};
+use crate::chain::link;
 use crate::copy::sequence;
 use geometry::Geometry;
 
-// The lowest PEB that repeats the volume, LEB and sequence of a lower one; n if there is none.
+// The lowest PEB that repeats the volume, LEB and sequence of a lower one; n if there is none. Only the lower PEBs of its bucket can
+// have its LEB.
 pub fn first_repeat(image: &[u8], g: Geometry, n: usize, map: &[u32]) -> usize
-    requires { ⌜ Keyed g (now image) n (now map) ⌝ }
+    requires { ⌜ (Keyed g (now image) n (now map)) × (Linked n (now map)) ⌝ }
     ensures { λ r. ⌜ (repeatAt n r ≡ refusal9 n (copies (viewsOf g (now (image .entry))))) × (r ≤ n) ⌝ }
 {
     let mut i: usize = 0;
     'pebs: while i < n {
-        let mut j: usize = 0;
-        while j < i {
+        let mut at = i;
+        let mut j = link(map, i);
+        while j < at {
             if is_repeat(image, g, map, i, j) {
                 break 'pebs;
             }
-            j += 1;
+            at = j;
+            j = link(map, j);
         }
         i += 1;
     }

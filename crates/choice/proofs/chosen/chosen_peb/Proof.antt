@@ -5,71 +5,82 @@ use mathlib.Core.Logic.{inl, inr}
 use Rattle.choice.specs.Keyed.{sequenceAt}
 use Rattle.choice.proofs.Copies.{sequence-fits}
 use Rattle.choice.proofs.Words.{within}
+use Rattle.choice.proofs.Chains.{head-near}
 use Rattle.choice.proofs.Best.{Down, has-copy, is-chosen, down-first, down-next, lowest}
 use Rattle.choice.proofs.chosen.chosen_peb.Statement.{statement}
 use Rattle.choice.proofs.chosen.chosen_peb.Tie as tie
 use Rattle.choice.proofs.chosen.chosen_peb.Reads as reads
 use Rattle.choice.proofs.chosen.chosen_peb.Lts as lts
+use Rattle.choice.proofs.chain.head.Reads as head-reads
 use Rattle.choice.proofs.chosen.highest_up_to.Reads as highest-up-to-reads
 use Rattle.choice.proofs.copy.is_sound.Reads as is-sound-reads
 use Rattle.choice.proofs.copy.sequence.Reads as sequence-reads
 
 abbrev Inv-loop : tie.InvT-loop
-Inv-loop image g n map i at₀ at = Down g image n map i at
+Inv-loop image g n map heads i top at₀ at = Down g image n map i at
 
 abbrev μ-loop : tie.MeasureT-loop
-μ-loop image g n map i at₀ at = sequenceAt g image at
+μ-loop image g n map heads i top at₀ at = sequenceAt g image at
+
+head-requires : tie.Need-head-requires Inv-loop μ-loop
+head-requires c κs =
+    let p = c .before .before .before .pre in
+    (within (p .0 .keyed) _ (p .0 .below) .words, (p .1 .long-heads, p .0 .holds))
 
 highest-up-to-requires : tie.Need-highest-up-to-requires Inv-loop μ-loop
-highest-up-to-requires c κs = (c .before .before .pre .keyed, c .before .before .pre .below)
+highest-up-to-requires c κs =
+    let p = c .before .before .before .before .pre in
+    (p .0, (p .1 .links, head-near (p .1) _ (p .0 .holds) (c .head .ensures)))
 
 loop-holds : tie.Need-loop-holds Inv-loop μ-loop
 loop-holds c =
-    let d = c .before .before .before in
-    down-first (d .pre) (c .highest-up-to .ensures)
-    (λ j k. let w = within (d .pre .keyed) j k in
-    omega (arith, sequence-fits (d .args .g) (d .args .image .now) j (w .placed) (w .bytes) (λ m. omega (arith, c .before .before .shared-slice-known .given m))))
+    let d = c .before .before .before .before .before in
+    down-first (d .pre .0) (c .highest-up-to .ensures)
+    (λ j k. let w = within (d .pre .0 .keyed) j k in
+    omega (arith, sequence-fits (d .args .g) (d .args .image .now) j (w .placed) (w .bytes) (λ m. omega (arith, c .before .before .before .before .shared-slice-known .given m))))
 
 sequence-requires : tie.Need-sequence-requires Inv-loop μ-loop
 sequence-requires c κs =
-    let d = c .before .before .before .before in
-    let w = within (d .pre .keyed) (c .loop .at) (c .loop .inv .below) in
+    let d = c .before .before .before .before .before .before in
+    let w = within (d .pre .0 .keyed) (c .loop .at) (c .loop .inv .below) in
     (w .placed, w .bytes)
 
 returns : tie.Need-returns Inv-loop μ-loop
 returns c =
-    let d = c .before .before .before .before .before .before in
+    let d = c .before .before .before .before .before .before .before .before in
     let e = c .before .sequence .ensures in
-    (is-chosen (d .pre) (c .before .before .loop .inv) (inr (λ k l s. omega arith)), c .before .before .loop .inv .below)
+    (is-chosen (d .pre .0) (c .before .before .loop .inv) (inr (λ k l s. omega arith)), c .before .before .loop .inv .below)
 
 sub-highest-up-to : tie.Need-sub-highest-up-to Inv-loop μ-loop
 sub-highest-up-to c = omega (arith, c .if1 .left)
 
 highest-up-to-requires-2 : tie.Need-highest-up-to-requires-2 Inv-loop μ-loop
-highest-up-to-requires-2 c κs = (c .before .before .before .before .before .before .pre .keyed, c .before .before .before .before .before .before .pre .below)
+highest-up-to-requires-2 c κs =
+    let p = c .before .before .before .before .before .before .before .before .pre in
+    (p .0, (p .1 .links, head-near (p .1) _ (p .0 .holds) (c .before .before .before .before .head .ensures)))
 
 returns-2 : tie.Need-returns-2 Inv-loop μ-loop
 returns-2 c =
-    let d = c .before .before .before .before .before .before .before .before in
+    let d = c .before .before .before .before .before .before .before .before .before .before in
     let l = c .before .before .before .before .loop in (
-      is-chosen (d .pre) (l .inv)
-          (inr (lowest (d .pre) (l .at) (c .before .before .before .sequence .ensures)
+      is-chosen (d .pre .0) (l .inv)
+          (inr (lowest (d .pre .0) (l .at) (c .before .before .before .sequence .ensures)
           (c .before .before .if1 .left) (c .before .highest-up-to2 .ensures) (c .if2 .taken))),
       l .inv .below,
     )
 
 is-sound-requires : tie.Need-is-sound-requires Inv-loop μ-loop
 is-sound-requires c κs =
-    let d = c .before .before .before .before .before .before .before .before in
+    let d = c .before .before .before .before .before .before .before .before .before .before in
     let l = c .before .before .before .before .loop in
-    let w = within (d .pre .keyed) (l .at) (l .inv .below) in
-    (w .placed, (w .bytes, has-copy (d .pre) (l .at) (l .inv .below) (l .inv .same)))
+    let w = within (d .pre .0 .keyed) (l .at) (l .inv .below) in
+    (w .placed, (w .bytes, has-copy (d .pre .0) (l .at) (l .inv .below) (l .inv .same)))
 
 returns-3 : tie.Need-returns-3 Inv-loop μ-loop
 returns-3 c =
-    let d = c .before .before .before .before .before .before .before .before .before .before in
+    let d = c .before .before .before .before .before .before .before .before .before .before .before .before in
     let l = c .before .before .before .before .before .before .loop in
-    (is-chosen (d .pre) (l .inv) (inl (sym (c .before .is-sound .ensures) ∙ c .if3 .taken)), l .inv .below)
+    (is-chosen (d .pre .0) (l .inv) (inl (sym (c .before .is-sound .ensures) ∙ c .if3 .taken)), l .inv .below)
 
 loop-less : tie.Need-loop-less Inv-loop μ-loop
 loop-less c =
@@ -81,9 +92,9 @@ loop-less c =
 
 loop-again : tie.Need-loop-again Inv-loop μ-loop
 loop-again c =
-    let d = c .before .before .before .before .before .before .before .before .before .before in
+    let d = c .before .before .before .before .before .before .before .before .before .before .before .before in
     let l = c .before .before .before .before .before .before .loop in
-    down-next (d .pre) (l .inv) (c .before .before .before .before .before .sequence .ensures)
+    down-next (d .pre .0) (l .inv) (c .before .before .before .before .before .sequence .ensures)
     (c .before .before .before .before .if1 .left) (sym (c .before .is-sound .ensures) ∙ c .if3 .left) (c .before .before .before .highest-up-to2 .ensures) (c .before .before .if2 .left)
 
 pub chosen-peb-spec : {M : Type 1} → statement M
@@ -92,6 +103,7 @@ chosen-peb-spec =
     (tie.spec
     Inv-loop
     μ-loop
+    head-requires
     highest-up-to-requires
     loop-holds
     sequence-requires

@@ -1,50 +1,73 @@
--- `choice::chosen::highest_up_to` meets its contract: `best` is the highest of the PEBs passed. Assumes nothing.
-use mathlib.Core.Path.{_≡_}
-use Prim.Native.Nat.{_≤_, _-_}
+-- `choice::chosen::highest_up_to` meets its contract: `best` is the highest of the PEBs from `at` on. Assumes nothing.
+use mathlib.Core.Path.{_≡_, refl, sym, ap, _∙_}
+use Prim.Native.Nat.{_≤_, _<_, _-_, _+_}
 use native.Mathlib.Omega.{arith}
 use borrow.Author.Needs.{needs}
 use Rattle.choice.specs.Keyed.{Highest}
-use Rattle.choice.proofs.Best.{highest-none, highest-more}
+use Rattle.choice.proofs.Words.{within}
+use Rattle.choice.proofs.Chains.{Along, along-next}
+use Rattle.choice.proofs.Best.{highest-none, highest-more, highest-all}
 use Rattle.choice.proofs.chosen.highest_up_to.Statement.{statement}
 use Rattle.choice.proofs.chosen.highest_up_to.Tie as tie
 use Rattle.choice.proofs.chosen.highest_up_to.Reads as reads
 use Rattle.choice.proofs.chosen.highest_up_to.Lts as lts
+use Rattle.choice.proofs.chain.link.Reads as link-reads
 use Rattle.choice.proofs.chosen.higher.Reads as higher-reads
 
 abbrev Inv-loop : tie.InvT-loop
-Inv-loop image g n map i most best₀ j₀ best j = (j ≤ n) × Highest g image n map i most j best
+Inv-loop image g n map i top most best₀ at₀ j₀ best at j = (Along map i n at j) × Highest g image n map i most at best
 
 abbrev μ-loop : tie.MeasureT-loop
-μ-loop image g n map i most best₀ j₀ best j = n - j
+μ-loop image g n map i top most best₀ at₀ j₀ best at j = at
 
 loop-holds : tie.Need-loop-holds Inv-loop μ-loop
 loop-holds c =
-    let a = c .before .before .args in
-    (omega arith, highest-none (a .g) (a .image .now) (a .n) (a .map .now) (a .i) (a .most))
+    let a = c .before .before .args in (
+      record { range = omega arith; near = λ _. c .before .before .pre .1 .1 },
+      highest-none (a .g) (a .image .now) (a .n) (a .map .now) (a .i) (a .most),
+    )
 
 higher-requires : tie.Need-higher-requires Inv-loop μ-loop
-higher-requires c κs = search needs
+higher-requires c κs =
+    let p = c .before .before .before .before .pre .0 in
+    let l = c .before .loop .inv in
+    let r = l .0 .range in
+    (p .keyed, (p .below, (omega arith, l .1 .range)))
 
-add-j : tie.Need-add-j Inv-loop μ-loop
-add-j c = search needs
+link-requires : tie.Need-link-requires Inv-loop μ-loop
+link-requires c κs =
+    let r = c .before .before .loop .inv .0 .range in
+    within (c .before .before .before .before .before .pre .0 .keyed) (c .before .before .loop .j) (omega arith) .words
 
 loop-less : tie.Need-loop-less Inv-loop μ-loop
 loop-less c = search needs
 
 loop-again : tie.Need-loop-again Inv-loop μ-loop
 loop-again c =
-    let a = c .before .before .before .before .before .args in
-    let l = c .before .before .loop in (
-      omega arith,
-      rw (c .higher .ensures) (highest-more (a .g) (a .image .now) (a .n) (a .map .now) (a .i) (a .most) (l .j) (l .best) (omega arith) (l .inv .1)),
+    let d = c .before .before .before .before .before .before in
+    let a = d .args in
+    let l = c .before .before .before .loop in (
+      rw (c .link .ensures) (along-next (l .inv .0) (d .pre .1 .0) (omega arith) (omega arith)),
+      rw (c .before .higher .ensures)
+          (highest-more (a .g) (a .image .now) (a .n) (a .map .now) (a .i) (a .most) (d .pre .0 .holds) (l .at) (l .j) (l .best) (l .inv .0) (l .inv .1) (omega arith)),
     )
 
 returns : tie.Need-returns Inv-loop μ-loop
 returns c =
-    let e : c .before .loop .j ≡ c .before .before .before .before .args .n = omega arith in
-    rw e at (c .before .loop .inv .1)
+    let d = c .before .before .before .before in
+    let a = d .args in
+    let l = c .before .loop in
+    highest-all (a .g) (a .image .now) (a .n) (a .map .now) (a .i) (a .most) (d .pre .0 .holds) (l .at) (l .j) (l .best) (l .inv .0) (l .inv .1) (omega arith)
 
 pub highest-up-to-spec : {M : Type 1} → statement M
 highest-up-to-spec =
     tie.close
-    (tie.spec Inv-loop μ-loop loop-holds higher-requires add-j loop-less loop-again returns)
+    (tie.spec
+    Inv-loop
+    μ-loop
+    loop-holds
+    higher-requires
+    link-requires
+    loop-less
+    loop-again
+    returns)

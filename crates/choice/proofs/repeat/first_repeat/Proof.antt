@@ -1,25 +1,28 @@
 -- `choice::repeat::first_repeat` meets its contract: the PEBs passed repeat no lower one. Assumes nothing.
-use mathlib.Core.Path.{_≡_}
-use Prim.Native.Nat.{_≤_, _<_, _-_, ℕ}
+use mathlib.Core.Path.{_≡_, refl, sym, ap, _∙_}
+use Prim.Native.Nat.{_≤_, _<_, _-_, _+_}
 use native.Mathlib.Omega.{arith}
 use borrow.Author.Needs.{needs}
+use Prim.Native.Nat.{ℕ}
 use mathlib.Core.Bool.{true, false}
 use Rattle.report.specs.View.{viewsOf, copies}
 use Rattle.report.specs.Choice.{repeats}
-use Rattle.choice.proofs.Words.{within, repeats-told}
 use Rattle.base.proofs.Below.{one-more}
+use Rattle.choice.proofs.Words.{within, repeats-told}
+use Rattle.choice.proofs.Chains.{Along, along-from, along-next, walk-on, walk-end, other-copy}
 use Rattle.choice.proofs.Repeats.{Fresh, no-repeat, a-repeat}
 use Rattle.choice.proofs.repeat.first_repeat.Statement.{statement}
 use Rattle.choice.proofs.repeat.first_repeat.Tie as tie
 use Rattle.choice.proofs.repeat.first_repeat.Reads as reads
 use Rattle.choice.proofs.repeat.first_repeat.Lts as lts
+use Rattle.choice.proofs.chain.link.Reads as link-reads
 use Rattle.choice.proofs.repeat.is_repeat.Reads as is-repeat-reads
 
 abbrev Inv-loop : tie.InvT-loop
-Inv-loop image g n map i j₀ j = (j ≤ i) × ((m : ℕ) → m < j → repeats (copies (viewsOf g image) i) (copies (viewsOf g image) m) ≡ false)
+Inv-loop image g n map i at₀ j₀ at j = (Along map i i at j) × ((m : ℕ) → at ≤ m → m < i → repeats (copies (viewsOf g image) i) (copies (viewsOf g image) m) ≡ false)
 
 abbrev μ-loop : tie.MeasureT-loop
-μ-loop image g n map i j₀ j = i - j
+μ-loop image g n map i at₀ j₀ at j = at
 
 abbrev Inv-pebs : tie.InvT-pebs
 Inv-pebs image g n map i₀ i = (i ≤ n) × ((k : ℕ) → k < i → Fresh n (copies (viewsOf g image)) k)
@@ -30,29 +33,39 @@ abbrev μ-pebs : tie.MeasureT-pebs
 pebs-holds : tie.Need-pebs-holds Inv-loop μ-loop Inv-pebs μ-pebs
 pebs-holds c = (omega arith, λ k h. absurd (omega arith))
 
+link-requires : tie.Need-link-requires Inv-loop μ-loop Inv-pebs μ-pebs
+link-requires c κs = within (c .before .before .before .before .pre .0) (c .before .pebs .i) (omega arith) .words
+
 loop-holds : tie.Need-loop-holds Inv-loop μ-loop Inv-pebs μ-pebs
-loop-holds c = (omega arith, λ k h. absurd (omega arith))
+loop-holds c =
+    let d = c .before .before .before .before .before in
+    (rw (c .link .ensures) (along-from (d .pre .1) (c .before .before .pebs .i) (omega arith)), λ m h k. absurd (omega arith))
 
 is-repeat-requires : tie.Need-is-repeat-requires Inv-loop μ-loop Inv-pebs μ-pebs
 is-repeat-requires c κs =
-    let d = c .before .before .before .before .before .before in
-    (within (d .pre) (c .before .before .before .pebs .i) (omega arith), within (d .pre) (c .before .loop .j) (omega arith))
+    let p = c .before .before .before .before .before .before .before .pre .0 in
+    let r = c .before .loop .inv .0 .range in
+    (within p (c .before .before .before .before .pebs .i) (omega arith), within p (c .before .loop .j) (omega arith))
 
-add-j : tie.Need-add-j Inv-loop μ-loop Inv-pebs μ-pebs
-add-j c = search needs
+link-requires-2 : tie.Need-link-requires-2 Inv-loop μ-loop Inv-pebs μ-pebs
+link-requires-2 c κs =
+    let r = c .before .before .before .loop .inv .0 .range in
+    within (c .before .before .before .before .before .before .before .before .before .pre .0) (c .before .before .before .loop .j) (omega arith) .words
 
 loop-less : tie.Need-loop-less Inv-loop μ-loop Inv-pebs μ-pebs
 loop-less c = search needs
 
 loop-again : tie.Need-loop-again Inv-loop μ-loop Inv-pebs μ-pebs
 loop-again c =
-    let d = c .before .before .before .before .before .before .before .before in
-    let i = c .before .before .before .before .before .pebs .i in
-    let j = c .before .before .before .loop .j in
-    let e : repeats (copies (viewsOf (d .args .g) (d .args .image .now)) i) (copies (viewsOf (d .args .g) (d .args .image .now)) j) ≡ false =
-    repeats-told (d .pre) i j (omega arith) (omega arith) (c .before .is-repeat .ensures) (c .if1 .left) in (
-      omega arith,
-      one-more (λ (m : ℕ). repeats (copies (viewsOf (d .args .g) (d .args .image .now)) i) (copies (viewsOf (d .args .g) (d .args .image .now)) m) ≡ false) j (c .before .before .before .loop .inv .1) e,
+    let d = c .before .before .before .before .before .before .before .before .before .before in
+    let cs = copies (viewsOf (d .args .g) (d .args .image .now)) in
+    let i = c .before .before .before .before .before .before .before .pebs .i in
+    let l = c .before .before .before .before .loop in
+    let r = l .inv .0 .range in
+    let e : repeats (cs i) (cs (l .j)) ≡ false =
+    repeats-told (d .pre .0) i (l .j) (omega arith) (omega arith) (c .before .before .is-repeat .ensures) (c .before .if1 .left) in (
+      rw (c .link2 .ensures) (along-next (l .inv .0) (d .pre .1) (omega arith) (omega arith)),
+      walk-on (l .inv .0) (λ (m : ℕ). repeats (cs i) (cs m) ≡ false) (l .inv .1) (λ x k f. other-copy (d .args .map .now) i x f (d .pre .0) (omega arith) (omega arith)) e,
     )
 
 add-i : tie.Need-add-i Inv-loop μ-loop Inv-pebs μ-pebs
@@ -63,10 +76,14 @@ pebs-less c = search needs
 
 pebs-again : tie.Need-pebs-again Inv-loop μ-loop Inv-pebs μ-pebs
 pebs-again c =
-    let d = c .before .before .before .before .before .before in
-    let e : c .before .loop .j ≡ c .before .before .before .pebs .i = omega arith in (
+    let d = c .before .before .before .before .before .before .before in
+    let cs = copies (viewsOf (d .args .g) (d .args .image .now)) in
+    let p = c .before .before .before .before .pebs in
+    let l = c .before .loop in (
       omega arith,
-      one-more (Fresh (d .args .n) (copies (viewsOf (d .args .g) (d .args .image .now)))) (c .before .before .before .pebs .i) (c .before .before .before .pebs .inv .1) (rw e at (c .before .loop .inv .1)),
+      one-more (Fresh (d .args .n) cs) (p .i) (p .inv .1)
+          (walk-end (l .inv .0) (λ (m : ℕ). repeats (cs (p .i)) (cs m) ≡ false) (l .inv .1)
+          (λ x k f. other-copy (d .args .map .now) (p .i) x f (d .pre .0) (omega arith) (omega arith)) (omega arith)),
     )
 
 returns : tie.Need-returns Inv-loop μ-loop Inv-pebs μ-pebs
@@ -77,15 +94,14 @@ returns c =
 
 returns-2 : tie.Need-returns-2 Inv-loop μ-loop Inv-pebs μ-pebs
 returns-2 c =
-    let d = c .before .before .before .before .before .before .before .before in
-    let i = c .before .before .before .before .before .pebs .i in
+    let d = c .before .before .before .before .before .before .before .before .before in
+    let cs = copies (viewsOf (d .args .g) (d .args .image .now)) in
+    let p = c .before .before .before .before .before .before .pebs in
     let j = c .before .before .before .loop .j in
-    let e : repeats (copies (viewsOf (d .args .g) (d .args .image .now)) i) (copies (viewsOf (d .args .g) (d .args .image .now)) j) ≡ true =
-    repeats-told (d .pre) i j (omega arith) (omega arith) (c .before .is-repeat .ensures) (c .if1 .taken) in (
-      a-repeat (d .args .n) (copies (viewsOf (d .args .g) (d .args .image .now))) i j (omega arith) (omega arith)
-          (c .before .before .before .before .before .pebs .inv .1) e,
-      omega arith,
-    )
+    let r = c .before .before .before .loop .inv .0 .range in
+    let e : repeats (cs (p .i)) (cs j) ≡ true =
+    repeats-told (d .pre .0) (p .i) j (omega arith) (omega arith) (c .before .is-repeat .ensures) (c .if1 .taken) in
+    (a-repeat (d .args .n) cs (p .i) j (omega arith) (omega arith) (p .inv .1) e, omega arith)
 
 pub first-repeat-spec : {M : Type 1} → statement M
 first-repeat-spec =
@@ -96,9 +112,10 @@ first-repeat-spec =
     Inv-pebs
     μ-pebs
     pebs-holds
+    link-requires
     loop-holds
     is-repeat-requires
-    add-j
+    link-requires-2
     loop-less
     loop-again
     add-i

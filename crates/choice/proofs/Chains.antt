@@ -1,0 +1,230 @@
+-- Laws of the chains: who is in a bucket, a walk along a chain, links stored and taken out. Assumes nothing.
+use mathlib.Core.Path.{_≡_, refl, sym, ap, _∙_}
+use mathlib.Core.Logic.{_≢_, _⊎_, inl, inr, ⊎-elim}
+use mathlib.Core.Bool.{Bool, true, false}
+use mathlib.Core.List.{List}
+use Prim.Native.Nat.{ℕ, _+_, _*_, _%_, _≤_, _<_}
+use native.Mathlib.Nat.{mod-lt}
+use native.Mathlib.Omega.{arith}
+use borrow.Author.Tests.{eq-eqb, ne-eqb, eqb-true, eqb-false, ltb-true, ltb-false}
+use lib.Dec.{eqb, ltb}
+use lib.ListN.{length, drop, getD, set, length-set}
+use lib.Seq.{getD-set-same, getD-set-other, drop-set-lt}
+use Rattle.base.proofs.Below.{eq-or-ne, one-more}
+use Rattle.geometry.specs.declared.Geometry.{Geometry}
+use Rattle.report.specs.View.{viewsOf, copies}
+use Rattle.report.specs.Choice.{repeats}
+use Rattle.report.specs.Report.{noWord}
+use Rattle.choice.specs.Keyed.{Keyed, volumeWord, lebWord, sameLeb}
+use Rattle.choice.specs.Chain.{linkWord, bucketAt, Nearest, Linked, Chained, Relinked, Chains, ownWord, Unlinked}
+use Rattle.choice.proofs.Words.{not-so, same-true, repeat-words}
+
+-- ---- who is in a bucket
+
+module _ (map : List ℕ) (i : ℕ) where
+  pub no-bucket : volumeWord map i ≡ noWord → bucketAt map i ≡ 128
+  unfolding bucketAt
+  no-bucket e = rw (eq-eqb (volumeWord map i) noWord e)
+
+  pub in-bucket : (volumeWord map i ≡ noWord → ⊥) → bucketAt map i ≡ lebWord map i % 128
+  unfolding bucketAt
+  in-bucket h = rw (ne-eqb (volumeWord map i) noWord h)
+
+  pub bucket-small : (volumeWord map i ≡ noWord → ⊥) → bucketAt map i < 128
+  bucket-small h = rw (in-bucket h) (mod-lt (lebWord map i) (omega arith))
+
+module _ (map : List ℕ) (i k : ℕ) (h : volumeWord map i ≡ noWord → ⊥) where
+  pub same-bucket : sameLeb map i k ≡ true → bucketAt map k ≡ bucketAt map i
+  same-bucket s =
+      let e = same-true map i k s in
+      in-bucket map k (λ (z : volumeWord map k ≡ noWord). h (e .0 ∙ z)) ∙ ap (λ (l : ℕ). l % 128) (sym (e .1)) ∙ sym (in-bucket map i h)
+
+  pub bucket-holds : bucketAt map k ≡ bucketAt map i → volumeWord map k ≡ noWord → ⊥
+  bucket-holds e z = let y = bucket-small map i h in let x = no-bucket map k z in omega arith
+
+-- ---- a walk along the chain of PEB i, over the PEBs below m
+
+-- those from `at` on are behind; w is next
+pub record Along (map : List ℕ) (i m at w : ℕ) : Type 0 where
+  pub range : at ≤ m
+  pub near : (volumeWord map i ≡ noWord → ⊥) → Nearest map (bucketAt map i) at w
+
+pub along-from : {n : ℕ} {map : List ℕ} → Linked n map → (i : ℕ) → i < n → Along map i i i (linkWord map i)
+along-from o i h = record { range = omega arith; near = o i h }
+
+pub head-near : {n w : ℕ} {map heads : List ℕ} → Chained n n map heads → (i : ℕ) → (volumeWord map i ≡ noWord → ⊥) → w ≡ getD heads (bucketAt map i) 0
+    → Nearest map (bucketAt map i) n w
+head-near {n} {w} {map} o i h e = rw e (o .tops (bucketAt map i) (bucket-small map i h))
+
+module _ {map : List ℕ} {i m at w : ℕ} (o : Along map i m at w) where
+  pub along-next : {n : ℕ} → Linked n map → m ≤ n → w < at → Along map i m w (linkWord map w)
+  along-next l k h =
+      let r = o .range in
+      record { range = omega arith; near = λ c. let e = o .near c .is h in rw e at (l w (omega arith) (bucket-holds map i w c e)) }
+
+  -- what holds of the PEBs behind, and of all outside the bucket
+  module _ (P : ℕ → Type 0) (behind : (x : ℕ) → at ≤ x → x < m → P x)
+      (outside : (x : ℕ) → x < m → ((volumeWord map i ≡ noWord → ⊥) → bucketAt map x ≡ bucketAt map i → ⊥) → P x) where
+    -- holds from the next one on, if it holds of that
+    pub walk-on : P w → (x : ℕ) → w ≤ x → x < m → P x
+    walk-on p x h k = go (ltb x at) refl (eq-or-ne x w)
+      where
+        go : (t : Bool) → ltb x at ≡ t → (x ≡ w) ⊎ (x ≢ w) → P x
+        go t e (inl q) = rw q p
+        go true e (inr q) = outside x k (λ c y. q (let z = o .near c .skips x (ltb-true x at e) y in omega arith))
+        go false e (inr q) = behind x (ltb-false x at e) k
+
+    -- holds of all, if the chain ends
+    pub walk-end : at ≤ w → (x : ℕ) → x < m → P x
+    walk-end h x k = go (ltb x at) refl
+      where
+        go : (t : Bool) → ltb x at ≡ t → P x
+        go true e = outside x k (λ c y. let z = o .near c .skips x (ltb-true x at e) y in absurd (omega arith))
+        go false e = behind x (ltb-false x at e) k
+
+-- PEBs of other buckets have other LEBs, and no repeats
+module _ (map : List ℕ) (i x : ℕ) (f : (volumeWord map i ≡ noWord → ⊥) → bucketAt map x ≡ bucketAt map i → ⊥) where
+  pub other-leb : (volumeWord map i ≡ noWord → ⊥) → sameLeb map i x ≡ false
+  other-leb c = not-so (sameLeb map i x) (λ s. f c (same-bucket map i x c s))
+
+  pub other-copy : {g : Geometry} {image : List ℕ} {n : ℕ} → Keyed g image n map → i < n → x < n
+      → repeats (copies (viewsOf g image) i) (copies (viewsOf g image) x) ≡ false
+  other-copy {g} {image} d h k =
+      not-so (repeats (copies (viewsOf g image) i) (copies (viewsOf g image) x))
+      (λ e. let w = repeat-words d i x h k e in f (w .0) (same-bucket map i x (w .0) (w .1)))
+
+-- ---- links are stored
+
+module _ {n : ℕ} {map map′ : List ℕ} (o : Relinked n map map′) where
+  pub same-buckets : (i : ℕ) → bucketAt map′ i ≡ bucketAt map i
+  unfolding bucketAt
+  same-buckets i = rw (o .volumes i, o .lebs i)
+
+  nearest-same : {b m w : ℕ} → Nearest map b m w → Nearest map′ b m w
+  nearest-same {b} {m} {w} t = record { is = λ h. same-buckets w ∙ t .is h; none = t .none; skips = λ k h e. t .skips k h (sym (same-buckets k) ∙ e) }
+
+  pub relinked-on : {map″ : List ℕ} → Relinked n map′ map″ → Relinked n map map″
+  relinked-on p = record {
+    size = p .size ∙ o .size;
+    volumes = λ i. p .volumes i ∙ o .volumes i;
+    lebs = λ i. p .lebs i ∙ o .lebs i;
+    tail = p .tail ∙ o .tail;
+  }
+
+pub relinked-none : (n : ℕ) (map : List ℕ) → Relinked n map map
+relinked-none n map = record { size = refl; volumes = λ i. refl; lebs = λ i. refl; tail = refl }
+
+pub relinked-one : (n i v : ℕ) (map : List ℕ) → i < n → Relinked n map (set map (i * 3 + 2) v)
+relinked-one n i v map h = record {
+  size = length-set map (i * 3 + 2) v;
+  volumes = λ k. getD-set-other map (i * 3 + 2) (k * 3) v 0 (λ e. omega arith);
+  lebs = λ k. getD-set-other map (i * 3 + 2) (k * 3 + 1) v 0 (λ e. omega arith);
+  tail = drop-set-lt (n * 3) map (i * 3 + 2) v (omega arith);
+}
+
+-- the head of another bucket stays
+nearest-past : {map : List ℕ} {b m w : ℕ} → m < noWord → (bucketAt map m ≡ b → ⊥) → Nearest map b m w → Nearest map b (m + 1) w
+nearest-past {map} {b} {m} {w} l h t = record {
+  is = λ k. t .is (below k);
+  none = λ k. t .none (omega arith);
+  skips = λ k q e. let z = t .skips k (within k q e) e in (omega arith, z .1);
+}
+  where
+    below : w < m + 1 → w < m
+    below k = go (ltb w m) refl
+      where
+        go : (x : Bool) → ltb w m ≡ x → w < m
+        go true e = ltb-true w m e
+        go false e = absurd (let z = t .none (ltb-false w m e) in omega arith)
+
+    within : (k : ℕ) → k < m + 1 → bucketAt map k ≡ b → k < m
+    within k q e = let z : k ≢ m = λ (y : k ≡ m). h (rw y at e) in omega (arith, z)
+
+-- a PEB is the nearest below the next
+nearest-self : (map : List ℕ) (m : ℕ) → Nearest map (bucketAt map m) (m + 1) m
+nearest-self map m = record { is = λ h. refl; none = λ h. absurd (omega arith); skips = λ k h e. (omega arith, omega arith) }
+
+module _ {n i : ℕ} {map heads : List ℕ} (h : i < n) (o : Chained n i map heads) where
+  -- a PEB without a LEB is not linked
+  pub chain-other : volumeWord map i ≡ noWord → Chains n (i + 1) map map heads heads
+  chain-other e = record {
+    chained = record {
+      few = o .few;
+      long-map = o .long-map;
+      long-heads = o .long-heads;
+      links = one-more (λ (k : ℕ). (volumeWord map k ≡ noWord → ⊥) → Nearest map (bucketAt map k) k (linkWord map k)) i (o .links) (λ z. absurd (z e));
+      tops = λ b l. nearest-past (let f = o .few in omega arith) (λ (z : bucketAt map i ≡ b). let y = no-bucket map i e in omega arith) (o .tops b l);
+    };
+    relinked = relinked-none n map;
+    heads-size = refl;
+    heads-tail = refl;
+  }
+
+  module _ (c : volumeWord map i ≡ noWord → ⊥) where
+    abbrev b₀ : ℕ
+    b₀ = lebWord map i % 128
+
+    abbrev map₁ : List ℕ
+    map₁ = set map (i * 3 + 2) (getD heads b₀ 0)
+
+    abbrev heads₁ : List ℕ
+    heads₁ = set heads b₀ i
+
+    r₁ : Relinked n map map₁
+    r₁ = relinked-one n i (getD heads b₀ 0) map h
+
+    b-small : b₀ < 128
+    b-small = mod-lt (lebWord map i) (omega arith)
+
+    linked : (k : ℕ) → k < i → (volumeWord map₁ k ≡ noWord → ⊥) → Nearest map₁ (bucketAt map₁ k) k (linkWord map₁ k)
+    linked k l z =
+        rw (same-buckets r₁ k, getD-set-other map (i * 3 + 2) (k * 3 + 2) (getD heads b₀ 0) 0 (λ e. omega arith))
+        (nearest-same r₁ (o .links k l (λ (y : volumeWord map k ≡ noWord). z (r₁ .volumes k ∙ y))))
+
+    linked-one : Nearest map₁ (bucketAt map₁ i) i (linkWord map₁ i)
+    linked-one =
+        rw (same-buckets r₁ i, in-bucket map i c, getD-set-same map (i * 3 + 2) (getD heads b₀ 0) 0 (let l = o .long-map in omega arith))
+        (nearest-same r₁ (o .tops b₀ b-small))
+
+    topped : (b : ℕ) → b < 128 → (b ≡ b₀) ⊎ (b ≢ b₀) → Nearest map b (i + 1) (getD heads₁ b 0)
+    topped b l (inl e) =
+        rw (e, getD-set-same heads b₀ i 0 (let y = o .long-heads in let x = b-small in omega arith), ← (in-bucket map i c)) (nearest-self map i)
+    topped b l (inr e) =
+        rw (getD-set-other heads b₀ b i 0 e)
+        (nearest-past (let f = o .few in omega arith) (λ (z : bucketAt map i ≡ b). e (sym z ∙ in-bucket map i c)) (o .tops b l))
+
+    -- a PEB with a LEB becomes its bucket's head
+    pub chain-copy : Chains n (i + 1) map map₁ heads heads₁
+    chain-copy = record {
+      chained = record {
+        few = o .few;
+        long-map = let l = o .long-map in let e = r₁ .size in omega arith;
+        long-heads = let l = o .long-heads in let e = length-set heads b₀ i in omega arith;
+        links = one-more (λ (k : ℕ). (volumeWord map₁ k ≡ noWord → ⊥) → Nearest map₁ (bucketAt map₁ k) k (linkWord map₁ k)) i linked (λ z. linked-one);
+        tops = λ b l. nearest-same r₁ (topped b l (eq-or-ne b b₀));
+      };
+      relinked = r₁;
+      heads-size = length-set heads b₀ i;
+      heads-tail = drop-set-lt 128 heads b₀ i b-small;
+    }
+
+pub chains-on : {n m k : ℕ} {map map′ map″ heads heads′ heads″ : List ℕ} → Chains n m map map′ heads heads′ → Chains n k map′ map″ heads′ heads″
+    → Chains n k map map″ heads heads″
+chains-on o p = record {
+  chained = p .chained;
+  relinked = relinked-on (o .relinked) (p .relinked);
+  heads-size = p .heads-size ∙ o .heads-size;
+  heads-tail = p .heads-tail ∙ o .heads-tail;
+}
+
+-- ---- links are taken out
+
+pub unlink-more : {n i v : ℕ} {map map′ : List ℕ} → i < n → n * 3 ≤ length map → Relinked n map map′ → v ≡ ownWord (volumeWord map′ i) i
+    → ((k : ℕ) → k < i → linkWord map′ k ≡ ownWord (volumeWord map k) k)
+    → (Relinked n map (set map′ (i * 3 + 2) v)) × ((k : ℕ) → k < i + 1 → linkWord (set map′ (i * 3 + 2) v) k ≡ ownWord (volumeWord map k) k)
+unlink-more {n} {i} {v} {map} {map′} h l o e p = (
+  relinked-on o (relinked-one n i v map′ h),
+  one-more (λ (k : ℕ). linkWord (set map′ (i * 3 + 2) v) k ≡ ownWord (volumeWord map k) k) i
+      (λ k q. getD-set-other map′ (i * 3 + 2) (k * 3 + 2) v 0 (λ y. omega arith) ∙ p k q)
+      (getD-set-same map′ (i * 3 + 2) v 0 (let z = o .size in omega arith) ∙ e ∙ ap (λ (x : ℕ). ownWord x i) (o .volumes i)),
+)

@@ -1,0 +1,33 @@
+-- `choice::chain::link` meets its contract. Assumes nothing.
+use mathlib.Core.Path.{_≡_, refl, sym, ap, _∙_}
+use Prim.Native.Nat.{_≤_, _<_, _-_, _+_}
+use native.Mathlib.Omega.{arith}
+use borrow.Author.Needs.{needs}
+use Prim.Native.Nat.{_*_}
+use Rattle.choice.proofs.chain.link.Statement.{statement}
+use Rattle.choice.proofs.chain.link.Tie as tie
+use Rattle.choice.proofs.chain.link.Reads as reads
+use Rattle.choice.proofs.chain.link.Lts as lts
+
+mul-result : tie.Need-mul-result
+mul-result c = search needs
+
+add-result : tie.Need-add-result
+add-result c = search needs
+
+mul-result-2 : tie.Need-mul-result-2
+mul-result-2 c = search needs
+
+shared-slice-read-result : tie.Need-shared-slice-read-result
+shared-slice-read-result c = search needs
+
+cast-result : tie.Need-cast-result
+cast-result c = omega (arith, c .shared-slice-known .given (c .before .args .i * 3 + 2))
+
+returns : tie.Need-returns
+returns c = search needs
+
+pub link-spec : {M : Type 1} → statement M
+link-spec =
+    tie.close
+    (tie.spec mul-result add-result mul-result-2 shared-slice-read-result cast-result returns)

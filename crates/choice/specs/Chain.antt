@@ -1,0 +1,63 @@
+-- What the contracts here cite: the copies of a LEB along chains of links, while copies are compared. No public promise names them.
+-- Assumes nothing.
+use mathlib.Core.Path.{_≡_}
+use mathlib.Core.Bool.{cond}
+use mathlib.Core.List.{List}
+use Prim.Native.Nat.{ℕ, _+_, _*_, _%_, _≤_, _<_}
+use lib.Dec.{eqb}
+use lib.ListN.{length, drop, getD}
+use Rattle.report.specs.Report.{noWord}
+use Rattle.choice.specs.Keyed.{volumeWord, lebWord}
+
+-- the third word of PEB i: the PEB that it is linked to
+abbrev pub linkWord : List ℕ → ℕ → ℕ
+linkWord map i = getD map (i * 3 + 2) 0
+
+-- the bucket of PEB i, by its LEB: one of 128. A PEB that holds no user or layout LEB is in none of them
+unfoldable pub bucketAt : List ℕ → ℕ → ℕ
+bucketAt map i = cond (eqb (volumeWord map i) noWord) 128 (lebWord map i % 128)
+
+-- w is the highest PEB below m in bucket b; no word if there is none
+pub record Nearest (map : List ℕ) (b m w : ℕ) : Type 0 where
+  pub is : w < m → bucketAt map w ≡ b
+  pub none : m ≤ w → w ≡ noWord
+  pub skips : (k : ℕ) → k < m → bucketAt map k ≡ b → (w < m) × (k ≤ w)
+
+-- each of the first m PEBs that is in a bucket is linked to the nearest below it
+abbrev pub Linked : ℕ → List ℕ → Type 0
+Linked m map = (i : ℕ) → i < m → (volumeWord map i ≡ noWord → ⊥) → Nearest map (bucketAt map i) i (linkWord map i)
+
+-- and each bucket's head is the nearest below m
+abbrev pub Headed : ℕ → List ℕ → List ℕ → Type 0
+Headed m map heads = (b : ℕ) → b < 128 → Nearest map b m (getD heads b 0)
+
+-- the first m of n PEBs are linked
+pub record Chained (n m : ℕ) (map heads : List ℕ) : Type 0 where
+  pub few : n ≤ 4096
+  pub long-map : n * 3 ≤ length map
+  pub long-heads : 128 ≤ length heads
+  pub links : Linked m map
+  pub tops : Headed m map heads
+
+-- the words with other links: volumes and LEBs, and the words beyond n PEBs, are the same
+pub record Relinked (n : ℕ) (map map′ : List ℕ) : Type 0 where
+  pub size : length map′ ≡ length map
+  pub volumes : (i : ℕ) → volumeWord map′ i ≡ volumeWord map i
+  pub lebs : (i : ℕ) → lebWord map′ i ≡ lebWord map i
+  pub tail : drop (n * 3) map′ ≡ drop (n * 3) map
+
+-- and other heads
+pub record Chains (n m : ℕ) (map map′ heads heads′ : List ℕ) : Type 0 where
+  pub chained : Chained n m map′ heads′
+  pub relinked : Relinked n map map′
+  pub heads-size : length heads′ ≡ length heads
+  pub heads-tail : drop 128 heads′ ≡ drop 128 heads
+
+-- the third word of PEB i without links: its number, or no word
+abbrev pub ownWord : ℕ → ℕ → ℕ
+ownWord v i = cond (eqb v noWord) noWord i
+
+-- the words without links
+pub record Unlinked (n : ℕ) (map map′ : List ℕ) : Type 0 where
+  pub relinked : Relinked n map map′
+  pub owns : (i : ℕ) → i < n → linkWord map′ i ≡ ownWord (volumeWord map i) i

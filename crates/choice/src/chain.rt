@@ -1,0 +1,99 @@
+// The copies of a LEB are found along chains. While copies are compared, the third word of a PEB links it to the next lower PEB of its
+// bucket, and a head for each bucket starts its chain. A chain ends at a word that is not below the PEB before it.
+ghost use mathlib.Core.Path.{_≡_};
+ghost use Prim.Native.Nat.{_+_, _*_, _%_, _≤_, _<_};
+ghost use lib.ListN.{length, getD};
+ghost use Rattle.base.specs.Below.{anyBelow};
+ghost use Rattle.report.specs.Report.{noWord};
+ghost use Rattle.choice.specs.Keyed.{volumeWord, lebWord, sameLeb};
+ghost use Rattle.choice.specs.Chain.{linkWord, bucketAt, Linked, Headed, Chained, Chains, ownWord, Relinked, Unlinked};
+use crate::repeat::same_leb;
+
+// The bucket of a LEB: one of 128.
+fn bucket(leb: u32) -> usize
+    ensures { λ r. ⌜ r ≡ leb % 128 ⌝ }
+{
+    (leb % 128) as usize
+}
+
+// The highest PEB in the bucket of PEB i, which holds a user or layout LEB.
+pub fn head(map: &[u32], heads: &[u32], i: usize) -> usize
+    requires { ⌜ (i * 3 + 3 ≤ length (now map)) × ((128 ≤ length (now heads)) × (volumeWord (now map) i ≡ noWord → ⊥)) ⌝ }
+    ensures { λ r. ⌜ r ≡ getD (now (heads .entry)) (bucketAt (now (map .entry)) i) 0 ⌝ }
+{
+    let at = bucket(map[i * 3 + 1]);
+    heads[at] as usize
+}
+
+// The next lower PEB in the bucket of PEB i.
+pub fn link(map: &[u32], i: usize) -> usize
+    requires { ⌜ i * 3 + 3 ≤ length (now map) ⌝ }
+    ensures { λ r. ⌜ r ≡ linkWord (now (map .entry)) i ⌝ }
+{
+    map[i * 3 + 2] as usize
+}
+
+// PEB i becomes the head of its bucket, linked to the head before it.
+fn link_peb(map: &mut [u32], heads: &mut [u32], n: usize, i: usize)
+    requires { ⌜ (i < n) × Chained n i (now map) (now heads) ⌝ }
+    ensures { λ _. ⌜ Chains n (i + 1) (now (map .entry)) (now (map .exit)) (now (heads .entry)) (now (heads .exit)) ⌝ }
+{
+    if map[i * 3] == 0xFFFFFFFF {
+        return;
+    }
+    let b = bucket(map[i * 3 + 1]);
+    map[i * 3 + 2] = heads[b];
+    heads[b] = i as u32;
+}
+
+// All copies are linked; no bucket has a head before.
+pub fn link_copies(map: &mut [u32], heads: &mut [u32], n: usize)
+    requires { ⌜ Chained n 0 (now map) (now heads) ⌝ }
+    ensures { λ _. ⌜ Chains n n (now (map .entry)) (now (map .exit)) (now (heads .entry)) (now (heads .exit)) ⌝ }
+{
+    let mut i: usize = 0;
+    while i < n {
+        link_peb(map, heads, n, i);
+        i += 1;
+    }
+}
+
+// Has a PEB below i, which holds a user or layout LEB, the same LEB?
+pub fn has_lower_copy(map: &[u32], n: usize, i: usize) -> bool
+    requires { ⌜ (i < n) × ((n * 3 ≤ length (now map)) × ((Linked n (now map)) × (volumeWord (now map) i ≡ noWord → ⊥))) ⌝ }
+    ensures { λ r. ⌜ r ≡ anyBelow i (sameLeb (now (map .entry)) i) ⌝ }
+{
+    let mut at = i;
+    let mut j = link(map, i);
+    while j < at {
+        if same_leb(map, i, j) {
+            return true;
+        }
+        at = j;
+        j = link(map, j);
+    }
+    false
+}
+
+// The third word of PEB i without links.
+fn own_word(volume: u32, i: u32) -> u32
+    ensures { λ r. ⌜ r ≡ ownWord volume i ⌝ }
+{
+    if volume == 0xFFFFFFFF {
+        return volume;
+    }
+    i
+}
+
+// The words of n PEBs as they were before they were linked.
+pub fn unlink(map: &mut [u32], n: usize)
+    requires { ⌜ (n ≤ 4096) × (n * 3 ≤ length (now map)) ⌝ }
+    ensures { λ _. ⌜ Unlinked n (now (map .entry)) (now (map .exit)) ⌝ }
+{
+    let mut i: usize = 0;
+    while i < n {
+        let own = own_word(map[i * 3], i as u32);
+        map[i * 3 + 2] = own;
+        i += 1;
+    }
+}
