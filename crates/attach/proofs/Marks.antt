@@ -1,239 +1,177 @@
 -- Laws of choosing a LEB's copy once, and marking it. Assumes nothing.
-use mathlib.Core.Path.{_≡_, refl, sym, ap, ap₂, _∙_, subst}
-use mathlib.Core.Logic.{_⊎_, inl, inr, ⊎-elim}
-use mathlib.Core.Bool.{Bool, true, false, _&&_, cond, true≢false, false≢true}
+use mathlib.Core.Path.{_≡_, refl, sym, ap, ap₂, _∙_}
+use mathlib.Core.Logic.{_≢_, _⊎_, inl, inr, ⊎-elim}
+use mathlib.Core.Bool.{Bool, true, false, cond, false≢true}
 use mathlib.Core.Option.{Option, none, some}
 use mathlib.Core.List.{List, [], _∷_, _++_}
-use Prim.Native.Nat.{ℕ, zero, suc, _+_, _*_, _-_, _≤_, _<_}
+use Prim.Native.Nat.{ℕ, zero, suc, _+_, _*_, _≤_, _<_}
 use native.Mathlib.Omega.{arith}
-use borrow.Author.Tests.{eq-eqb, ne-eqb, eqb-true, lt-ltb, le-ltb}
-use lib.Dec.{eqb, ltb}
-use native.Mathlib.Numerals.{add-one}
-use lib.ListN.{length, getD, drop}
-use Rattle.base.specs.Below.{concatBelow}
-use Rattle.base.specs.Lists.{put}
-use Rattle.base.specs.Answers.{mapO}
+use borrow.Author.Tests.{eq-eqb}
+use lib.ListN.{length, getD, set, drop, replicate, length-set, getD-replicate, List·getD-append}
+use lib.Seq.{getD-set-same, getD-set-other, drop-set-lt}
+use Rattle.base.specs.Below.{anyBelow}
+use Rattle.base.proofs.Answers.{or-true-cases}
+use Rattle.base.proofs.Below.{eq-or-ne, one-more}
+use Rattle.base.proofs.Rows.{row-word, row-first}
 use Rattle.geometry.specs.declared.Geometry.{Geometry}
-use Rattle.report.specs.View.{Copy, EcView, VidView, vidGood, vidNewer, vidBlank, vidBad, View, Views, viewsOf, ecs, ecGood, ecNewer, ecBlank, ecLost, copies, goodVid, isMappable}
-use Rattle.report.specs.Choice.{ofKey, pick, chosen}
+use Rattle.report.specs.View.{Copy, EcView, VidView, vidGood, vidNewer, vidBlank, vidBad, Views, viewsOf, ecs, ecGood, ecNewer, ecBlank, ecLost, copies, goodVid, isMappable}
+use Rattle.report.specs.Choice.{chosen}
 use Rattle.report.specs.Volumes.{Places, placesOf}
 use Rattle.report.specs.Report.{noWord, places, counterOr, isPlace}
 use Rattle.report.specs.Scratch.{firstClass, markedClass, markedWords}
-use Rattle.report.proofs.Choice.{pick-some, ofKey-hit, chosen-at}
+use Rattle.report.proofs.Choice.{chosen-at}
 use Rattle.choice.specs.Keyed.{Keyed, copyAt, volumeWord, lebWord, sameLeb}
-use Rattle.choice.proofs.Words.{Held, held, has-words, same-true, mappable-word}
+use Rattle.choice.specs.Chain.{Chained, Chains}
+use Rattle.choice.proofs.Words.{held, has-words, same-true, mappable-word}
 use Rattle.mapping.specs.Settle.{firstAt, secondAt}
-use Rattle.mapping.proofs.Entries.{good-inv}
-use Rattle.mapping.proofs.Laws.{two-there, kept, kept-first}
-use Rattle.report.proofs.Map.{concat-cong}
+use Rattle.mapping.proofs.Entries.{place-is, good-inv}
 use Rattle.scan.specs.Pass.{firstWords}
-use Rattle.base.proofs.Rows.{rows-length, rows-step, rows-tail, row-word, row-first}
-use Rattle.attach.specs.Marking.{Lowest, WonTo, Next, Unmarked, placeOr0, wonClass, wonRow, markOf, markRow}
+use Rattle.attach.specs.Marking.{MarkedTo}
+use Rattle.attach.proofs.Ends.{words-tail}
+use Rattle.attach.proofs.Rows.{rows-there}
 
-module _ {g : Geometry} {image : List ℕ} {n : ℕ} {map : List ℕ} (d : Keyed g image n map) where
+-- ---- no heads before copies are linked
+
+module _ (n : ℕ) (map heads : List ℕ) {heads₁ : List ℕ} (e : heads₁ ≡ replicate 128 noWord ++ drop 128 heads) (s : length heads₁ ≡ length heads)
+    (h : 128 ≤ length heads) where
+  pub no-heads : n ≤ 4096 → n * 3 ≤ length map → Chained n 0 map heads₁
+  no-heads f l = record {
+    few = f;
+    long-map = l;
+    long-heads = omega arith;
+    links = λ i k. absurd (omega arith);
+    tops = λ b k. record {
+      is = λ z. absurd (omega arith);
+      none = λ _. ap (λ (x : List ℕ). getD x b 0) e ∙ List·getD-append (replicate 128 noWord) (drop 128 heads) 0 b k ∙ getD-replicate 128 b noWord 0 k;
+      skips = λ i z. absurd (omega arith);
+    };
+  }
+
+  pub heads-from : {map′ heads′ : List ℕ} → Chains n n map map′ heads₁ heads′ → Chains n n map map′ heads heads′
+  heads-from o = record {
+    chained = o .chained;
+    relinked = o .relinked;
+    heads-size = o .heads-size ∙ s;
+    heads-tail = o .heads-tail ∙ words-tail 128 (replicate 128 noWord) heads e s h;
+  }
+
+-- ---- chosen copies are marked
+
+any-hit : (n : ℕ) (p : ℕ → Bool) → anyBelow n p ≡ true → (i : ℕ) × (i < n) × (p i ≡ true)
+any-hit zero p e = absurd (false≢true e)
+any-hit (suc n) p e =
+    ⊎-elim (λ a. let x = any-hit n p a in (x .0, omega (arith, x .1), x .2)) (λ b. (n, omega arith, b)) (or-true-cases (anyBelow n p) (p n) e)
+
+module _ (g : Geometry) (image : List ℕ) (n : ℕ) (map : List ℕ) where
   abbrev vs : Views
   vs = viewsOf g image
 
   abbrev pl : Places
   pl = places g n vs
 
-  -- the place that an answer of choosing gives
-  pub chosen-place : (v l r : ℕ) (c : Copy) → chosen n (copies vs) v l ≡ some (r, c) → pl v l ≡ some r
-  unfolding placesOf
-  chosen-place v l r c e = rw e
-
-  -- where a LEB has a copy, one is chosen
-  some-chosen : (i : ℕ) → i < n → (v l : ℕ) (c : Copy) → ofKey v l (copies vs i) ≡ some c → chosen n (copies vs) v l ≡ none → ⊥
-  unfolding chosen
-  some-chosen i h v l c q e = pick-some n (λ (j : ℕ). ofKey v l (copies vs j)) i c h q e
-
-  -- a copy's LEB has a place
-  pub has-place : (i : ℕ) → i < n → (volumeWord map i ≡ noWord → ⊥) → (r : ℕ) × (pl (volumeWord map i) (lebWord map i) ≡ some r) × (r < n)
-  has-place i h k = go (chosen n (copies vs) (volumeWord map i) (lebWord map i)) refl
-    where
-      hd : Held g image map i
-      hd = held d i h k
-
-      at : ofKey (volumeWord map i) (lebWord map i) (copies vs i) ≡ some (copyAt g image i)
-      at = rw (hd .is) (ofKey-hit (volumeWord map i) (lebWord map i) (copyAt g image i) (hd .volume) (hd .leb))
-
-      go : (x : Option (ℕ × Copy)) → chosen n (copies vs) (volumeWord map i) (lebWord map i) ≡ x
-          → (r : ℕ) × (pl (volumeWord map i) (lebWord map i) ≡ some r) × (r < n)
-      go none e = absurd (some-chosen i h (volumeWord map i) (lebWord map i) (copyAt g image i) at e)
-      go (some x) e = (x .0, chosen-place (volumeWord map i) (lebWord map i) (x .0) (x .1) e, chosen-at n (copies vs) (volumeWord map i) (lebWord map i) (x .0) (x .1) e .0)
-
-  -- the class word of a copy whose LEB's copy is chosen
-  pub won-copy : (j r : ℕ) → j < n → (volumeWord map j ≡ noWord → ⊥) → pl (volumeWord map j) (lebWord map j) ≡ some r → wonClass pl (vs j .ec) (vs j .vid) ≡ 16 + r
-  won-copy j r h k e =
-      let hd = held d j h k in
-      let p : pl (copyAt g image j .header .volume) (copyAt g image j .header .lnum) ≡ some r = ap₂ pl (hd .volume) (hd .leb) ∙ e in
-      ap (wonClass pl (vs j .ec)) (good-inv (vs j .vid) (copyAt g image j) (hd .is)) ∙ rw (hd .mappable, p)
-
-  -- the class word of a PEB that has no copy of a user or layout LEB
-  pub won-other : (j : ℕ) → j < n → volumeWord map j ≡ noWord → wonClass pl (vs j .ec) (vs j .vid) ≡ firstClass (vs j .ec) (vs j .vid)
-  won-other j h e = go (vs j .vid) refl
-    where
-      go : (v : VidView) → vs j .vid ≡ v → wonClass pl (vs j .ec) v ≡ firstClass (vs j .ec) v
-      go (vidGood c) q = at (isMappable (c .header .volume)) refl
-        where
-          at : (b : Bool) → isMappable (c .header .volume) ≡ b → wonClass pl (vs j .ec) (vidGood c) ≡ firstClass (vs j .ec) (vidGood c)
-          at true m = absurd (mappable-word (c .header .volume) m (sym (has-words d j h c (ap goodVid q) m .0) ∙ e))
-          at false m = rw m
-      go vidNewer q = refl
-      go vidBlank q = refl
-      go vidBad q = refl
-
--- a lower PEB with the LEB knows the chosen one
-pub known-winner : (g : Geometry) (image : List ℕ) (n : ℕ) (map pebs : List ℕ) (i j : ℕ) → WonTo g image n map pebs i → i < n → (volumeWord map i ≡ noWord → ⊥)
-    → j < i → sameLeb map i j ≡ true
-    → (16 ≤ firstAt 2 pebs j) × (places g n (viewsOf g image) (volumeWord map i) (lebWord map i) ≡ some (firstAt 2 pebs j - 16)) × (firstAt 2 pebs j - 16 < n)
-known-winner g image n map pebs i j o h k l e =
-    let s = same-true map i j e in
-    let kj : volumeWord map j ≡ noWord → ⊥ = λ (z : volumeWord map j ≡ noWord). k (s .0 ∙ z) in
-    let p = has-place (o .keyed) j (omega arith) kj in
-    let w : firstAt 2 pebs j ≡ 16 + p .0 = o .won j l ∙ won-copy (o .keyed) j (p .0) (omega arith) kj (p .1) in
-    let r : firstAt 2 pebs j - 16 ≡ p .0 = omega arith in
-    (omega arith, ap₂ (places g n (viewsOf g image)) (s .0) (s .1) ∙ p .1 ∙ ap some (sym r), omega (arith, p .2))
-
--- ---- PEB i chosen for
-
-module _ {g : Geometry} {image : List ℕ} {n : ℕ} {map pebs : List ℕ} {i : ℕ} (o : Next g image n map pebs i) where
-  abbrev ws : Views
-  ws = viewsOf g image
-
-  pub no-copy : volumeWord map i ≡ noWord → pebs ≡ put (i * 2) (wonRow (places g n ws) ws i) pebs
-  no-copy e =
-      let l = o .so-far .long in
-      let b = o .below in
-      let k = won-other (o .so-far .keyed) i b e in
-      two-there pebs (i * 2) (omega arith) ∙ rw (k, o .class-is, o .counter-is)
-
-  pub a-copy : (r : ℕ) {pebs′ : List ℕ} → (volumeWord map i ≡ noWord → ⊥) → places g n ws (volumeWord map i) (lebWord map i) ≡ some r
-      → pebs′ ≡ put (i * 2) ((r + 16) ∷ secondAt 2 pebs i ∷ []) pebs → pebs′ ≡ put (i * 2) (wonRow (places g n ws) ws i) pebs
-  a-copy r k e q =
-      let w : wonClass (places g n ws) (ws i .ec) (ws i .vid) ≡ r + 16 = won-copy (o .so-far .keyed) i r (o .below) k e ∙ omega arith in
-      q ∙ rw (w, o .counter-is)
-
--- ---- all PEBs
-
-module _ {g : Geometry} {image : List ℕ} {n : ℕ} {map pebs₀ : List ℕ} (o : Unmarked g image n map pebs₀) where
-  abbrev us : Views
-  us = viewsOf g image
-
-  abbrev won : ℕ → List ℕ
-  won = wonRow (places g n us) us
-
-  abbrev pub wonAt : ℕ → List ℕ
-  wonAt k = concatBelow k won ++ drop (k * 2) pebs₀
+  -- the chosen copy of PEB k's LEB is marked
+  abbrev Mark : List ℕ → ℕ → Type 0
+  Mark pebs k = (volumeWord map k ≡ noWord → ⊥) → (p : ℕ) → pl (volumeWord map k) (lebWord map k) ≡ some p → firstAt 2 pebs p ≡ 1
 
   abbrev first : ℕ → List ℕ
-  first j = firstClass (us j .ec) (us j .vid) ∷ counterOr noWord (ecs us j) ∷ []
+  first j = firstClass (vs j .ec) (vs j .vid) ∷ counterOr noWord (ecs vs j) ∷ []
 
-  pub next-one : (i : ℕ) {pebs : List ℕ} → i < n → length pebs ≡ length pebs₀ → pebs ≡ wonAt i → Next g image n map pebs i
-  next-one i {pebs} h l e = record {
-    so-far = record {
-      keyed = o .keyed;
-      no-repeat = o .no-repeat;
-      few = o .few;
-      long = omega (arith, o .long);
-      won = λ j k. ap (λ (x : List ℕ). getD x (j * 2) 0) e ∙ row-first i 2 won (drop (i * 2) pebs₀) (λ m. refl) j k (omega arith);
-    };
-    below = h;
-    class-is = ap (λ (x : List ℕ). getD x (i * 2) 0) e ∙ kept-first (i * 2) (concatBelow i won) pebs₀ (rows-length i 2 won (λ m. refl))
-        ∙ ap (λ (x : List ℕ). getD x (i * 2) 0) (o .first-words) ∙ row-first n 2 first (drop (n * 2) pebs₀) (λ m. refl) i h (omega arith);
-    counter-is = ap (λ (x : List ℕ). getD x (i * 2 + 1) 0) e ∙ kept (i * 2) (concatBelow i won) pebs₀ 1 (rows-length i 2 won (λ m. refl))
-        ∙ ap (λ (x : List ℕ). getD x (i * 2 + 1) 0) (o .first-words) ∙ row-word n 2 first (drop (n * 2) pebs₀) (λ m. refl) i 1 h (omega arith);
+  abbrev marked : ℕ → List ℕ
+  marked j = markedClass pl j (vs j .ec) (vs j .vid) ∷ counterOr noWord (ecs vs j) ∷ []
+
+  -- after the first pass
+  pub marked-none : (pebs : List ℕ) → n * 2 ≤ length pebs → pebs ≡ firstWords n vs ++ drop (n * 2) pebs → MarkedTo g image n map pebs 0
+  marked-none pebs l e = record {
+    long = l;
+    counters = λ p h. ap (λ (x : List ℕ). getD x (p * 2 + 1) 0) e ∙ row-word n 2 first (drop (n * 2) pebs) (λ m. refl) p 1 h (omega arith);
+    classes = λ p h. inl (ap (λ (x : List ℕ). getD x (p * 2) 0) e ∙ row-first n 2 first (drop (n * 2) pebs) (λ m. refl) p h (omega arith));
+    chosen = λ k h. absurd (omega arith);
   }
 
-  pub won-next : (i : ℕ) {pebs pebs′ : List ℕ} → pebs ≡ wonAt i → pebs′ ≡ put (i * 2) (won i) pebs → pebs′ ≡ wonAt (i + 1)
-  won-next i p q = q ∙ ap (put (i * 2) (won i)) p ∙ rows-step i 2 won pebs₀ (λ j. refl) ∙ sym (ap wonAt (add-one i))
+  module _ (i : ℕ) where
+    marked-on : (pebs : List ℕ) → MarkedTo g image n map pebs i → Mark pebs i → MarkedTo g image n map pebs (i + 1)
+    marked-on pebs o f =
+        record { long = o .long; counters = o .counters; classes = o .classes; chosen = one-more (Mark pebs) i (o .chosen) f }
 
--- ---- marking
+    module _ (pebs : List ℕ) (o : MarkedTo g image n map pebs i) where
+      pub marked-other : volumeWord map i ≡ noWord → MarkedTo g image n map pebs (i + 1)
+      marked-other e = marked-on pebs o (λ c. absurd (c e))
 
-module _ (pebs₀ : List ℕ) where
-  abbrev pub markAt : ℕ → List ℕ
-  markAt k = concatBelow k (markRow pebs₀) ++ drop (k * 2) pebs₀
+      pub marked-lower : anyBelow i (sameLeb map i) ≡ true → MarkedTo g image n map pebs (i + 1)
+      marked-lower e =
+          let k = any-hit i (sameLeb map i) e in
+          let s = same-true map i (k .0) (k .2) in
+          marked-on pebs o
+          (λ c p q. o .chosen (k .0) (k .1) (λ (z : volumeWord map (k .0) ≡ noWord). c (s .0 ∙ z)) p (sym (ap₂ pl (s .0) (s .1)) ∙ q))
 
-  pub mark-next : (i : ℕ) {pebs pebs′ : List ℕ} → pebs ≡ markAt i → pebs′ ≡ put (i * 2) (markRow pebs i) pebs → pebs′ ≡ markAt (i + 1)
-  mark-next i p q =
-      let l = rows-length i 2 (markRow pebs₀) (λ j. refl) in
-      let a = kept-first (i * 2) (concatBelow i (markRow pebs₀)) pebs₀ l in
-      let b = kept (i * 2) (concatBelow i (markRow pebs₀)) pebs₀ 1 l in
-      let r : markRow (markAt i) i ≡ markRow pebs₀ i = rw (a, b) in
-      q ∙ ap (λ (x : List ℕ). put (i * 2) (markRow x i) x) p ∙ ap (λ (x : List ℕ). put (i * 2) x (markAt i)) r
-      ∙ rows-step i 2 (markRow pebs₀) pebs₀ (λ j. refl) ∙ sym (ap markAt (add-one i))
+      -- r is chosen
+      module _ (d : Keyed g image n map) (h : i < n) (c : volumeWord map i ≡ noWord → ⊥) (r : ℕ)
+          (e : chosen n (copies vs) (volumeWord map i) (lebWord map i) ≡ some (r, copyAt g image r)) (l : r < n) where
+        abbrev pebs₁ : List ℕ
+        pebs₁ = set pebs (r * 2) 1
 
--- a class word of the first pass is a class
-mark-class : (k i : ℕ) → k < 16 → markOf k i ≡ k
-mark-class k i h = rw (lt-ltb k 16 h)
+        place : pl (volumeWord map i) (lebWord map i) ≡ some r
+        unfolding placesOf
+        place = rw e
 
-mark-won : (r i : ℕ) → markOf (16 + r) i ≡ cond (eqb r i) 1 2
-mark-won r i =
-    let a : ltb (16 + r) 16 ≡ false = le-ltb (16 + r) 16 (omega arith) in
-    let b : 16 + r - 16 ≡ r = omega arith in
-    rw (a, b)
+        is-one : markedClass pl r (vs r .ec) (vs r .vid) ≡ 1
+        is-one =
+            let a = chosen-at n (copies vs) (volumeWord map i) (lebWord map i) r (copyAt g image r) e in
+            let k = held d i h c in
+            let m : isMappable (copyAt g image r .header .volume) ≡ true = ap isMappable (a .2 ∙ sym (k .volume)) ∙ k .mappable in
+            let p : pl (copyAt g image r .header .volume) (copyAt g image r .header .lnum) ≡ some r = ap₂ pl (a .2) (a .3) ∙ place in
+            ap (markedClass pl r (vs r .ec)) (good-inv (vs r .vid) (copyAt g image r) (a .1)) ∙ rw (m, p, eq-eqb r r refl)
 
-first-small : (e : EcView) (v : VidView) → firstClass e v < 16
-first-small e (vidGood c) = go (isMappable (c .header .volume)) (eqb (c .header .compat) 1)
-  where
-    go : (m k : Bool) → cond m 2 (cond k 5 6) < 16
-    go true k = omega arith
-    go false true = omega arith
-    go false false = omega arith
-first-small (ecGood h) vidBlank = omega arith
-first-small ecNewer vidBlank = omega arith
-first-small ecBlank vidBlank = omega arith
-first-small ecLost vidBlank = omega arith
-first-small e vidNewer = omega arith
-first-small e vidBad = omega arith
+        set-here : firstAt 2 pebs₁ r ≡ 1
+        set-here = getD-set-same pebs (r * 2) 1 0 (let z = o .long in omega arith)
 
--- the class words, marked, are the marked classes
-module _ {g : Geometry} {image : List ℕ} {n : ℕ} {map : List ℕ} (d : Keyed g image n map) where
-  abbrev ms : Views
-  ms = viewsOf g image
+        set-there : (p : ℕ) → p ≢ r → firstAt 2 pebs₁ p ≡ firstAt 2 pebs p
+        set-there p ne = getD-set-other pebs (r * 2) (p * 2) 1 0 (λ z. ne (omega arith))
 
-  abbrev ps : Places
-  ps = places g n ms
+        marked-same : MarkedTo g image n map pebs₁ i
+        marked-same = record {
+          long = let z = length-set pebs (r * 2) 1 in let y = o .long in omega arith;
+          counters = λ p k. getD-set-other pebs (r * 2) (p * 2 + 1) 1 0 (λ z. omega arith) ∙ o .counters p k;
+          classes = λ p k. ⊎-elim
+              (λ (q : p ≡ r). inr (rw q (set-here ∙ sym is-one)))
+              (λ (q : p ≢ r). ⊎-elim (λ a. inl (set-there p q ∙ a)) (λ b. inr (set-there p q ∙ b)) (o .classes p k))
+              (eq-or-ne p r);
+          chosen = λ k q z p y. ⊎-elim (λ (x : p ≡ r). rw x set-here) (λ (x : p ≢ r). set-there p x ∙ o .chosen k q z p y) (eq-or-ne p r);
+        }
 
-  abbrev markedRow : ℕ → List ℕ
-  markedRow j = markedClass ps j (ms j .ec) (ms j .vid) ∷ counterOr noWord (ecs ms j) ∷ []
+        pub marked-one : (MarkedTo g image n map pebs₁ (i + 1)) × (drop (n * 2) pebs₁ ≡ drop (n * 2) pebs)
+        marked-one = (
+          marked-on pebs₁ marked-same (λ _ p q. let z : some p ≡ some r = sym q ∙ place in let y : p ≡ r = cc in rw y set-here),
+          drop-set-lt (n * 2) pebs (r * 2) 1 (omega arith),
+        )
 
-  marked-copy : (i r : ℕ) (e : EcView) (c : Copy) → isMappable (c .header .volume) ≡ true → ps (c .header .volume) (c .header .lnum) ≡ some r
-      → markOf (wonClass ps e (vidGood c)) i ≡ markedClass ps i e (vidGood c)
-  marked-copy i r e c m q = rw (m, q) (mark-won r i)
+  -- all are marked
+  module _ (d : Keyed g image n map) (pebs pebs₀ : List ℕ) (o : MarkedTo g image n map pebs n) where
+    class-is : (p : ℕ) → p < n → firstAt 2 pebs p ≡ markedClass pl p (vs p .ec) (vs p .vid)
+    class-is p h = ⊎-elim (λ a. go (vs p .vid) refl (vs p .ec) a) (λ b. b) (o .classes p h)
+      where
+        go : (v : VidView) → vs p .vid ≡ v → (e : EcView) → firstAt 2 pebs p ≡ firstClass e v → firstAt 2 pebs p ≡ markedClass pl p e v
+        go (vidGood c) q e a = at (isMappable (c .header .volume)) refl (isPlace (pl (c .header .volume) (c .header .lnum)) p) refl
+          where
+            at : (m : Bool) → isMappable (c .header .volume) ≡ m → (b : Bool) → isPlace (pl (c .header .volume) (c .header .lnum)) p ≡ b
+                → firstAt 2 pebs p ≡ markedClass pl p e (vidGood c)
+            at true m true b =
+                let w = has-words d p h c (ap goodVid q) m in
+                rw (m, b)
+                (o .chosen p h (λ (z : volumeWord map p ≡ noWord). mappable-word (c .header .volume) m (sym (w .0) ∙ z)) p (ap₂ pl (w .0) (w .1) ∙ place-is _ p b))
+            at true m false b = a ∙ rw (m, b)
+            at false m b y = a ∙ rw m
+        go vidNewer q e a = a
+        go vidBlank q (ecGood x) a = a
+        go vidBlank q ecNewer a = a
+        go vidBlank q ecBlank a = a
+        go vidBlank q ecLost a = a
+        go vidBad q e a = a
 
-  marked-other : (i : ℕ) (e : EcView) (v : VidView) → wonClass ps e v ≡ firstClass e v → firstClass e v ≡ markedClass ps i e v
-      → markOf (wonClass ps e v) i ≡ markedClass ps i e v
-  marked-other i e v w k = ap (λ (x : ℕ). markOf x i) w ∙ mark-class (firstClass e v) i (first-small e v) ∙ k
+    row-is : (i j : ℕ) → i < n → j < 2 → getD pebs (i * 2 + j) 0 ≡ getD (marked i) j 0
+    row-is i zero h k = let z : i * 2 + 0 ≡ i * 2 = omega arith in rw z (class-is i h)
+    row-is i (suc zero) h k = o .counters i h
+    row-is i (suc (suc j)) h k = absurd (omega arith)
 
-  marked-is : (i : ℕ) → i < n → markOf (wonClass ps (ms i .ec) (ms i .vid)) i ≡ markedClass ps i (ms i .ec) (ms i .vid)
-  marked-is i h = go (ms i .vid) refl (ms i .ec)
-    where
-      go : (v : VidView) → ms i .vid ≡ v → (e : EcView) → markOf (wonClass ps e v) i ≡ markedClass ps i e v
-      go (vidGood c) q e = at (isMappable (c .header .volume)) refl
-        where
-          at : (b : Bool) → isMappable (c .header .volume) ≡ b → markOf (wonClass ps e (vidGood c)) i ≡ markedClass ps i e (vidGood c)
-          at true m =
-              let w = has-words d i h c (ap goodVid q) m in
-              let p = has-place d i h (λ (z : volumeWord map i ≡ noWord). mappable-word (c .header .volume) m (sym (w .0) ∙ z)) in
-              marked-copy i (p .0) e c m (sym (ap₂ ps (w .0) (w .1)) ∙ p .1)
-          at false m = marked-other i e (vidGood c) (rw m) (rw m)
-      go vidNewer q e = marked-other i e vidNewer refl refl
-      go vidBlank q (ecGood x) = marked-other i (ecGood x) vidBlank refl refl
-      go vidBlank q ecNewer = marked-other i ecNewer vidBlank refl refl
-      go vidBlank q ecBlank = marked-other i ecBlank vidBlank refl refl
-      go vidBlank q ecLost = marked-other i ecLost vidBlank refl refl
-      go vidBad q e = marked-other i e vidBad refl refl
-
-  pub marked-rows : (pebs : List ℕ) {pebs₁ pebs₂ : List ℕ} → n * 2 ≤ length pebs → pebs₁ ≡ concatBelow n (wonRow ps ms) ++ drop (n * 2) pebs
-      → pebs₂ ≡ concatBelow n (markRow pebs₁) ++ drop (n * 2) pebs₁ → pebs₂ ≡ markedWords ps n ms ++ drop (n * 2) pebs
-  marked-rows pebs {pebs₁} l p q = q ∙ ap₂ (λ (a b : List ℕ). a ++ b) (concat-cong n (markRow pebs₁) markedRow row) tail
-    where
-      row : (i : ℕ) → i < n → markRow pebs₁ i ≡ markedRow i
-      row i h =
-          let a = ap (λ (x : List ℕ). getD x (i * 2) 0) p ∙ row-first n 2 (wonRow ps ms) (drop (n * 2) pebs) (λ m. refl) i h (omega arith) in
-          let b = ap (λ (x : List ℕ). getD x (i * 2 + 1) 0) p ∙ row-word n 2 (wonRow ps ms) (drop (n * 2) pebs) (λ m. refl) i 1 h (omega arith) in
-          rw (a, b, marked-is i h)
-
-      tail : drop (n * 2) pebs₁ ≡ drop (n * 2) pebs
-      tail = rw p (rows-tail n n 2 (wonRow ps ms) pebs (λ j. refl) (omega arith))
+    pub marked-all : drop (n * 2) pebs ≡ drop (n * 2) pebs₀ → pebs ≡ markedWords pl n vs ++ drop (n * 2) pebs₀
+    marked-all t = sym (rows-there 2 marked pebs (λ i. refl) n (o .long) row-is) ∙ ap (λ (x : List ℕ). markedWords pl n vs ++ x) t

@@ -37,15 +37,16 @@ use Rattle.attach.proofs.Ends.{words-long, words-over, words-take, word
 -- ---- a refusal 5 to 12
 
 module _ (g : Geometry) (image : List ℕ) (n number place : ℕ) (q : refusal g n (viewsOf g image) ≡ some (record { number = number; place = place }))
-    (pebs pebs₁ map map₁ states : List ℕ) where
+    (pebs pebs₁ map map₁ states states₁ : List ℕ) where
   pub refused-ended : {r : Attached} {pebs′ map′ states′ : List ℕ} → drop (n * 2) pebs₁ ≡ drop (n * 2) pebs → drop (n * 3) map₁ ≡ drop (n * 3) map
-      → r ≡ Refused number place → pebs′ ≡ replicate (n * 2) noWord ++ drop (n * 2) pebs₁ → map′ ≡ replicate (n * 3) noWord ++ drop (n * 3) map₁
-      → states′ ≡ replicate 128 noWord ++ drop 128 states → Ended (outcome g image n) r pebs pebs′ map map′ states states′
-  refused-ended a b e x y z = record {
+      → drop 128 states₁ ≡ drop 128 states → r ≡ Refused number place → pebs′ ≡ replicate (n * 2) noWord ++ drop (n * 2) pebs₁
+      → map′ ≡ replicate (n * 3) noWord ++ drop (n * 3) map₁ → states′ ≡ replicate 128 noWord ++ drop 128 states₁
+      → Ended (outcome g image n) r pebs pebs′ map map′ states states′
+  refused-ended a b c e x y z = record {
     answer = ap attachedAnswer e ∙ rw q;
     pebs-are = rw q (filled-over (n * 2) pebs pebs₁ x a);
     map-is = rw q (filled-over (n * 3) map map₁ y b);
-    states-are = rw q (filled-over 128 states states z refl);
+    states-are = rw q (filled-over 128 states states₁ z c);
   }
 
 -- ---- the report
@@ -131,9 +132,10 @@ module _ {g : Geometry} {image : List ℕ} {n : ℕ} {s : Sums} {t : List ℕ} {
         pub misfit-ended : k < count → {r : Attached} {pebs″ map″ states″ : List ℕ} → r ≡ Refused 12 (pebWord map′ k)
             → pebs″ ≡ replicate (n * 2) noWord ++ drop (n * 2) pebs′ → map″ ≡ replicate (n * 3) noWord ++ drop (n * 3) map′
             → states″ ≡ replicate 128 noWord ++ drop 128 states → Ended (outcome g image n) r pebs pebs″ map map″ states states″
-        misfit-ended h = refused-ended g image n 12 (pebWord map′ k) (late-refusal g image n (p .past10) ∙ sym e ∙ rw (lt-ltb k count h)) pebs pebs′ map map′ states
+        misfit-ended h = refused-ended g image n 12 (pebWord map′ k) (late-refusal g image n (p .past10) ∙ sym e ∙ rw (lt-ltb k count h)) pebs pebs′ map map′ states states
             (words-tail (n * 2) (pebWords g n vs) pebs (o .pebs-are) lp (p .past10 .room .long-pebs))
             (words-tail (n * 3) (mapWords n (entries g n vs)) map (o .map-is) lm (p .past10 .room .long-map))
+            refl
 
         module _ (h : count ≤ k) (states′ : List ℕ) (se : states′ ≡ stateWords g n vs ++ drop 128 states) (ls : length states′ ≡ length states) where
           pub graded : Read g n vs pebs′ states′ m

@@ -8,7 +8,7 @@ use native.Mathlib.Nat.{div-add-mod', mul-comm}
 use native.Mathlib.Omega.{arith}
 use borrow.Author.Tests.{lt-ltb, le-ltb, lt-leb, le-leb, leb-true, eq-eqb, ne-eqb}
 use lib.Dec.{eqb, ltb, leb}
-use lib.ListN.{length, take, drop, replicate, length-append, length-replicate}
+use lib.ListN.{length, take, drop, getD, replicate, length-append, length-replicate}
 use Rattle.base.specs.Answers.{Answer, given, refused, allOf}
 use Rattle.base.proofs.Answers.{each-holds}
 use Rattle.base.specs.Below.{concatBelow, allBelow}
@@ -18,11 +18,11 @@ use Rattle.header.specs.Vid.{layoutVolume}
 use Rattle.volume_table.specs.Table.{recordsPart, tableGood, takenLeb, takenRecords, copiesMark, takenNumber}
 use Rattle.volume_table.specs.declared.Taken.{Taken}
 use Rattle.volume_table.specs.declared.Taken.the-variants.{First, Second, Neither}
-use Rattle.report.specs.View.{Views, viewsOf, copies}
+use Rattle.report.specs.View.{VidView, vidGood, vidNewer, vidBlank, vidBad, Views, viewsOf, copies, isMappable}
 use Rattle.report.specs.Scan.{Refusal, refusal5678, refusal10}
 use Rattle.report.specs.Choice.{refusal9}
 use Rattle.report.specs.Volumes.{Entry, refusal1112, layoutContent, tableLeb, tableRecords, tableMark}
-use Rattle.report.specs.Report.{noWord, entries, classAt, counterAt, refusal, faces, places, records, taken, mark}
+use Rattle.report.specs.Report.{noWord, entries, classAt, counterAt, stateAt, refusal, faces, places, records, taken, mark}
 use Rattle.report.specs.Attach.{
   Outcome,
   byViews,
@@ -37,24 +37,31 @@ use Rattle.report.specs.Attach.{
   pebWords,
   mapWords,
   entryWords,
+  stateWords,
   pebCount,
   imageRules,
   longEnough,
 }
 use Rattle.geometry.specs.Slip.{slipGeometry}
 use Rattle.report.specs.declared.Attached.the-variants.{Refused}
-use Rattle.report.specs.Scratch.{keysOf, markedWords}
+use Rattle.report.specs.Scratch.{keyWords, keysOf, markedWords}
 use Rattle.report.specs.declared.Attached.{Attached}
 use Rattle.report.proofs.Tables.{entries-fit}
 use Rattle.scan.specs.declared.Sums.{Sums}
 use Rattle.scan.specs.declared.Passage.{Passage}
 use Rattle.scan.specs.Pass.{SumsOf, Passed, refusedAt, firstWords}
-use Rattle.report.proofs.Words.{entry-words-length, peb-words-length}
-use Rattle.choice.specs.Keyed.{Keyed, repeatAt}
+use Rattle.report.proofs.Words.{key-length, entry-words-length, peb-words-length}
+use Rattle.base.proofs.Rows.{row-word}
+use Rattle.base.specs.Lists.{table}
+use Rattle.choice.specs.Keyed.{Keyed, volumeWord, repeatAt}
 use Rattle.attach.specs.Layout.{Chosen}
-use Rattle.attach.specs.Marking.{Unmarked}
-use Rattle.attach.specs.Stage.{Ended, Room, Past10, Past11, outcome}
-use Rattle.attach.proofs.Ends.{words-take, words-tail, late-refusal}
+use Rattle.choice.specs.Chain.{ownWord, Chains, Unlinked}
+use Rattle.choice.proofs.Words.{mappable-word}
+use Rattle.attach.specs.Marking.{Linking}
+use Rattle.attach.specs.Stage.{Ended, Room, Past8, Past10, Past11, outcome}
+use Rattle.attach.proofs.Ends.{words-tail, late-refusal}
+use Rattle.attach.proofs.Reports.{refused-ended}
+use Rattle.attach.proofs.Rows.{rows-there}
 use Rattle.attach.proofs.Layouts.{layout-small}
 
 -- ---- the table taken
@@ -117,6 +124,14 @@ module _ {g : Geometry} {image : List ℕ} {n : ℕ} {s : Sums} {pebs map states
 
 -- ---- words before and after a stage
 
+table-length : (f : ℕ → ℕ) (i n : ℕ) → length (table f i n) ≡ n
+table-length f i zero = refl
+table-length f i (suc n) = ap suc (table-length f (suc i) n)
+
+state-words-long : (g : Geometry) (n : ℕ) (vs : Views) → length (stateWords g n vs) ≡ 128
+unfolding stateWords
+state-words-long g n vs = table-length (stateAt g n vs) 0 128
+
 module _ (g : Geometry) (image : List ℕ) (n : ℕ) where
   map-words-long : 2 ≤ n → refusal g n (viewsOf g image) ≡ none → length (mapWords n (entries g n (viewsOf g image))) ≡ n * 3
   unfolding mapWords
@@ -142,14 +157,22 @@ module _ (g : Geometry) (image : List ℕ) (n : ℕ) where
         go none q = ap (λ (z : List ℕ). mapWords n (entries g n (viewsOf g image)) ++ z) (rw (map-words-long h q) t)
         go (some r) q = ap (λ (z : List ℕ). replicate (n * 3) noWord ++ z) (rw (length-replicate (n * 3) noWord) t)
 
+    states-from : (a b : List ℕ) → drop 128 a ≡ drop 128 b → statesAfter (outcome g image n) a ≡ statesAfter (outcome g image n) b
+    states-from a b t = go (refusal g n (viewsOf g image))
+      where
+        go : (x : Option Refusal) → statesAfter (byViews g n (viewsOf g image) x) a ≡ statesAfter (byViews g n (viewsOf g image) x) b
+        go none = ap (λ (z : List ℕ). stateWords g n (viewsOf g image) ++ z) (rw (state-words-long g n (viewsOf g image)) t)
+        go (some r) = ap (λ (z : List ℕ). replicate 128 noWord ++ z) t
+
     -- what ends so from later words ends so from earlier ones
-    pub ended-from : (pebs pebs₁ map map₁ : List ℕ) {r : Attached} {pebs′ map′ states states′ : List ℕ} → drop (n * 2) pebs₁ ≡ drop (n * 2) pebs → drop (n * 3) map₁ ≡ drop (n * 3) map
-        → Ended (outcome g image n) r pebs₁ pebs′ map₁ map′ states states′ → Ended (outcome g image n) r pebs pebs′ map map′ states states′
-    ended-from pebs pebs₁ map map₁ a b o = record {
+    pub ended-from : (pebs pebs₁ map map₁ states states₁ : List ℕ) {r : Attached} {pebs′ map′ states′ : List ℕ}
+        → drop (n * 2) pebs₁ ≡ drop (n * 2) pebs → drop (n * 3) map₁ ≡ drop (n * 3) map → drop 128 states₁ ≡ drop 128 states
+        → Ended (outcome g image n) r pebs₁ pebs′ map₁ map′ states₁ states′ → Ended (outcome g image n) r pebs pebs′ map map′ states states′
+    ended-from pebs pebs₁ map map₁ states states₁ a b c o = record {
       answer = o .answer;
       pebs-are = o .pebs-are ∙ pebs-from pebs₁ pebs a;
       map-is = o .map-is ∙ map-from map₁ map b;
-      states-are = o .states-are;
+      states-are = o .states-are ∙ states-from states₁ states c;
     }
 
 -- ---- refusals 5 to 10
@@ -167,81 +190,132 @@ module _ {g : Geometry} {image : List ℕ} {n : ℕ} {pebs map states : List ℕ
       is-some zero h = absurd (h refl)
       is-some (suc k) h = refl
 
-  module _ (z : p .refusal ≡ 0) where
-    none5678 : refusal5678 g n ws ≡ none
-    none5678 = sym (o .refusal) ∙ rw z
+  pub past-eight : p .refusal ≡ 0 → Past8 g image n (p .sums) pebs₁ map₁ states
+  past-eight z = record {
+    room = record {
+      placed = rm .placed;
+      whole = rm .whole;
+      least = rm .least;
+      few = rm .few;
+      long-pebs = omega (arith, rm .long-pebs, lp);
+      long-map = omega (arith, rm .long-map, lm);
+      long-states = rm .long-states;
+    };
+    sums = o .sums z;
+    no5678 = sym (o .refusal) ∙ rw z;
+    pebs-are = o .pebs-are z ∙ ap (λ (x : List ℕ). firstWords n ws ++ x) (sym (o .pebs-tail));
+    map-is = o .map-is z ∙ ap (λ (x : List ℕ). keysOf n ws ++ x) (sym (o .map-tail));
+  }
 
-    pub keyed-by : Keyed g image n map₁
-    keyed-by = record { placed = rm .placed; whole = rm .whole; keys = words-take (n * 3) (keysOf n ws) map (o .map-is z) lm (rm .long-map) }
+-- ---- refusals 9 and 10
 
-    module _ (r : ℕ) (e : repeatAt n r ≡ refusal9 n (copies ws)) where
-      pub repeat-refusal : r < n → refusal g n ws ≡ some (record { number = 9; place = r })
-      unfolding refusal
-      repeat-refusal h = let q : refusal9 n (copies ws) ≡ some (record { number = 9; place = r }) = sym e ∙ rw (lt-ltb r n h) in rw (none5678, q)
+-- the third word of a PEB after the first pass
+own-key : (i : ℕ) (v : VidView) → ownWord (getD (keyWords i v) 0 0) i ≡ getD (keyWords i v) 2 0
+own-key i (vidGood c) = go (isMappable (c .header .volume)) refl
+  where
+    go : (m : Bool) → isMappable (c .header .volume) ≡ m → ownWord (getD (keyWords i (vidGood c)) 0 0) i ≡ getD (keyWords i (vidGood c)) 2 0
+    go true m = rw (m, ne-eqb (c .header .volume) noWord (mappable-word (c .header .volume) m))
+    go false m = rw m
+own-key i vidNewer = refl
+own-key i vidBlank = refl
+own-key i vidBad = refl
 
-      module _ (h : n ≤ r) where
-        none9 : refusal9 n (copies ws) ≡ none
-        none9 = sym e ∙ rw (le-ltb r n h)
+module _ {g : Geometry} {image : List ℕ} {n : ℕ} {s : Sums} {pebs map states : List ℕ} (p : Past8 g image n s pebs map states) {map₁ states₁ : List ℕ}
+    (o : Chains n n map map₁ states states₁) where
+  abbrev us : Views
+  us = viewsOf g image
 
-        pub unused-refusal : p .sums .unused ≡ true → refusal g n ws ≡ some (record { number = 10; place = 0 })
-        unfolding refusal refusal10
-        unused-refusal u = let q = sym (o .sums z .unused) ∙ u in rw (none5678, none9, q)
+  abbrev keys : ℕ → List ℕ
+  keys i = keyWords i (us i .vid)
 
-        none10 : p .sums .unused ≡ false → refusal10 n ws ≡ none
-        unfolding refusal10
-        none10 u = let q = sym (o .sums z .unused) ∙ u in rw q
+  key-word : (i k : ℕ) → i < n → k < 3 → getD map (i * 3 + k) 0 ≡ getD (keys i) k 0
+  key-word i k h l =
+      ap (λ (x : List ℕ). getD x (i * 3 + k) 0) (p .map-is) ∙ row-word n 3 keys (drop (n * 3) map) (λ j. key-length j (us j .vid)) i k h l
 
-        pub unmarked : Unmarked g image n map₁ pebs₁
-        unmarked = record {
-          keyed = keyed-by;
-          no-repeat = none9;
-          few = rm .few;
-          long = omega (arith, rm .long-pebs, lp);
-          first-words = o .pebs-are z ∙ ap (λ (x : List ℕ). firstWords n ws ++ x) (sym (o .pebs-tail));
-        }
+  volume-is : (i : ℕ) → i < n → volumeWord map₁ i ≡ getD (keys i) 0 0
+  volume-is i h = o .relinked .volumes i ∙ (let z : i * 3 + 0 ≡ i * 3 = omega arith in rw z at (key-word i 0 h (omega arith)))
 
-        module _ (pebs₂ : List ℕ) (me : pebs₂ ≡ markedWords (places g n ws) n ws ++ drop (n * 2) pebs₁) (l2 : length pebs₂ ≡ length pebs₁) where
-          long₁ : n * 2 ≤ length pebs₁
-          long₁ = omega (arith, rm .long-pebs, lp)
+  pub keyed : Keyed g image n map₁
+  keyed = record {
+    placed = p .room .placed;
+    whole = p .room .whole;
+    long = o .chained .long-map;
+    volumes = volume-is;
+    lebs = λ i h. o .relinked .lebs i ∙ key-word i 1 h (omega arith);
+  }
 
-          tail₂ : drop (n * 2) pebs₂ ≡ drop (n * 2) pebs₁
-          tail₂ = words-tail (n * 2) (markedWords (places g n ws) n ws) pebs₁ me l2 long₁
+  pub refused-linked : (number place : ℕ) → refusal g n us ≡ some (record { number = number; place = place }) → {r : Attached} {pebs′ map′ states′ : List ℕ}
+      → r ≡ Refused number place → pebs′ ≡ replicate (n * 2) noWord ++ drop (n * 2) pebs → map′ ≡ replicate (n * 3) noWord ++ drop (n * 3) map₁
+      → states′ ≡ replicate 128 noWord ++ drop 128 states₁ → Ended (outcome g image n) r pebs pebs′ map map′ states states′
+  refused-linked number place q = refused-ended g image n number place q pebs pebs map map₁ states states₁ refl (o .relinked .tail) (o .heads-tail)
 
-          pub marked-tail : drop (n * 2) pebs₂ ≡ drop (n * 2) pebs
-          marked-tail = tail₂ ∙ o .pebs-tail
+  module _ (r : ℕ) (e : repeatAt n r ≡ refusal9 n (copies us)) where
+    pub repeat-refusal : r < n → refusal g n us ≡ some (record { number = 9; place = r })
+    unfolding refusal
+    repeat-refusal h = let q : refusal9 n (copies us) ≡ some (record { number = 9; place = r }) = sym e ∙ rw (lt-ltb r n h) in rw (p .no5678, q)
 
-          room₂ : Room g image n pebs₂ map₁ states
-          room₂ = record {
-            placed = rm .placed;
-            whole = rm .whole;
-            least = rm .least;
-            few = rm .few;
-            long-pebs = omega (arith, long₁, l2);
-            long-map = omega (arith, rm .long-map, lm);
-            long-states = rm .long-states;
-          }
+    module _ (h : n ≤ r) where
+      none9 : refusal9 n (copies us) ≡ none
+      none9 = sym e ∙ rw (le-ltb r n h)
 
-          pub past-ten : p .sums .unused ≡ false → Past10 g image n (p .sums) pebs₂ map₁ states
-          past-ten u = record {
-            room = room₂;
-            chosen = record {
-              placed = rm .placed;
-              whole = rm .whole;
-              few = rm .few;
-              long-pebs = room₂ .long-pebs;
-              long-map = room₂ .long-map;
-              marked = record {
-                table-is = refl;
-                pebs-are = me ∙ ap (λ (x : List ℕ). markedWords (places g n ws) n ws ++ x) (sym tail₂);
-                map-is = o .map-is z ∙ ap (λ (x : List ℕ). keysOf n ws ++ x) (sym (o .map-tail));
-                layout-small = layout-small g image;
+      pub unused-refusal : s .unused ≡ true → refusal g n us ≡ some (record { number = 10; place = 0 })
+      unfolding refusal refusal10
+      unused-refusal u = let q = sym (p .sums .unused) ∙ u in rw (p .no5678, none9, q)
+
+      none10 : s .unused ≡ false → refusal10 n us ≡ none
+      unfolding refusal10
+      none10 u = let q = sym (p .sums .unused) ∙ u in rw q
+
+      pub linking : Linking g image n map₁ states₁
+      linking = record { keyed = keyed; chained = o .chained; no-repeat = none9 }
+
+      module _ {pebs₂ map₂ : List ℕ} (me : pebs₂ ≡ markedWords (places g n us) n us ++ drop (n * 2) pebs) (lp : length pebs₂ ≡ length pebs) (ul : Unlinked n map₁ map₂) where
+        pub marked-tail : drop (n * 2) pebs₂ ≡ drop (n * 2) pebs
+        marked-tail = words-tail (n * 2) (markedWords (places g n us) n us) pebs me lp (p .room .long-pebs)
+
+        pub unlinked-tail : drop (n * 3) map₂ ≡ drop (n * 3) map
+        unlinked-tail = ul .relinked .tail ∙ o .relinked .tail
+
+        long₂ : n * 3 ≤ length map₂
+        long₂ = omega (arith, o .chained .long-map, ul .relinked .size)
+
+        key-there : (i j : ℕ) → i < n → j < 3 → getD map₂ (i * 3 + j) 0 ≡ getD (keys i) j 0
+        key-there i zero h k = let z : i * 3 + 0 ≡ i * 3 = omega arith in rw z (ul .relinked .volumes i ∙ volume-is i h)
+        key-there i (suc zero) h k = ul .relinked .lebs i ∙ keyed .lebs i h
+        key-there i (suc (suc zero)) h k = ul .owns i h ∙ ap (λ (x : ℕ). ownWord x i) (volume-is i h) ∙ own-key i (us i .vid)
+        key-there i (suc (suc (suc j))) h k = absurd (omega arith)
+
+        pub past-ten : s .unused ≡ false → Past10 g image n s pebs₂ map₂ states₁
+        past-ten u =
+            let long-pebs : n * 2 ≤ length pebs₂ = omega (arith, p .room .long-pebs, lp) in
+            record {
+              room = record {
+                placed = p .room .placed;
+                whole = p .room .whole;
+                least = p .room .least;
+                few = p .room .few;
+                long-pebs = long-pebs;
+                long-map = long₂;
+                long-states = o .chained .long-heads;
               };
-            };
-            sums = o .sums z;
-            no5678 = none5678;
-            no9 = none9;
-            no10 = none10 u;
-          }
+              chosen = record {
+                placed = p .room .placed;
+                whole = p .room .whole;
+                few = p .room .few;
+                long-pebs = long-pebs;
+                long-map = long₂;
+                marked = record {
+                  table-is = refl;
+                  pebs-are = me ∙ ap (λ (x : List ℕ). markedWords (places g n us) n us ++ x) (sym marked-tail);
+                  map-is = sym (rows-there 3 keys map₂ (λ j. key-length j (us j .vid)) n long₂ key-there);
+                  layout-small = layout-small g image;
+                };
+              };
+              sums = p .sums;
+              no5678 = p .no5678;
+              no9 = none9;
+              no10 = none10 u;
+            }
 
 -- ---- refusals 1 to 4
 

@@ -3,8 +3,8 @@ use mathlib.Core.Path.{_≡_}
 use Prim.Native.Nat.{ℕ, _*_, _≤_, _<_}
 use mathlib.Core.Bool.{Bool}
 use mathlib.Core.Option.{Option, none}
-use mathlib.Core.List.{List}
-use lib.ListN.{length}
+use mathlib.Core.List.{List, _++_}
+use lib.ListN.{length, drop}
 use Rattle.base.specs.Answers.{given}
 use Rattle.geometry.specs.declared.Geometry.{Geometry}
 use Rattle.geometry.specs.Placed.{Placed}
@@ -14,7 +14,8 @@ use Rattle.report.specs.Choice.{refusal9}
 use Rattle.report.specs.Report.{refusal, records, taken, mark}
 use Rattle.report.specs.Attach.{Outcome, byViews, attachedAnswer, answerOf, pebsAfter, mapAfter, statesAfter}
 use Rattle.report.specs.declared.Attached.{Attached}
-use Rattle.scan.specs.Pass.{SumsOf}
+use Rattle.report.specs.Scratch.{keysOf}
+use Rattle.scan.specs.Pass.{SumsOf, firstWords}
 use Rattle.scan.specs.declared.Sums.{Sums}
 use Rattle.attach.specs.Layout.{Chosen}
 
@@ -38,6 +39,14 @@ pub record Room (g : Geometry) (image : List ℕ) (n : ℕ) (pebs map states : L
   pub long-pebs : n * 2 ≤ length pebs
   pub long-map : n * 3 ≤ length map
   pub long-states : 128 ≤ length states
+
+-- refusals 5 to 8 are past, and the words are those of the first pass
+pub record Past8 (g : Geometry) (image : List ℕ) (n : ℕ) (s : Sums) (pebs map states : List ℕ) : Type 0 where
+  pub room : Room g image n pebs map states
+  pub sums : SumsOf n (viewsOf g image) s
+  pub no5678 : refusal5678 g n (viewsOf g image) ≡ none
+  pub pebs-are : pebs ≡ firstWords n (viewsOf g image) ++ drop (n * 2) pebs
+  pub map-is : map ≡ keysOf n (viewsOf g image) ++ drop (n * 3) map
 
 -- refusals 5 to 10 are past, and the chosen copies marked
 pub record Past10 (g : Geometry) (image : List ℕ) (n : ℕ) (s : Sums) (pebs map states : List ℕ) : Type 0 where

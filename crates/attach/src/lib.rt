@@ -9,7 +9,7 @@ ghost use Prim.Native.Nat.{_≤_};
 ghost use Rattle.geometry.specs.Placed.{Placed};
 ghost use Rattle.base.specs.Answers.{given};
 ghost use Rattle.report.specs.Attach.{attaching, byGeometry, longEnough, attachedAnswer, answerOf, pebsAfter, mapAfter, statesAfter};
-ghost use Rattle.attach.specs.Stage.{Ended, Room, Past10, outcome};
+ghost use Rattle.attach.specs.Stage.{Ended, Room, Past8, Past10, outcome};
 use geometry::Geometry;
 use geometry::GeometryRead;
 use report::Attached;
@@ -47,7 +47,33 @@ fn attach_chosen(
     }
 }
 
-// An image of n PEBs with lent tables that are long enough: refusals 5 to 10, and the rest.
+// From the first pass on: refusals 9 and 10, and the rest. Copies are linked while they are compared.
+fn attach_passed(
+    image: &[u8],
+    g: Geometry,
+    n: usize,
+    sums: Sums,
+    pebs: &mut [u32],
+    map: &mut [u32],
+    states: &mut [u32],
+) -> Attached
+    requires { ⌜ Past8 g (now image) n sums (now pebs) (now map) (now states) ⌝ }
+    ensures { λ r. ⌜ Ended (outcome g (now (image .entry)) n) r (now (pebs .entry)) (now (pebs .exit)) (now (map .entry)) (now (map .exit)) (now (states .entry)) (now (states .exit)) ⌝ }
+{
+    marking::link_copies(n, map, states);
+    let again = choice::first_repeat(image, g, n, map);
+    if again < n {
+        return lent::refuse(9, again as u32, n, pebs, map, states);
+    }
+    if sums.unused {
+        return lent::refuse(10, 0, n, pebs, map, states);
+    }
+    marking::mark_chosen(image, g, n, map, states, pebs);
+    choice::unlink(map, n);
+    attach_chosen(image, g, n, sums, pebs, map, states)
+}
+
+// An image of n PEBs with lent tables that are long enough: refusals 5 to 8, and the rest.
 fn attach_pebs(
     image: &[u8],
     g: Geometry,
@@ -63,15 +89,7 @@ fn attach_pebs(
     if p.refusal != 0 {
         return lent::refuse(p.refusal, p.place, n, pebs, map, states);
     }
-    let again = choice::first_repeat(image, g, n, map);
-    if again < n {
-        return lent::refuse(9, again as u32, n, pebs, map, states);
-    }
-    if p.sums.unused {
-        return lent::refuse(10, 0, n, pebs, map, states);
-    }
-    marking::mark_chosen(image, g, n, map, pebs);
-    attach_chosen(image, g, n, p.sums, pebs, map, states)
+    attach_passed(image, g, n, p.sums, pebs, map, states)
 }
 
 // Are the lent tables long enough for n PEBs?

@@ -98,7 +98,7 @@ returns-3 c =
     let t = c .before .before .before .before .before .before .before .before .before .before .before .before .choose-table in
     let z = c .before .before .before .before .before .before .refuse .ensures in
     refused-ended (a .g) (a .image .now) (a .n) 11 0 (no-table (c .before .before .before .before .before .before .before .before .before .before .before .before .before .before .before .before .before .before .before .before .before .before .before .pre) (c .before .before .before .before .before .before .before .before .before .before .before .before .before .before .before .before .layout-content .ensures) (c .before .before .before .before .before .before .before .before .before .before .before .before .before .layout-content2 .ensures) (t .result .taken) (t .ensures .0) (c .before .before .before .before .before .before .before .before .before .before .enum-told3 .given .1))
-    (a .pebs .now) (a .pebs .now) (a .map .now) (a .map .now) (a .states .now) refl refl (z .0) (z .1 .0) (z .1 .1 .0) (z .1 .1 .1)
+    (a .pebs .now) (a .pebs .now) (a .map .now) (a .map .now) (a .states .now) (a .states .now) refl refl refl (z .0) (z .1 .0) (z .1 .1 .0) (z .1 .1 .1)
 
 pub attach-chosen-spec : {M : Type 1} → statement M
 attach-chosen-spec =

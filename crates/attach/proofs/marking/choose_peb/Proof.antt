@@ -3,15 +3,13 @@ use mathlib.Core.Path.{_≡_, refl, sym, ap, _∙_}
 use Prim.Native.Nat.{_≤_, _<_, _-_, _+_}
 use native.Mathlib.Omega.{arith}
 use borrow.Author.Needs.{needs}
-use lib.ListN.{length}
-use Rattle.choice.proofs.Words.{map-long}
-use Rattle.attach.proofs.Marks.{no-copy, a-copy}
+use Rattle.attach.proofs.Marks.{marked-other, marked-lower, marked-one}
 use Rattle.attach.proofs.marking.choose_peb.Statement.{statement}
 use Rattle.attach.proofs.marking.choose_peb.Tie as tie
 use Rattle.attach.proofs.marking.choose_peb.Reads as reads
 use Rattle.attach.proofs.marking.choose_peb.Lts as lts
-use Rattle.attach.proofs.marking.winner.Reads as winner-reads
-use Rattle.scan.proofs.store_pair.Reads as store-pair-reads
+use Rattle.choice.proofs.has_lower_copy.Reads as has-lower-copy-reads
+use Rattle.choice.proofs.chosen_peb.Reads as chosen-peb-reads
 
 mul-if1 : tie.Need-mul-if1
 mul-if1 c = search needs
@@ -20,62 +18,47 @@ mul-if1-2 : tie.Need-mul-if1-2
 mul-if1-2 c = search needs
 
 shared-slice-read-if1 : tie.Need-shared-slice-read-if1
-shared-slice-read-if1 c =
-    let p = c .before .before .before .before .pre in
-    let b = p .below in
-    omega (arith, map-long (p .so-far .keyed))
+shared-slice-read-if1 c = search needs
 
 returns : tie.Need-returns
-returns c = no-copy (c .before .before .before .before .before .pre) (c .if1 .taken)
+returns c =
+    let d = c .before .before .before .before .before .before in
+    let a = d .args in
+    (marked-other (a .g) (a .image .now) (a .n) (a .map .now) (a .i) (a .pebs .now) (d .pre .1 .1) (c .if1 .taken), refl)
 
-winner-requires : tie.Need-winner-requires
-winner-requires c κs =
-    let p = c .before .before .before .before .before .before .pre in
-    (p .so-far, (p .below, c .before .if1 .left))
+has-lower-copy-requires : tie.Need-has-lower-copy-requires
+has-lower-copy-requires c κs = search needs
 
-mul-counter : tie.Need-mul-counter
-mul-counter c = search needs
+returns-2 : tie.Need-returns-2
+returns-2 c =
+    let d = c .before .before .before .before .before .before .before .before in
+    let a = d .args in (
+      marked-lower (a .g) (a .image .now) (a .n) (a .map .now) (a .i) (a .pebs .now) (d .pre .1 .1) (sym (c .before .has-lower-copy .ensures) ∙ c .if2 .taken),
+      refl,
+    )
 
-add-counter : tie.Need-add-counter
-add-counter c = search needs
+chosen-peb-requires : tie.Need-chosen-peb-requires
+chosen-peb-requires c κs = search needs
 
-mul-counter-2 : tie.Need-mul-counter-2
-mul-counter-2 c = search needs
+mul-pebs : tie.Need-mul-pebs
+mul-pebs c = search needs
 
-slice-read-counter : tie.Need-slice-read-counter
-slice-read-counter c =
-    let p = c .before .before .before .before .before .before .before .before .pre in
-    let b = p .below in
-    let l = p .so-far .long in
-    omega arith
+mul-pebs-2 : tie.Need-mul-pebs-2
+mul-pebs-2 c = search needs
 
-cast-store-pair : tie.Need-cast-store-pair
-cast-store-pair c =
-    let p = c .before .before .before .before .before .before .before .before .before .pre in
-    let f = p .so-far .few in
-    let w = c .before .before .winner .ensures .1 in
-    omega arith
-
-add-store-pair : tie.Need-add-store-pair
-add-store-pair c =
-    let p = c .before .before .before .before .before .before .before .before .before .pre in
-    let f = p .so-far .few in
-    let w = c .before .before .winner .ensures .1 in
-    omega arith
-
-store-pair-requires : tie.Need-store-pair-requires
-store-pair-requires c κs =
-    let p = c .before .before .before .before .before .before .before .before .before .pre in
-    let b = p .below in
-    let f = p .so-far .few in
-    let l = p .so-far .long in
-    (omega arith, omega arith)
+slice-write-pebs : tie.Need-slice-write-pebs
+slice-write-pebs c = search needs
 
 same-length : tie.Need-same-length
 same-length c = search needs
 
-returns-2 : tie.Need-returns-2
-returns-2 c = a-copy (c .before .before .before .before .before .before .before .before .before .before .before .before .pre) (c .before .before .before .before .before .winner .result) (c .before .before .before .before .before .before .before .if1 .left) (c .before .before .before .before .before .winner .ensures .0) (c .before .before .store-pair .ensures)
+returns-3 : tie.Need-returns-3
+returns-3 c =
+    let d = c .before .before .before .before .before .before .before .before .before in
+    let a = d .args in
+    let e = c .chosen-peb .ensures in
+    marked-one (a .g) (a .image .now) (a .n) (a .map .now) (a .i) (a .pebs .now) (d .pre .1 .1) (d .pre .1 .0 .keyed) (d .pre .0)
+    (c .before .before .before .if1 .left) (c .chosen-peb .result) (e .0) (e .1)
 
 pub choose-peb-spec : {M : Type 1} → statement M
 choose-peb-spec =
@@ -85,13 +68,11 @@ choose-peb-spec =
     mul-if1-2
     shared-slice-read-if1
     returns
-    winner-requires
-    mul-counter
-    add-counter
-    mul-counter-2
-    slice-read-counter
-    cast-store-pair
-    add-store-pair
-    store-pair-requires
+    has-lower-copy-requires
+    returns-2
+    chosen-peb-requires
+    mul-pebs
+    mul-pebs-2
+    slice-write-pebs
     same-length
-    returns-2)
+    returns-3)
