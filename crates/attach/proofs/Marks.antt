@@ -1,8 +1,8 @@
 -- Laws of choosing a LEB's copy once, and marking it. Assumes nothing.
 use mathlib.Core.Path.{_≡_, refl, sym, ap, ap₂, _∙_}
 use mathlib.Core.Logic.{_≢_, _⊎_, inl, inr, ⊎-elim}
-use mathlib.Core.Bool.{Bool, true, false, cond, false≢true}
-use mathlib.Core.Option.{Option, none, some}
+use mathlib.Core.Bool.{Bool, true, false, false≢true}
+use mathlib.Core.Option.{none, some}
 use mathlib.Core.List.{List, [], _∷_, _++_}
 use Prim.Native.Nat.{ℕ, zero, suc, _+_, _*_, _≤_, _<_}
 use native.Mathlib.Omega.{arith}
@@ -14,7 +14,7 @@ use Rattle.base.proofs.Answers.{or-true-cases}
 use Rattle.base.proofs.Below.{eq-or-ne, one-more}
 use Rattle.base.proofs.Rows.{row-word, row-first}
 use Rattle.geometry.specs.declared.Geometry.{Geometry}
-use Rattle.report.specs.View.{Copy, EcView, VidView, vidGood, vidNewer, vidBlank, vidBad, Views, viewsOf, ecs, ecGood, ecNewer, ecBlank, ecLost, copies, goodVid, isMappable}
+use Rattle.report.specs.View.{EcView, VidView, vidGood, vidNewer, vidBlank, vidBad, Views, viewsOf, ecs, ecGood, ecNewer, ecBlank, ecLost, copies, goodVid, isMappable}
 use Rattle.report.specs.Choice.{chosen}
 use Rattle.report.specs.Volumes.{Places, placesOf}
 use Rattle.report.specs.Report.{noWord, places, counterOr, isPlace}
@@ -23,7 +23,7 @@ use Rattle.report.proofs.Choice.{chosen-at}
 use Rattle.choice.specs.Keyed.{Keyed, copyAt, volumeWord, lebWord, sameLeb}
 use Rattle.choice.specs.Chain.{Chained, Chains}
 use Rattle.choice.proofs.Words.{held, has-words, same-true, mappable-word}
-use Rattle.mapping.specs.Settle.{firstAt, secondAt}
+use Rattle.mapping.specs.Settle.{firstAt}
 use Rattle.mapping.proofs.Entries.{place-is, good-inv}
 use Rattle.scan.specs.Pass.{firstWords}
 use Rattle.attach.specs.Marking.{MarkedTo}

@@ -1,8 +1,8 @@
 -- From the table taken on, attaching ends as 01 says. Assumes nothing.
 use mathlib.Core.Path.{_≡_, refl, sym, ap, ap₂, _∙_}
-use mathlib.Core.Bool.{Bool, true, false, cond}
-use mathlib.Core.Option.{Option, none, some}
-use mathlib.Core.List.{List, [], _∷_, _++_}
+use mathlib.Core.Bool.{Bool}
+use mathlib.Core.Option.{none, some}
+use mathlib.Core.List.{List, _++_}
 use Prim.Native.Nat.{ℕ, _+_, _*_, _/_, _%_, _≤_, _<_}
 use native.Mathlib.Nat.{mul-mod-right, min-le-left}
 use native.Mathlib.Omega.{arith}
@@ -12,18 +12,16 @@ use lib.Seq.{take-take}
 use Rattle.base.proofs.Answers.{each-holds}
 use Rattle.header.specs.Vid.{layoutVolume}
 use Rattle.volume_table.specs.Table.{recordCount, recordsPart, tableTests, tableGood}
-use Rattle.base.specs.Answers.{Answer, given, refused}
+use Rattle.base.specs.Answers.{given}
 use Rattle.geometry.specs.declared.Geometry.{Geometry}
 use Rattle.report.specs.View.{Views, viewsOf, copies, ecs}
-use Rattle.report.specs.Scan.{Refusal}
 use Rattle.report.specs.Volumes.{refusal1112, layoutContent, tableLeb, tableRecords}
 use Rattle.report.proofs.Tables.{TakenFrom}
 use Rattle.report.proofs.Tables as tables
 use Rattle.report.specs.Report.{noWord, entries, meanOf, highestOf, readOnlyOf, gradeOf, refusal, faces, places, records, taken, mark}
-use Rattle.report.specs.Attach.{pebWords, mapWords, stateWords, reportOf, answerOr, attachedAnswer}
+use Rattle.report.specs.Attach.{pebWords, mapWords, stateWords, reportOf, attachedAnswer}
 use Rattle.report.specs.declared.Attached.{Attached}
 use Rattle.report.specs.declared.Attached.the-variants.{Given, Refused}
-use Rattle.report.specs.declared.Report.{Report}
 use Rattle.scan.specs.declared.Sums.{Sums}
 use Rattle.scan.specs.Pass.{SumsOf}
 use Rattle.mapping.specs.Settle.{Marked, Mapped}
@@ -31,8 +29,8 @@ use Rattle.volumes.specs.Sorted.{Sorted, Fitting, misfitRefusal, pebWord}
 use Rattle.volumes.proofs.Words.{entries-there}
 use Rattle.volumes.proofs.Misfits.{fitting}
 use Rattle.grade.specs.Words.{Read}
-use Rattle.attach.specs.Stage.{Ended, Room, Past10, Past11, outcome}
-use Rattle.attach.proofs.Ends.{words-long, words-over, words-take, words-tail, filled-over, counter-small, lost-word, sum-bound, late-refusal}
+use Rattle.attach.specs.Stage.{Ended, Room, Past11, outcome}
+use Rattle.attach.proofs.Ends.{words-over, words-take, words-tail, filled-over, counter-small, lost-word, sum-bound, late-refusal}
 
 -- ---- a refusal 5 to 12
 

@@ -3,15 +3,14 @@ use mathlib.Core.Path.{_≡_, refl, sym, ap, ap₂, _∙_}
 use mathlib.Core.Bool.{Bool, true, false, _&&_, cond}
 use mathlib.Core.Option.{Option, none, some}
 use mathlib.Core.List.{List, [], _∷_, _++_}
-use Prim.Native.Nat.{ℕ, zero, suc, _+_, _*_, _-_, _/_, _%_, _≤_, _<_}
+use Prim.Native.Nat.{ℕ, zero, suc, _+_, _*_, _-_, _%_, _≤_, _<_}
 use native.Mathlib.Nat.{div-add-mod', mul-comm}
 use native.Mathlib.Omega.{arith}
 use borrow.Author.Tests.{lt-ltb, le-ltb, lt-leb, le-leb, leb-true, eq-eqb, ne-eqb}
-use lib.Dec.{eqb, ltb, leb}
-use lib.ListN.{length, take, drop, getD, replicate, length-append, length-replicate}
+use lib.Dec.{leb}
+use lib.ListN.{length, drop, getD, replicate, length-append, length-replicate}
 use Rattle.base.specs.Answers.{Answer, given, refused, allOf}
 use Rattle.base.proofs.Answers.{each-holds}
-use Rattle.base.specs.Below.{concatBelow, allBelow}
 use Rattle.geometry.specs.declared.Geometry.{Geometry}
 use Rattle.geometry.specs.Placed.{Placed}
 use Rattle.header.specs.Vid.{layoutVolume}
@@ -19,10 +18,10 @@ use Rattle.volume_table.specs.Table.{recordsPart, tableGood, takenLeb, takenRec
 use Rattle.volume_table.specs.declared.Taken.{Taken}
 use Rattle.volume_table.specs.declared.Taken.the-variants.{First, Second, Neither}
 use Rattle.report.specs.View.{VidView, vidGood, vidNewer, vidBlank, vidBad, Views, viewsOf, copies, isMappable}
-use Rattle.report.specs.Scan.{Refusal, refusal5678, refusal10}
+use Rattle.report.specs.Scan.{Refusal, refusal10}
 use Rattle.report.specs.Choice.{refusal9}
-use Rattle.report.specs.Volumes.{Entry, refusal1112, layoutContent, tableLeb, tableRecords, tableMark}
-use Rattle.report.specs.Report.{noWord, entries, classAt, counterAt, stateAt, refusal, faces, places, records, taken, mark}
+use Rattle.report.specs.Volumes.{layoutContent, tableLeb, tableRecords, tableMark}
+use Rattle.report.specs.Report.{noWord, entries, stateAt, refusal, faces, places, taken, mark}
 use Rattle.report.specs.Attach.{
   Outcome,
   byViews,
@@ -30,7 +29,6 @@ use Rattle.report.specs.Attach.{
   attaching,
   attachedAnswer,
   answerOf,
-  over,
   pebsAfter,
   mapAfter,
   statesAfter,
@@ -49,12 +47,11 @@ use Rattle.report.specs.declared.Attached.{Attached}
 use Rattle.report.proofs.Tables.{entries-fit}
 use Rattle.scan.specs.declared.Sums.{Sums}
 use Rattle.scan.specs.declared.Passage.{Passage}
-use Rattle.scan.specs.Pass.{SumsOf, Passed, refusedAt, firstWords}
+use Rattle.scan.specs.Pass.{Passed, refusedAt, firstWords}
 use Rattle.report.proofs.Words.{key-length, entry-words-length, peb-words-length}
 use Rattle.base.proofs.Rows.{row-word}
 use Rattle.base.specs.Lists.{table}
 use Rattle.choice.specs.Keyed.{Keyed, volumeWord, repeatAt}
-use Rattle.attach.specs.Layout.{Chosen}
 use Rattle.choice.specs.Chain.{ownWord, Chains, Unlinked}
 use Rattle.choice.proofs.Words.{mappable-word}
 use Rattle.attach.specs.Marking.{Linking}

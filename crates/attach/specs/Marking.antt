@@ -3,14 +3,13 @@ use mathlib.Core.Path.{_≡_}
 use mathlib.Core.Logic.{_⊎_}
 use Prim.Native.Nat.{ℕ, _*_, _≤_, _<_}
 use mathlib.Core.Option.{none, some}
-use mathlib.Core.List.{List, _++_}
-use lib.ListN.{length, drop}
+use mathlib.Core.List.{List}
+use lib.ListN.{length}
 use Rattle.geometry.specs.declared.Geometry.{Geometry}
 use Rattle.report.specs.View.{viewsOf, ecs, copies}
 use Rattle.report.specs.Choice.{refusal9}
 use Rattle.report.specs.Report.{noWord, counterOr, places}
 use Rattle.report.specs.Scratch.{firstClass, markedClass}
-use Rattle.scan.specs.Pass.{firstWords}
 use Rattle.choice.specs.Keyed.{Keyed, volumeWord, lebWord}
 use Rattle.choice.specs.Chain.{Chained}
 use Rattle.mapping.specs.Settle.{firstAt, secondAt}

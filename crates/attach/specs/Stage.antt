@@ -1,8 +1,7 @@
 -- What the contracts here cite: what is known at each stage of attaching, and how it ends. No public promise names them. Assumes nothing.
 use mathlib.Core.Path.{_≡_}
-use Prim.Native.Nat.{ℕ, _*_, _≤_, _<_}
-use mathlib.Core.Bool.{Bool}
-use mathlib.Core.Option.{Option, none}
+use Prim.Native.Nat.{ℕ, _*_, _≤_}
+use mathlib.Core.Option.{none}
 use mathlib.Core.List.{List, _++_}
 use lib.ListN.{length, drop}
 use Rattle.base.specs.Answers.{given}

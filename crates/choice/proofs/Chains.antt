@@ -1,14 +1,14 @@
 -- Laws of the chains: who is in a bucket, a walk along a chain, links stored and taken out. Assumes nothing.
 use mathlib.Core.Path.{_≡_, refl, sym, ap, _∙_}
-use mathlib.Core.Logic.{_≢_, _⊎_, inl, inr, ⊎-elim}
+use mathlib.Core.Logic.{_≢_, _⊎_, inl, inr}
 use mathlib.Core.Bool.{Bool, true, false}
 use mathlib.Core.List.{List}
 use Prim.Native.Nat.{ℕ, _+_, _*_, _%_, _≤_, _<_}
 use native.Mathlib.Nat.{mod-lt}
 use native.Mathlib.Omega.{arith}
-use borrow.Author.Tests.{eq-eqb, ne-eqb, eqb-true, eqb-false, ltb-true, ltb-false}
-use lib.Dec.{eqb, ltb}
-use lib.ListN.{length, drop, getD, set, length-set}
+use borrow.Author.Tests.{eq-eqb, ne-eqb, ltb-true, ltb-false}
+use lib.Dec.{ltb}
+use lib.ListN.{length, getD, set, length-set}
 use lib.Seq.{getD-set-same, getD-set-other, drop-set-lt}
 use Rattle.base.proofs.Below.{eq-or-ne, one-more}
 use Rattle.geometry.specs.declared.Geometry.{Geometry}
@@ -16,7 +16,7 @@ use Rattle.report.specs.View.{viewsOf, copies}
 use Rattle.report.specs.Choice.{repeats}
 use Rattle.report.specs.Report.{noWord}
 use Rattle.choice.specs.Keyed.{Keyed, volumeWord, lebWord, sameLeb}
-use Rattle.choice.specs.Chain.{linkWord, bucketAt, Nearest, Linked, Chained, Relinked, Chains, ownWord, Unlinked}
+use Rattle.choice.specs.Chain.{linkWord, bucketAt, Nearest, Linked, Chained, Relinked, Chains, ownWord}
 use Rattle.choice.proofs.Words.{not-so, same-true, repeat-words}
 
 -- ---- who is in a bucket

@@ -1,26 +1,21 @@
 -- The map's words after the first pass, and the copies that they name. Assumes nothing.
 use mathlib.Core.Path.{_≡_, refl, sym, ap, _∙_}
-use mathlib.Core.Logic.{_⊎_, ⊎-elim}
-use mathlib.Core.Bool.{Bool, true, false, not, _&&_, cond, true≢false, false≢true}
+use mathlib.Core.Bool.{Bool, true, false, not, _&&_, true≢false, false≢true}
 use mathlib.Core.Option.{Option, none, some}
-use mathlib.Core.List.{List, [], _∷_, append-nil}
-use Prim.Native.Nat.{ℕ, zero, suc, _+_, _*_, _≤_, _<_}
+use mathlib.Core.List.{List}
+use Prim.Native.Nat.{ℕ, _<_}
 use native.Mathlib.Omega.{arith}
 use native.Mathlib.Nat.{mul-le-mul-right}
 use borrow.Author.Tests.{eqb-true, eqb-false, eq-eqb}
 use lib.Dec.{eqb}
-use lib.ListN.{length, take, getD, length-append, length-take, List·getD-append}
-use lib.Seq.{getD-take, getD-append-add}
-use Rattle.base.specs.Below.{concatBelow}
+use lib.ListN.{getD}
 use Rattle.base.proofs.Answers.{and-left, and-right}
-use Rattle.base.proofs.Rows.{rows-length, row-word}
 use Rattle.geometry.specs.declared.Geometry.{Geometry}
 use Rattle.report.specs.View.{Copy, VidView, vidGood, vidNewer, vidBlank, vidBad, copyOf, viewsOf, goodVid, copies, isMappable}
 use Rattle.report.specs.Report.{noWord}
 use Rattle.report.specs.Choice.{repeats}
 use Rattle.report.specs.Scratch.{keyWords}
 use Rattle.report.proofs.First.{none-some}
-use Rattle.report.proofs.Words.{key-length}
 use Rattle.choice.specs.Keyed.{Keyed, Within, copyAt, sequenceAt, volumeWord, lebWord, sameLeb, repeatsAt}
 use Rattle.choice.proofs.Copies.{copy-is}
 

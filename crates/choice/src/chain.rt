@@ -5,8 +5,8 @@ ghost use Prim.Native.Nat.{_+_, _*_, _%_, _≤_, _<_};
 ghost use lib.ListN.{length, getD};
 ghost use Rattle.base.specs.Below.{anyBelow};
 ghost use Rattle.report.specs.Report.{noWord};
-ghost use Rattle.choice.specs.Keyed.{volumeWord, lebWord, sameLeb};
-ghost use Rattle.choice.specs.Chain.{linkWord, bucketAt, Linked, Headed, Chained, Chains, ownWord, Relinked, Unlinked};
+ghost use Rattle.choice.specs.Keyed.{volumeWord, sameLeb};
+ghost use Rattle.choice.specs.Chain.{linkWord, bucketAt, Linked, Chained, Chains, ownWord, Unlinked};
 use crate::repeat::same_leb;
 
 // The bucket of a LEB: one of 128.

@@ -1,7 +1,4 @@
 -- `attach::attach_passed` meets its contract. Assumes nothing.
-use mathlib.Core.Path.{_≡_, refl, sym, ap, _∙_}
-use Prim.Native.Nat.{_≤_, _<_, _-_, _+_}
-use native.Mathlib.Omega.{arith}
 use borrow.Author.Needs.{needs}
 use Rattle.attach.proofs.Stages.{keyed, refused-linked, repeat-refusal, unused-refusal, linking, marked-tail, unlinked-tail, past-ten, ended-from}
 use Rattle.attach.proofs.attach_passed.Statement.{statement}

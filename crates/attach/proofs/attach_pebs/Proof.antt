@@ -1,7 +1,5 @@
 -- `attach::attach_pebs` meets its contract. Assumes nothing.
-use mathlib.Core.Path.{_≡_, refl, sym, ap, _∙_}
-use Prim.Native.Nat.{_≤_, _<_, _-_, _+_}
-use native.Mathlib.Omega.{arith}
+use mathlib.Core.Path.{refl}
 use borrow.Author.Needs.{needs}
 use Rattle.attach.proofs.Reports.{refused-ended}
 use Rattle.attach.proofs.Stages.{early-refusal, past-eight, ended-from}

@@ -1,7 +1,5 @@
 -- `attach::marking::choose_peb` meets its contract. Assumes nothing.
-use mathlib.Core.Path.{_≡_, refl, sym, ap, _∙_}
-use Prim.Native.Nat.{_≤_, _<_, _-_, _+_}
-use native.Mathlib.Omega.{arith}
+use mathlib.Core.Path.{refl, sym, _∙_}
 use borrow.Author.Needs.{needs}
 use Rattle.attach.proofs.Marks.{marked-other, marked-lower, marked-one}
 use Rattle.attach.proofs.marking.choose_peb.Statement.{statement}

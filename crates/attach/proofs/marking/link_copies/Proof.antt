@@ -1,7 +1,4 @@
 -- `attach::marking::link_copies` meets its contract. Assumes nothing.
-use mathlib.Core.Path.{_≡_, refl, sym, ap, _∙_}
-use Prim.Native.Nat.{_≤_, _<_, _-_, _+_}
-use native.Mathlib.Omega.{arith}
 use borrow.Author.Needs.{needs}
 use Rattle.attach.proofs.Marks.{no-heads, heads-from}
 use Rattle.attach.proofs.marking.link_copies.Statement.{statement}

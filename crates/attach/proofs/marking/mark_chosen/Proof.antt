@@ -1,9 +1,8 @@
 -- `attach::marking::mark_chosen` meets its contract: the LEBs of the PEBs passed have their chosen copies marked. Assumes nothing.
-use mathlib.Core.Path.{_≡_, refl, sym, ap, _∙_}
-use Prim.Native.Nat.{_≤_, _<_, _-_, _+_}
+use mathlib.Core.Path.{_≡_, refl, _∙_}
+use Prim.Native.Nat.{_≤_, _-_, _*_}
 use native.Mathlib.Omega.{arith}
 use borrow.Author.Needs.{needs}
-use Prim.Native.Nat.{_*_}
 use lib.ListN.{length, drop}
 use Rattle.attach.specs.Marking.{MarkedTo}
 use Rattle.attach.proofs.Marks.{marked-none, marked-all}

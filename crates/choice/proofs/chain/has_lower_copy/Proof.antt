@@ -1,9 +1,8 @@
 -- `choice::chain::has_lower_copy` meets its contract: no PEB from `at` on has the LEB. Assumes nothing.
-use mathlib.Core.Path.{_≡_, refl, sym, ap, _∙_}
-use Prim.Native.Nat.{_≤_, _<_, _-_, _+_}
+use mathlib.Core.Path.{_≡_, sym, _∙_}
+use Prim.Native.Nat.{_≤_, _<_, ℕ}
 use native.Mathlib.Omega.{arith}
 use borrow.Author.Needs.{needs}
-use Prim.Native.Nat.{ℕ}
 use mathlib.Core.Bool.{false}
 use Rattle.choice.specs.Keyed.{sameLeb}
 use Rattle.choice.proofs.Chains.{Along, along-from, along-next, walk-on, walk-end, other-leb}

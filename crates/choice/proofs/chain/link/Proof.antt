@@ -1,9 +1,7 @@
 -- `choice::chain::link` meets its contract. Assumes nothing.
-use mathlib.Core.Path.{_≡_, refl, sym, ap, _∙_}
-use Prim.Native.Nat.{_≤_, _<_, _-_, _+_}
+use Prim.Native.Nat.{_+_, _*_}
 use native.Mathlib.Omega.{arith}
 use borrow.Author.Needs.{needs}
-use Prim.Native.Nat.{_*_}
 use Rattle.choice.proofs.chain.link.Statement.{statement}
 use Rattle.choice.proofs.chain.link.Tie as tie
 use Rattle.choice.proofs.chain.link.Reads as reads

@@ -1,7 +1,4 @@
 -- `choice::chain::link_peb` meets its contract. Assumes nothing.
-use mathlib.Core.Path.{_≡_, refl, sym, ap, _∙_}
-use Prim.Native.Nat.{_≤_, _<_, _-_, _+_}
-use native.Mathlib.Omega.{arith}
 use borrow.Author.Needs.{needs}
 use Rattle.choice.proofs.Chains.{chain-other, chain-copy}
 use Rattle.choice.proofs.chain.link_peb.Statement.{statement}

@@ -1,8 +1,4 @@
 -- `choice::chain::own_word` meets its contract. Assumes nothing.
-use mathlib.Core.Path.{_≡_, refl, sym, ap, _∙_}
-use Prim.Native.Nat.{_≤_, _<_, _-_, _+_}
-use native.Mathlib.Omega.{arith}
-use borrow.Author.Needs.{needs}
 use borrow.Author.Tests.{eq-eqb, ne-eqb}
 use Rattle.choice.proofs.chain.own_word.Statement.{statement}
 use Rattle.choice.proofs.chain.own_word.Tie as tie

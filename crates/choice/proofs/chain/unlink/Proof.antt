@@ -1,9 +1,8 @@
 -- `choice::chain::unlink` meets its contract: the PEBs passed have their own number. Assumes nothing.
-use mathlib.Core.Path.{_≡_, refl, sym, ap, _∙_}
-use Prim.Native.Nat.{_≤_, _<_, _-_, _+_}
+use mathlib.Core.Path.{_≡_}
+use Prim.Native.Nat.{_≤_, _<_, _-_, ℕ}
 use native.Mathlib.Omega.{arith}
 use borrow.Author.Needs.{needs}
-use Prim.Native.Nat.{ℕ}
 use Rattle.choice.specs.Keyed.{volumeWord}
 use Rattle.choice.specs.Chain.{Relinked, linkWord, ownWord}
 use Rattle.choice.proofs.Chains.{relinked-none, unlink-more}

@@ -1,6 +1,4 @@
 -- `choice::chosen::highest_up_to` meets its contract: `best` is the highest of the PEBs from `at` on. Assumes nothing.
-use mathlib.Core.Path.{_≡_, refl, sym, ap, _∙_}
-use Prim.Native.Nat.{_≤_, _<_, _-_, _+_}
 use native.Mathlib.Omega.{arith}
 use borrow.Author.Needs.{needs}
 use Rattle.choice.specs.Keyed.{Highest}
