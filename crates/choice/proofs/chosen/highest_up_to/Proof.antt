@@ -2,7 +2,6 @@
 use native.Mathlib.Omega.{arith}
 use borrow.Author.Needs.{needs}
 use Rattle.choice.specs.Keyed.{Highest}
-use Rattle.choice.proofs.Words.{within}
 use Rattle.choice.proofs.Chains.{Along, along-next}
 use Rattle.choice.proofs.Best.{highest-none, highest-more, highest-all}
 use Rattle.choice.proofs.chosen.highest_up_to.Statement.{statement}
@@ -33,9 +32,7 @@ higher-requires c κs =
     (p .keyed, (p .below, (omega arith, l .1 .range)))
 
 link-requires : tie.Need-link-requires Inv-loop μ-loop
-link-requires c κs =
-    let r = c .before .before .loop .inv .0 .range in
-    within (c .before .before .before .before .before .pre .0 .keyed) (c .before .before .loop .j) (omega arith) .words
+link-requires c κs = let r = c .before .before .loop .inv .0 .range in search needs
 
 loop-less : tie.Need-loop-less Inv-loop μ-loop
 loop-less c = search needs

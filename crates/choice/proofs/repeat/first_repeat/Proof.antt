@@ -33,7 +33,7 @@ pebs-holds : tie.Need-pebs-holds Inv-loop μ-loop Inv-pebs μ-pebs
 pebs-holds c = (omega arith, λ k h. absurd (omega arith))
 
 link-requires : tie.Need-link-requires Inv-loop μ-loop Inv-pebs μ-pebs
-link-requires c κs = within (c .before .before .before .before .pre .0) (c .before .pebs .i) (omega arith) .words
+link-requires c κs = search needs
 
 loop-holds : tie.Need-loop-holds Inv-loop μ-loop Inv-pebs μ-pebs
 loop-holds c =
@@ -47,9 +47,7 @@ is-repeat-requires c κs =
     (within p (c .before .before .before .before .pebs .i) (omega arith), within p (c .before .loop .j) (omega arith))
 
 link-requires-2 : tie.Need-link-requires-2 Inv-loop μ-loop Inv-pebs μ-pebs
-link-requires-2 c κs =
-    let r = c .before .before .before .loop .inv .0 .range in
-    within (c .before .before .before .before .before .before .before .before .before .pre .0) (c .before .before .before .loop .j) (omega arith) .words
+link-requires-2 c κs = let r = c .before .before .before .loop .inv .0 .range in search needs
 
 loop-less : tie.Need-loop-less Inv-loop μ-loop Inv-pebs μ-pebs
 loop-less c = search needs
