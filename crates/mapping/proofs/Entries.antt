@@ -1,58 +1,37 @@
--- What the settled words come to: the report's classes and counters, and, sorted, the words of the map. Assumes nothing.
-use mathlib.Core.Path.{_≡_, refl, sym, ap, ap₂, _∙_, subst}
+-- What the settled words come to: the report's classes and counters, and, by way of the slots, the words of the map. Assumes nothing.
+use mathlib.Core.Path.{_≡_, refl, sym, ap, ap₂, _∙_}
 use mathlib.Core.Logic.{_⊎_, inl, inr, ⊎-elim}
-use mathlib.Core.Bool.{Bool, true, false, not, _&&_, _||_, cond, true≢false, false≢true, and-true, or-true}
+use mathlib.Core.Bool.{Bool, true, false, not, _&&_, _||_, cond, false≢true, and-true, or-true}
 use mathlib.Core.Option.{Option, none, some}
-use mathlib.Core.List.{List, [], _∷_, _++_, map, append-assoc, List·Memᴰ, List·Memᴰ·head, List·Memᴰ·tail, List·Memᴰ·cases-cons, List·Memᴰ·not-nil, Memᴰ·map, Memᴰ·of-map}
+use mathlib.Core.List.{List, [], _∷_, _++_, append-assoc, List·Memᴰ, List·Memᴰ·head, List·Memᴰ·not-nil, List·Memᴰ·eq-of-singleton}
 use Prim.Native.Nat.{ℕ, zero, suc, _+_, _*_, _-_, _≤_, _<_}
-use native.Mathlib.Nat.{add-zero}
 use native.Mathlib.Omega.{arith}
 use borrow.Author.Tests.{eq-eqb, ne-eqb, eqb-true, ltb-true, lt-ltb}
 use lib.Dec.{eqb, ltb}
-use lib.ListN.{length, drop, getD, List·getD-append, length-append}
-use lib.Seq.{getD-append-add}
+use lib.ListN.{length, take, drop, getD, replicate}
+use lib.Seq.{length-take-le, drop-drop}
 use Rattle.base.specs.Answers.{mapO}
-use Rattle.base.specs.Below.{concatBelow}
+use Rattle.base.specs.Below.{sumBelow, concatBelow}
 use Rattle.base.proofs.Answers.{and-left, and-right, or-true-cases}
-use Rattle.base.proofs.Below.{below-suc}
+use Rattle.base.specs.Lists.{part}
+use Rattle.base.proofs.Lists.{length-part}
+use Rattle.base.proofs.Rows.{rows-tail, row-word, row-first}
 use Rattle.geometry.specs.declared.Geometry.{Geometry}
 use Rattle.header.specs.Vid.{layoutVolume}
-use Rattle.report.specs.View.{
-  Copy,
-  EcView,
-  ecGood,
-  ecNewer,
-  ecBlank,
-  ecLost,
-  VidView,
-  vidGood,
-  vidNewer,
-  vidBlank,
-  vidBad,
-  View,
-  Views,
-  ecs,
-  copies,
-  goodVid,
-  isMappable,
-}
+use Rattle.report.specs.View.{Copy, EcView, ecGood, ecNewer, ecBlank, ecLost, VidView, vidGood, vidNewer, vidBlank, vidBad, Views, ecs, copies, goodVid, isMappable}
 use Rattle.report.specs.Choice.{chosen}
 use Rattle.report.specs.Volumes.{Places, placesOf, recordFor, reservedOf, Entry, mapUpTo, mapOf}
-use Rattle.report.specs.Report.{noWord, counterOr, isPlace, staysIn, classOf, records, places, entries, classAt, counterAt}
+use Rattle.report.specs.Report.{noWord, counterOr, isPlace, staysIn, classOf, places, entries, classAt, counterAt}
 use Rattle.report.specs.Attach.{entryWords, pebWords, mapWords}
-use Rattle.report.specs.Scratch.{keyWords, keysOf, markedClass, markedWords}
+use Rattle.report.specs.Scratch.{keyWords, markedClass}
 use Rattle.report.proofs.Choice.{chosen-at}
 use Rattle.report.proofs.First.{none-some}
-use Rattle.report.proofs.Map.{Listed, in-map, map-has, map-ascends, concat-cong}
-use Rattle.report.proofs.Map as maps
-use Rattle.base.proofs.Rows.{rows-tail, row-word, row-first}
+use Rattle.report.proofs.Map.{mem-concat, concat-mem, concat-cong, Ascending, Before, Listed, map-unique}
 use Rattle.report.proofs.Words.{key-length}
-use Rattle.triples.specs.Triples.{Triple, unused, tripleWords, tripleAt, triplesOf, sorted}
-use Rattle.triples.proofs.Laws.{length-triplesOf, triplesOf-at}
-use Rattle.triples.proofs.Sorted.{Used, Drawn, sorted-words}
-use Rattle.triples.proofs.Sorted as triples
 use Rattle.mapping.specs.Settle.{firstAt, secondAt, thirdAt, settledClass, settledTriple, pebRow, mapRow, Marked, Mapped}
-use Rattle.mapping.proofs.Laws.{map-row-length}
+use Rattle.mapping.specs.Slots.{firstSlots, slotOf, hasSlot, slotWord, Slots, inSlot, allEntries, Collected}
+use Rattle.mapping.proofs.Laws.{map-row-length, reserved-fit}
+use Rattle.mapping.proofs.SlotLaws.{HasSlot, slot-within, slot-apart, none-there, one-there, entries-from}
 
 -- ---- classes
 
@@ -77,46 +56,43 @@ class-is t ps i ecLost vidBlank = refl
 class-is t ps i e vidNewer = refl
 class-is t ps i e vidBad = refl
 
--- ---- triples
+-- ---- rows
 
-abbrev toTriple : Entry → Triple
-toTriple e = record { first = e .volume; second = e .lnum; third = e .peb }
+abbrev unused : List ℕ
+unused = noWord ∷ noWord ∷ noWord ∷ []
 
 abbrev keeps : List ℕ → Places → ℕ → Copy → Bool
 keeps t ps i c = isMappable (c .header .volume) && (isPlace (ps (c .header .volume) (c .header .lnum)) i && staysIn t (c .header .volume) (c .header .lnum))
 
--- the triple of a PEB that is in the map; else the unused one
-abbrev settledOf : List ℕ → Places → ℕ → VidView → Triple
-settledOf t ps i (vidGood c) = cond (keeps t ps i c) (record { first = c .header .volume; second = c .header .lnum; third = i }) unused
+-- the row of a PEB that is in the map; else the unused one
+abbrev settledOf : List ℕ → Places → ℕ → VidView → List ℕ
+settledOf t ps i (vidGood c) = cond (keeps t ps i c) (c .header .volume ∷ c .header .lnum ∷ i ∷ []) unused
 settledOf t ps i vidNewer = unused
 settledOf t ps i vidBlank = unused
 settledOf t ps i vidBad = unused
 
-abbrev ofWords : List ℕ → Triple
-ofWords w = record { first = getD w 0 0; second = getD w 1 0; third = getD w 2 0 }
-
-triple-is : (t : List ℕ) (ps : Places) (i : ℕ) (e : EcView) (v : VidView)
-    → ofWords (settledTriple t (markedClass ps i e v) (getD (keyWords i v) 0 0) (getD (keyWords i v) 1 0) (getD (keyWords i v) 2 0)) ≡ settledOf t ps i v
-triple-is t ps i e (vidGood c) =
+row-is : (t : List ℕ) (ps : Places) (i : ℕ) (e : EcView) (v : VidView)
+    → settledTriple t (markedClass ps i e v) (getD (keyWords i v) 0 0) (getD (keyWords i v) 1 0) (getD (keyWords i v) 2 0) ≡ settledOf t ps i v
+row-is t ps i e (vidGood c) =
     go (isMappable (c .header .volume)) (isPlace (ps (c .header .volume) (c .header .lnum)) i) (staysIn t (c .header .volume) (c .header .lnum)) (eqb (c .header .compat) 1) refl
   where
     words : Bool → List ℕ
     words m = cond m (c .header .volume ∷ c .header .lnum ∷ i ∷ []) (noWord ∷ noWord ∷ noWord ∷ [])
 
     go : (m p s k : Bool) → staysIn t (c .header .volume) (c .header .lnum) ≡ s
-        → ofWords (settledTriple t (cond m (cond p 1 2) (cond k 5 6)) (getD (words m) 0 0) (getD (words m) 1 0) (getD (words m) 2 0))
-        ≡ cond (m && (p && s)) (record { first = c .header .volume; second = c .header .lnum; third = i }) unused
+        → settledTriple t (cond m (cond p 1 2) (cond k 5 6)) (getD (words m) 0 0) (getD (words m) 1 0) (getD (words m) 2 0)
+        ≡ cond (m && (p && s)) (c .header .volume ∷ c .header .lnum ∷ i ∷ []) unused
     go true true true k q = rw q
     go true true false k q = rw q
     go true false s k q = refl
     go false p s true q = refl
     go false p s false q = refl
-triple-is t ps i (ecGood h) vidBlank = refl
-triple-is t ps i ecNewer vidBlank = refl
-triple-is t ps i ecBlank vidBlank = refl
-triple-is t ps i ecLost vidBlank = refl
-triple-is t ps i e vidNewer = refl
-triple-is t ps i e vidBad = refl
+row-is t ps i (ecGood h) vidBlank = refl
+row-is t ps i ecNewer vidBlank = refl
+row-is t ps i ecBlank vidBlank = refl
+row-is t ps i ecLost vidBlank = refl
+row-is t ps i e vidNewer = refl
+row-is t ps i e vidBad = refl
 
 -- ---- which PEBs are in the map
 
@@ -139,9 +115,6 @@ module _ (t : List ℕ) (n : ℕ) (vs : Views)
   abbrev ps : Places
   ps = placesOf n (copies vs)
 
-  abbrev es : List Entry
-  es = mapUpTo 128 2 t ps
-
   -- a PEB whose copy is in the map
   record Kept (i : ℕ) : Type 0 where
     copy : Copy
@@ -149,7 +122,7 @@ module _ (t : List ℕ) (n : ℕ) (vs : Views)
     mappable : isMappable (copy .header .volume) ≡ true
     place : ps (copy .header .volume) (copy .header .lnum) ≡ some i
     stays : staysIn t (copy .header .volume) (copy .header .lnum) ≡ true
-    triple : settledOf t ps i (vs i .vid) ≡ record { first = copy .header .volume; second = copy .header .lnum; third = i }
+    row : settledOf t ps i (vs i .vid) ≡ copy .header .volume ∷ copy .header .lnum ∷ i ∷ []
 
   kept-or-unused : (i : ℕ) → (settledOf t ps i (vs i .vid) ≡ unused) ⊎ Kept i
   kept-or-unused i = go (vs i .vid) refl
@@ -166,7 +139,7 @@ module _ (t : List ℕ) (n : ℕ) (vs : Views)
                 mappable = and-left (isMappable (c .header .volume)) _ b;
                 place = place-is _ i (and-left (isPlace (ps (c .header .volume) (c .header .lnum)) i) _ r);
                 stays = and-right (isPlace (ps (c .header .volume) (c .header .lnum)) i) _ r;
-                triple = rw (q, b);
+                row = rw (q, b);
               })
           at false b = inl (rw (q, b))
       go vidNewer q = inl (rw q)
@@ -185,7 +158,7 @@ module _ (t : List ℕ) (n : ℕ) (vs : Views)
     place = k .place;
   }
 
-  -- an entry of the map is the triple of its PEB
+  -- an entry of the map is the row of its PEB
   kept-by : (e : Entry) → Listed 128 2 t ps e → (isMappable (e .volume) && (isPlace (ps (e .volume) (e .lnum)) (e .peb) && staysIn t (e .volume) (e .lnum))) ≡ true
   kept-by e l =
       ⊎-elim
@@ -194,78 +167,133 @@ module _ (t : List ℕ) (n : ℕ) (vs : Views)
       (λ (h : (e .volume ≡ layoutVolume) × (e .lnum < 2)). rw (eq-eqb _ _ (h .0), l .place, eq-eqb (e .peb) (e .peb) refl) (and-true (ltb (e .volume) 128 || true) ∙ or-true (ltb (e .volume) 128)))
       (l .key)
 
-  cond-triple : (vol lnum peb v l : ℕ) → vol ≡ v → lnum ≡ l → (isMappable v && (isPlace (ps v l) peb && staysIn t v l)) ≡ true
-      → _≡_ {A = Triple} (cond (isMappable vol && (isPlace (ps vol lnum) peb && staysIn t vol lnum)) (record { first = vol; second = lnum; third = peb }) unused)
-      (record { first = v; second = l; third = peb })
-  cond-triple vol lnum peb v l p r k = rw (p, r, k)
+  cond-row : (vol lnum peb v l : ℕ) → vol ≡ v → lnum ≡ l → (isMappable v && (isPlace (ps v l) peb && staysIn t v l)) ≡ true
+      → cond (isMappable vol && (isPlace (ps vol lnum) peb && staysIn t vol lnum)) (vol ∷ lnum ∷ peb ∷ []) unused ≡ v ∷ l ∷ peb ∷ []
+  cond-row vol lnum peb v l p r k = rw (p, r, k)
 
-  found : (e : Entry) → Listed 128 2 t ps e → (e .peb < n) × (settledOf t ps (e .peb) (vs (e .peb) .vid) ≡ toTriple e)
+  found : (e : Entry) → Listed 128 2 t ps e → (e .peb < n) × (settledOf t ps (e .peb) (vs (e .peb) .vid) ≡ e .volume ∷ e .lnum ∷ e .peb ∷ [])
   unfolding placesOf
   found e l =
       let x = place-chosen (chosen n (copies vs) (e .volume) (e .lnum)) (e .peb) (l .place) in
       let a = chosen-at n (copies vs) (e .volume) (e .lnum) (e .peb) (x .0) (x .1) in (
         a .0,
         ap (settledOf t ps (e .peb)) (good-inv (vs (e .peb) .vid) (x .0) (a .1))
-            ∙ cond-triple (x .0 .header .volume) (x .0 .header .lnum) (e .peb) (e .volume) (e .lnum) (a .2) (a .3) (kept-by e l),
+            ∙ cond-row (x .0 .header .volume) (x .0 .header .lnum) (e .peb) (e .volume) (e .lnum) (a .2) (a .3) (kept-by e l),
       )
 
-  -- ---- the settled triples, sorted, are the map
+  volume-small : (v l : ℕ) → HasSlot t v l → v < noWord
+  volume-small v l (inl h) = omega arith
+  volume-small v l (inr h) = omega arith
 
-  ascends : (l : List Entry) → maps.Ascending maps.Before l → triples.Ascending (map toTriple l)
-  ascends [] h = tt
-  ascends (x ∷ l) h = (
-    λ y m. let r = Memᴰ·of-map toTriple l m in subst (triples.Before (toTriple x)) (r .2) (h .0 (r .0) (r .1)),
-    ascends l (h .1),
-  )
+  -- ---- fewer than two PEBs: the rows are the map as they stand
 
-  volume-small : (e : Entry) → Listed 128 2 t ps e → e .volume < 0xFFFFFFFF
-  volume-small e l =
-      ⊎-elim
-      (λ (h : (e .volume < 128) × (e .lnum < reservedOf (recordFor t (e .volume)))). omega arith)
-      (λ (h : (e .volume ≡ layoutVolume) × (e .lnum < 2)). omega arith)
-      (l .key)
+  -- the entry that a row stands for, if it is used
+  abbrev entryOf : (i : ℕ) → (settledOf t ps i (vs i .vid) ≡ unused) ⊎ Kept i → List Entry
+  entryOf i (inl q) = []
+  entryOf i (inr k) = record { volume = k .copy .header .volume; lnum = k .copy .header .lnum; peb = i } ∷ []
 
-  not-used : Used unused → ⊥
-  not-used h = omega arith
+  abbrev rowEntry : ℕ → List Entry
+  rowEntry i = entryOf i (kept-or-unused i)
 
-  module _ (l : List Triple) (len : length l ≡ n) (at : (i : ℕ) → i < n → getD l i unused ≡ settledOf t ps i (vs i .vid)) where
-    kept-at : (i : ℕ) → i < n → Used (getD l i unused) → Kept i
-    kept-at i h u =
+  entry-listed : (i : ℕ) (r : (settledOf t ps i (vs i .vid) ≡ unused) ⊎ Kept i) (e : Entry) → List·Memᴰ e (entryOf i r) → Listed 128 2 t ps e
+  entry-listed i (inl q) e m = absurd (List·Memᴰ·not-nil m)
+  entry-listed i (inr k) e m = rw (List·Memᴰ·eq-of-singleton m) (listed i k)
+
+  listed-entry : (e : Entry) → Listed 128 2 t ps e → settledOf t ps (e .peb) (vs (e .peb) .vid) ≡ e .volume ∷ e .lnum ∷ e .peb ∷ []
+      → (r : (settledOf t ps (e .peb) (vs (e .peb) .vid) ≡ unused) ⊎ Kept (e .peb)) → List·Memᴰ e (entryOf (e .peb) r)
+  listed-entry e l w (inl q) = let z : e .volume ≡ noWord = cc in absurd (omega (arith, volume-small (e .volume) (e .lnum) (l .key)))
+  listed-entry e l w (inr k) =
+      let q = sym w ∙ k .row in
+      List·Memᴰ·head (λ j. record { volume = getD (q j) 0 0; lnum = getD (q j) 1 0; peb = e .peb })
+
+  -- one row has no order
+  module _ (h : n < 2) where
+    ascends : (m : ℕ) → m < 2 → Ascending Before (concatBelow m rowEntry)
+    ascends zero k = tt
+    ascends (suc zero) k = one (kept-or-unused 0)
+      where
+        one : (r : (settledOf t ps 0 (vs 0 .vid) ≡ unused) ⊎ Kept 0) → Ascending Before (entryOf 0 r)
+        one (inl q) = tt
+        one (inr k) = (λ y m. absurd (List·Memᴰ·not-nil m), tt)
+    ascends (suc (suc m)) k = absurd (omega arith)
+
+    row-words : (m : ℕ) → m < 2 → concatBelow m (λ (i : ℕ). settledOf t ps i (vs i .vid))
+        ≡ entryWords (concatBelow m rowEntry) ++ replicate (m * 3 - length (entryWords (concatBelow m rowEntry))) noWord
+    row-words zero k = refl
+    row-words (suc zero) k = one (kept-or-unused 0)
+      where
+        one : (r : (settledOf t ps 0 (vs 0 .vid) ≡ unused) ⊎ Kept 0)
+            → settledOf t ps 0 (vs 0 .vid) ≡ entryWords (entryOf 0 r) ++ replicate (3 - length (entryWords (entryOf 0 r))) noWord
+        one (inl q) = q
+        one (inr k) = k .row
+    row-words (suc (suc m)) k = absurd (omega arith)
+
+    small : concatBelow n (λ (i : ℕ). settledOf t ps i (vs i .vid)) ≡ mapWords n (mapUpTo 128 2 t ps)
+    unfolding mapWords
+    small =
+        row-words n h
+        ∙ ap (λ (es : List Entry). entryWords es ++ replicate (n * 3 - length (entryWords es)) noWord)
+        (map-unique 128 2 t ps (omega arith) (concatBelow n rowEntry) (ascends n h)
+        (λ e m. let r = mem-concat n rowEntry e m in entry-listed (r .0) (kept-or-unused (r .0)) e (r .2))
+        (λ e l. let f = found e l in concat-mem n rowEntry e (e .peb) (f .0) (listed-entry e l (f .1) (kept-or-unused (e .peb)))))
+
+  -- ---- the rows in their slots
+
+  module _ (two : 2 ≤ n) (few : n ≤ 4096) (fits : (v : ℕ) → sumBelow v (λ (v : ℕ). reservedOf (recordFor t v)) ≤ n - 2) (rows : List ℕ)
+      (first : (i : ℕ) → i < n → firstAt 3 rows i ≡ getD (settledOf t ps i (vs i .vid)) 0 0)
+      (second : (i : ℕ) → i < n → secondAt 3 rows i ≡ getD (settledOf t ps i (vs i .vid)) 1 0) where
+    abbrev firsts : List ℕ
+    firsts = firstSlots n t
+
+    -- a row with a slot is that of a PEB in the map
+    holder : (i s : ℕ) → i < n → hasSlot firsts rows i s ≡ true → (k : Kept i) × (slotOf firsts (k .copy .header .volume) (k .copy .header .lnum) ≡ s)
+    holder i s h e =
         ⊎-elim
-        (λ (e : settledOf t ps i (vs i .vid) ≡ unused). absurd (not-used (subst Used (at i h ∙ e) u)))
-        (λ (k : Kept i). k)
+        (λ (q : settledOf t ps i (vs i .vid) ≡ unused).
+        absurd (false≢true (rw (first i h, q) at (and-left (not (eqb (firstAt 3 rows i) noWord)) (eqb (slotOf firsts (firstAt 3 rows i) (secondAt 3 rows i)) s) e))))
+        (λ (k : Kept i).
+        (k, rw (first i h, second i h, k .row) at (eqb-true _ s (and-right (not (eqb (firstAt 3 rows i) noWord)) (eqb (slotOf firsts (firstAt 3 rows i) (secondAt 3 rows i)) s) e))))
         (kept-or-unused i)
 
-    same-place : (i j : ℕ) (a : Kept i) (b : Kept j) → a .copy .header .volume ≡ b .copy .header .volume → a .copy .header .lnum ≡ b .copy .header .lnum → i ≡ j
-    same-place i j a b p q =
-        let z : some i ≡ some j = sym (a .place) ∙ ap₂ ps p q ∙ b .place in cc
+    -- so it is that of the PEB of the slot's LEB
+    placed : (v l i : ℕ) → HasSlot t v l → i < n → hasSlot firsts rows i (slotOf firsts v l) ≡ true → ps v l ≡ some i
+    placed v l i h b e =
+        let x = holder i (slotOf firsts v l) b e in
+        let k = x .0 in
+        let q = slot-apart n t two fits (k .copy .header .volume) (k .copy .header .lnum) v l (listed i k .key) h (x .1) in
+        ap₂ ps (sym (q .0)) (sym (q .1)) ∙ k .place
 
-    pub drawn : Drawn l (map toTriple es)
-    drawn = record {
-      ascending = ascends es (map-ascends 128 2 t ps (omega arith));
-      used = λ e m. let r = Memᴰ·of-map toTriple es m in subst Used (r .2) (volume-small (r .0) (in-map 128 2 t ps (r .0) (r .1)));
-      only = λ i h. ⊎-elim
-          (λ (q : settledOf t ps i (vs i .vid) ≡ unused). inl (at i (omega arith) ∙ q))
-          (λ (k : Kept i). inr (subst (λ (x : Triple). List·Memᴰ x (map toTriple es)) (sym (at i (omega arith) ∙ k .triple)) (Memᴰ·map toTriple (map-has 128 2 t ps _ (listed i k)))))
-          (kept-or-unused i);
-      all = λ e m.
-          let r = Memᴰ·of-map toTriple es m in
-          let f = found (r .0) (in-map 128 2 t ps (r .0) (r .1)) in
-          (r .0 .peb, omega (arith, f .0), at (r .0 .peb) (f .0) ∙ f .1 ∙ r .2);
-      apart = λ i j h k u w p q.
-          let a = kept-at i (omega arith) u in
-          let b = kept-at j (omega arith) w in
-          let x = at i (omega arith) ∙ a .triple in
-          let y = at j (omega arith) ∙ b .triple in
-          let s = same-place i j a b
-          (sym (ap (λ (z : Triple). z .first) x) ∙ p ∙ ap (λ (z : Triple). z .first) y)
-          (sym (ap (λ (z : Triple). z .second) x) ∙ q ∙ ap (λ (z : Triple). z .second) y) in
-          omega arith;
-    }
+    -- and the PEB of a LEB has its slot
+    has : (v l p : ℕ) → HasSlot t v l → ps v l ≡ some p → (p < n) × (hasSlot firsts rows p (slotOf firsts v l) ≡ true)
+    has v l p h e =
+        let f = found (record { volume = v; lnum = l; peb = p }) (record { key = h; place = e }) in
+        let ne : v ≡ noWord → ⊥ = λ q. omega (arith, volume-small v l h) in
+        (f .0, rw (first p (f .0), second p (f .0), f .1, ne-eqb v noWord ne, eq-eqb (slotOf firsts v l) (slotOf firsts v l) refl))
 
-entry-words : (l : List Entry) → tripleWords (map toTriple l) ≡ entryWords l
-entry-words [] = refl
-entry-words (e ∷ l) = rw (entry-words l)
+    -- what a slot holds is the place of its LEB
+    slot-holds : (m : List ℕ) → Slots n (slotWord firsts rows n) rows m → (v l : ℕ) → HasSlot t v l → inSlot m (slotOf firsts v l) ≡ ps v l
+    slot-holds m o v l h = go (ps v l) refl
+      where
+        word : thirdAt 3 m (slotOf firsts v l) ≡ slotWord firsts rows n (slotOf firsts v l)
+        word = o .third (slotOf firsts v l) (slot-within n t two fits v l h)
+
+        empty : ps v l ≡ none → (i : ℕ) → i < n → hasSlot firsts rows i (slotOf firsts v l) ≡ false
+        empty q i b = at (hasSlot firsts rows i (slotOf firsts v l)) refl
+          where
+            at : (x : Bool) → hasSlot firsts rows i (slotOf firsts v l) ≡ x → hasSlot firsts rows i (slotOf firsts v l) ≡ false
+            at true e = none-some (sym q ∙ placed v l i h b e)
+            at false e = e
+
+        go : (x : Option ℕ) → ps v l ≡ x → inSlot m (slotOf firsts v l) ≡ x
+        go none q = rw (eq-eqb _ _ (word ∙ none-there firsts rows (slotOf firsts v l) n (empty q)))
+        go (some p) q =
+            let a = has v l p h q in
+            let w = word ∙ one-there firsts rows (slotOf firsts v l) n p (a .0) (a .1) (λ i b e. let z : some i ≡ some p = sym (placed v l i h b e) ∙ q in cc) in
+            let ne : p ≡ noWord → ⊥ = λ y. omega (arith, a .0) in
+            rw (w, ne-eqb p noWord ne)
+
+    pub slots-are : (m : List ℕ) → Slots n (slotWord firsts rows n) rows m → allEntries firsts n m ≡ mapUpTo 128 2 t ps
+    slots-are m o = entries-from n t two fits m ps (slot-holds m o)
 
 -- ---- both tables
 
@@ -302,40 +330,51 @@ module _ (g : Geometry) (n : ℕ) (vs : Views) (t pebs map₀ : List ℕ) (o : M
     unfolding classAt counterAt
     peb-row = rw (class-word, counter-word, key-first, key-second, class-is t pl i (vs i .ec) (vs i .vid), o .table-is)
 
-    map-row : ofWords (mapRow t pebs map₀ i) ≡ settledOf t pl i (vs i .vid)
-    map-row = rw (class-word, key-first, key-second, key-third) (triple-is t pl i (vs i .ec) (vs i .vid))
+    map-row : mapRow t pebs map₀ i ≡ settledOf t pl i (vs i .vid)
+    map-row = rw (class-word, key-first, key-second, key-third) (row-is t pl i (vs i .ec) (vs i .vid))
 
   pub peb-words : concatBelow n (pebRow t pebs map₀) ≡ pebWords g n vs
   unfolding pebWords
   peb-words = concat-cong n _ _ peb-row
 
-  -- the settled rows, sorted
-  module _ (r : List ℕ) where
-    abbrev rows : List ℕ
-    rows = concatBelow n (mapRow t pebs map₀) ++ r
+  entries-are : mapWords n (mapUpTo 128 2 t pl) ≡ mapWords n (entries g n vs)
+  unfolding entries mapOf
+  entries-are = rw (o .table-is)
 
-    row-triple : (i : ℕ) → i < n → getD (triplesOf n rows) i unused ≡ settledOf t pl i (vs i .vid)
-    row-triple i h =
-        triplesOf-at n rows i unused h
-        ∙ (λ k. record {
-          first = row-first n 3 (mapRow t pebs map₀) r (map-row-length t pebs map₀) i h (omega arith) k;
-          second = row-word n 3 (mapRow t pebs map₀) r (map-row-length t pebs map₀) i 1 h (omega arith) k;
-          third = row-word n 3 (mapRow t pebs map₀) r (map-row-length t pebs map₀) i 2 h (omega arith) k;
-        })
-        ∙ map-row i h
+  -- settled
+  module _ {pebs′ map₁ : List ℕ} (p : pebs′ ≡ concatBelow n (pebRow t pebs map₀) ++ drop (n * 2) pebs)
+      (m : map₁ ≡ concatBelow n (mapRow t pebs map₀) ++ drop (n * 3) map₀) where
+    with-map : (map′ : List ℕ) → map′ ≡ mapWords n (mapUpTo 128 2 t pl) ++ drop (n * 3) map₀ → Mapped g n vs pebs pebs′ map₀ map′
+    with-map map′ e = record {
+      pebs-are = p ∙ ap (λ (x : List ℕ). x ++ drop (n * 2) pebs) peb-words;
+      map-is = e ∙ ap (λ (x : List ℕ). x ++ drop (n * 3) map₀) entries-are;
+    }
 
-    pub map-words : tripleWords (sorted (triplesOf n rows)) ≡ mapWords n (entries g n vs)
-    unfolding mapWords entries mapOf
-    map-words =
-        sorted-words n rows _ (drawn t n vs (o .layout-small) (triplesOf n rows) (length-triplesOf n rows) row-triple)
-        ∙ rw (entry-words (mapUpTo 128 2 t pl), o .table-is)
+    pub mapped-small : n < 2 → Mapped g n vs pebs pebs′ map₀ map₁
+    mapped-small h = with-map map₁ (m ∙ ap (λ (x : List ℕ). x ++ drop (n * 3) map₀) (concat-cong n _ _ map-row ∙ small t n vs (o .layout-small) h))
 
-  -- settled, then sorted
-  pub mapped : {pebs′ map₁ map′ : List ℕ} → pebs′ ≡ concatBelow n (pebRow t pebs map₀) ++ drop (n * 2) pebs
-      → map₁ ≡ concatBelow n (mapRow t pebs map₀) ++ drop (n * 3) map₀ → map′ ≡ tripleWords (sorted (triplesOf n map₁)) ++ drop (n * 3) map₁
-      → Mapped g n vs pebs pebs′ map₀ map′
-  mapped p m q = record {
-    pebs-are = p ∙ ap (λ (x : List ℕ). x ++ drop (n * 2) pebs) peb-words;
-    map-is = q ∙ ap (λ (x : List ℕ). tripleWords (sorted (triplesOf n x)) ++ drop (n * 3) x) m
-        ∙ ap₂ _++_ (map-words (drop (n * 3) map₀)) (rows-tail n n 3 (mapRow t pebs map₀) map₀ (map-row-length t pebs map₀) (omega arith));
-  }
+    -- through the slots, with the rows behind the last entry left unused
+    module _ (two : 2 ≤ n) (few : n ≤ 4096) (fs : List ℕ) (q : fs ≡ firstSlots n t) (k : ℕ) (map₂ map₃ w : List ℕ) (long : n * 3 ≤ length map₃)
+        (s : Slots n (slotWord fs map₁ n) map₁ map₂) (x : Collected (allEntries fs n map₂) 0 n k map₂ map₃) where
+      collected : take (k * 3) map₃ ≡ entryWords (mapUpTo 128 2 t pl)
+      collected =
+          x .words
+          ∙ ap entryWords
+          (ap (λ (f : List ℕ). allEntries f n map₂) q
+          ∙ slots-are t n vs (o .layout-small) two few (λ v. rw (o .table-is) (reserved-fit g n vs v)) map₁
+          (λ i h. rw m (row-first n 3 (mapRow t pebs map₀) (drop (n * 3) map₀) (map-row-length t pebs map₀) i h (omega arith) ∙ ap (λ (w : List ℕ). getD w 0 0) (map-row i h)))
+          (λ i h. rw m (row-word n 3 (mapRow t pebs map₀) (drop (n * 3) map₀) (map-row-length t pebs map₀) i 1 h (omega arith) ∙ ap (λ (w : List ℕ). getD w 1 0) (map-row i h)))
+          map₂ (rw q at s))
+
+      tail-is : drop (n * 3) map₃ ≡ drop (n * 3) map₀
+      tail-is = x .rest ∙ s .rest ∙ rw m (rows-tail n n 3 (mapRow t pebs map₀) map₀ (map-row-length t pebs map₀) (omega arith))
+
+      pub mapped : w ≡ replicate (length (part (k * 3) (n * 3 - k * 3) map₃)) noWord
+          → Mapped g n vs pebs pebs′ map₀ (take (k * 3) map₃ ++ (w ++ drop (n * 3 - k * 3) (drop (k * 3) map₃)))
+      unfolding mapWords
+      mapped e =
+          let b : k * 3 + (n * 3 - k * 3) ≡ n * 3 = omega (arith, x .within) in
+          let l : k * 3 ≡ length (entryWords (mapUpTo 128 2 t pl)) = sym (length-take-le (k * 3) map₃ (omega (arith, x .within))) ∙ ap length collected in
+          with-map _
+          (rw (e, length-part (k * 3) (n * 3 - k * 3) map₃ (omega (arith, b)), drop-drop (n * 3 - k * 3) (k * 3) map₃, b, tail-is, collected, l)
+          (sym (append-assoc (entryWords (mapUpTo 128 2 t pl)) _ (drop (n * 3) map₀))))
