@@ -1,7 +1,7 @@
 -- What the settled words come to: the report's classes and counters, and, by way of the slots, the words of the map. Assumes nothing.
 use mathlib.Core.Path.{_≡_, refl, sym, ap, ap₂, _∙_}
 use mathlib.Core.Logic.{_⊎_, inl, inr, ⊎-elim}
-use mathlib.Core.Bool.{Bool, true, false, not, _&&_, _||_, cond, false≢true, and-true, or-true}
+use mathlib.Core.Bool.{Bool, true, false, not, cond, false≢true, or-true}
 use mathlib.Core.Option.{Option, none, some}
 use mathlib.Core.List.{List, [], _∷_, _++_, append-assoc, List·Memᴰ, List·Memᴰ·head, List·Memᴰ·not-nil, List·Memᴰ·eq-of-singleton}
 use Prim.Native.Nat.{ℕ, zero, suc, _+_, _*_, _-_, _≤_, _<_}
@@ -56,44 +56,6 @@ class-is t ps i ecLost vidBlank = refl
 class-is t ps i e vidNewer = refl
 class-is t ps i e vidBad = refl
 
--- ---- rows
-
-abbrev unused : List ℕ
-unused = noWord ∷ noWord ∷ noWord ∷ []
-
-abbrev keeps : List ℕ → Places → ℕ → Copy → Bool
-keeps t ps i c = isMappable (c .header .volume) && (isPlace (ps (c .header .volume) (c .header .lnum)) i && staysIn t (c .header .volume) (c .header .lnum))
-
--- the row of a PEB that is in the map; else the unused one
-abbrev settledOf : List ℕ → Places → ℕ → VidView → List ℕ
-settledOf t ps i (vidGood c) = cond (keeps t ps i c) (c .header .volume ∷ c .header .lnum ∷ i ∷ []) unused
-settledOf t ps i vidNewer = unused
-settledOf t ps i vidBlank = unused
-settledOf t ps i vidBad = unused
-
-row-is : (t : List ℕ) (ps : Places) (i : ℕ) (e : EcView) (v : VidView)
-    → settledTriple t (markedClass ps i e v) (getD (keyWords i v) 0 0) (getD (keyWords i v) 1 0) (getD (keyWords i v) 2 0) ≡ settledOf t ps i v
-row-is t ps i e (vidGood c) =
-    go (isMappable (c .header .volume)) (isPlace (ps (c .header .volume) (c .header .lnum)) i) (staysIn t (c .header .volume) (c .header .lnum)) (eqb (c .header .compat) 1) refl
-  where
-    words : Bool → List ℕ
-    words m = cond m (c .header .volume ∷ c .header .lnum ∷ i ∷ []) (noWord ∷ noWord ∷ noWord ∷ [])
-
-    go : (m p s k : Bool) → staysIn t (c .header .volume) (c .header .lnum) ≡ s
-        → settledTriple t (cond m (cond p 1 2) (cond k 5 6)) (getD (words m) 0 0) (getD (words m) 1 0) (getD (words m) 2 0)
-        ≡ cond (m && (p && s)) (c .header .volume ∷ c .header .lnum ∷ i ∷ []) unused
-    go true true true k q = rw q
-    go true true false k q = rw q
-    go true false s k q = refl
-    go false p s true q = refl
-    go false p s false q = refl
-row-is t ps i (ecGood h) vidBlank = refl
-row-is t ps i ecNewer vidBlank = refl
-row-is t ps i ecBlank vidBlank = refl
-row-is t ps i ecLost vidBlank = refl
-row-is t ps i e vidNewer = refl
-row-is t ps i e vidBad = refl
-
 -- ---- which PEBs are in the map
 
 pub place-is : (x : Option ℕ) (i : ℕ) → isPlace x i ≡ true → x ≡ some i
@@ -110,10 +72,20 @@ good-inv vidNewer c e = none-some e
 good-inv vidBlank c e = none-some e
 good-inv vidBad c e = none-some e
 
+abbrev unused : List ℕ
+unused = noWord ∷ noWord ∷ noWord ∷ []
+
 module _ (t : List ℕ) (n : ℕ) (vs : Views)
     (layout-small : (i : ℕ) (c : Copy) → copies vs i ≡ some c → c .header .volume ≡ layoutVolume → c .header .lnum < 2) where
   abbrev ps : Places
   ps = placesOf n (copies vs)
+
+  -- the row of a PEB once it is settled
+  abbrev rowWith : ℕ → EcView → VidView → List ℕ
+  rowWith i e v = settledTriple t (markedClass ps i e v) (getD (keyWords i v) 0 0) (getD (keyWords i v) 1 0) (getD (keyWords i v) 2 0)
+
+  abbrev rowOf : ℕ → List ℕ
+  rowOf i = rowWith i (vs i .ec) (vs i .vid)
 
   -- a PEB whose copy is in the map
   record Kept (i : ℕ) : Type 0 where
@@ -122,29 +94,31 @@ module _ (t : List ℕ) (n : ℕ) (vs : Views)
     mappable : isMappable (copy .header .volume) ≡ true
     place : ps (copy .header .volume) (copy .header .lnum) ≡ some i
     stays : staysIn t (copy .header .volume) (copy .header .lnum) ≡ true
-    row : settledOf t ps i (vs i .vid) ≡ copy .header .volume ∷ copy .header .lnum ∷ i ∷ []
+    row : rowOf i ≡ copy .header .volume ∷ copy .header .lnum ∷ i ∷ []
 
-  kept-or-unused : (i : ℕ) → (settledOf t ps i (vs i .vid) ≡ unused) ⊎ Kept i
-  kept-or-unused i = go (vs i .vid) refl
+  kept-or-unused : (i : ℕ) → (rowOf i ≡ unused) ⊎ Kept i
+  kept-or-unused i = go (vs i .ec) (vs i .vid) refl refl
     where
-      go : (v : VidView) → vs i .vid ≡ v → (settledOf t ps i (vs i .vid) ≡ unused) ⊎ Kept i
-      go (vidGood c) q = at (keeps t ps i c) refl
+      aside : (k : Bool) → settledTriple t (cond k 5 6) noWord noWord noWord ≡ unused
+      aside true = refl
+      aside false = refl
+
+      go : (e : EcView) (v : VidView) → vs i .ec ≡ e → vs i .vid ≡ v → (rowOf i ≡ unused) ⊎ Kept i
+      go e (vidGood c) p q =
+          at (isMappable (c .header .volume)) refl (isPlace (ps (c .header .volume) (c .header .lnum)) i) refl (staysIn t (c .header .volume) (c .header .lnum)) refl
         where
-          at : (b : Bool) → keeps t ps i c ≡ b → (settledOf t ps i (vs i .vid) ≡ unused) ⊎ Kept i
-          at true b =
-              let r = and-right (isMappable (c .header .volume)) _ b in
-              inr (record {
-                copy = c;
-                is = ap goodVid q;
-                mappable = and-left (isMappable (c .header .volume)) _ b;
-                place = place-is _ i (and-left (isPlace (ps (c .header .volume) (c .header .lnum)) i) _ r);
-                stays = and-right (isPlace (ps (c .header .volume) (c .header .lnum)) i) _ r;
-                row = rw (q, b);
-              })
-          at false b = inl (rw (q, b))
-      go vidNewer q = inl (rw q)
-      go vidBlank q = inl (rw q)
-      go vidBad q = inl (rw q)
+          at : (m : Bool) → isMappable (c .header .volume) ≡ m → (b : Bool) → isPlace (ps (c .header .volume) (c .header .lnum)) i ≡ b
+              → (s : Bool) → staysIn t (c .header .volume) (c .header .lnum) ≡ s → (rowOf i ≡ unused) ⊎ Kept i
+          at true x true y true z = inr (record { copy = c; is = ap goodVid q; mappable = x; place = place-is _ i y; stays = z; row = rw (q, x, y, z) })
+          at true x true y false z = inl (rw (q, x, y, z))
+          at true x false y s z = inl (rw (q, x, y))
+          at false x b y s z = inl (rw (q, x) (aside (eqb (c .header .compat) 1)))
+      go (ecGood h) vidBlank p q = inl (rw (p, q))
+      go ecNewer vidBlank p q = inl (rw (p, q))
+      go ecBlank vidBlank p q = inl (rw (p, q))
+      go ecLost vidBlank p q = inl (rw (p, q))
+      go e vidNewer p q = inl (rw q)
+      go e vidBad p q = inl (rw q)
 
   listed : (i : ℕ) → (k : Kept i) → Listed 128 2 t ps (record { volume = k .copy .header .volume; lnum = k .copy .header .lnum; peb = i })
   listed i k = record {
@@ -159,26 +133,22 @@ module _ (t : List ℕ) (n : ℕ) (vs : Views)
   }
 
   -- an entry of the map is the row of its PEB
-  kept-by : (e : Entry) → Listed 128 2 t ps e → (isMappable (e .volume) && (isPlace (ps (e .volume) (e .lnum)) (e .peb) && staysIn t (e .volume) (e .lnum))) ≡ true
-  kept-by e l =
-      ⊎-elim
-      (λ (h : (e .volume < 128) × (e .lnum < reservedOf (recordFor t (e .volume)))).
-      rw (lt-ltb _ _ (h .0), l .place, eq-eqb (e .peb) (e .peb) refl, lt-ltb _ _ (h .1)) (or-true (eqb (e .volume) layoutVolume)))
-      (λ (h : (e .volume ≡ layoutVolume) × (e .lnum < 2)). rw (eq-eqb _ _ (h .0), l .place, eq-eqb (e .peb) (e .peb) refl) (and-true (ltb (e .volume) 128 || true) ∙ or-true (ltb (e .volume) 128)))
-      (l .key)
+  entry-row : (c : Copy) (e : EcView) (p v l : ℕ) → c .header .volume ≡ v → c .header .lnum ≡ l → ps v l ≡ some p
+      → isMappable v ≡ true → staysIn t v l ≡ true → rowWith p e (vidGood c) ≡ v ∷ l ∷ p ∷ []
+  entry-row c e p v l a b q m s = rw (a, b, m, q, eq-eqb p p refl, s)
 
-  cond-row : (vol lnum peb v l : ℕ) → vol ≡ v → lnum ≡ l → (isMappable v && (isPlace (ps v l) peb && staysIn t v l)) ≡ true
-      → cond (isMappable vol && (isPlace (ps vol lnum) peb && staysIn t vol lnum)) (vol ∷ lnum ∷ peb ∷ []) unused ≡ v ∷ l ∷ peb ∷ []
-  cond-row vol lnum peb v l p r k = rw (p, r, k)
+  maps-stays : (v l : ℕ) → HasSlot t v l → (isMappable v ≡ true) × (staysIn t v l ≡ true)
+  maps-stays v l (inl h) = (rw (lt-ltb _ _ (h .0)), rw (lt-ltb _ _ (h .1)) (or-true (eqb v layoutVolume)))
+  maps-stays v l (inr h) = (rw (eq-eqb _ _ (h .0)) (or-true (ltb v 128)), rw (eq-eqb _ _ (h .0)))
 
-  found : (e : Entry) → Listed 128 2 t ps e → (e .peb < n) × (settledOf t ps (e .peb) (vs (e .peb) .vid) ≡ e .volume ∷ e .lnum ∷ e .peb ∷ [])
+  found : (e : Entry) → Listed 128 2 t ps e → (e .peb < n) × (rowOf (e .peb) ≡ e .volume ∷ e .lnum ∷ e .peb ∷ [])
   unfolding placesOf
   found e l =
       let x = place-chosen (chosen n (copies vs) (e .volume) (e .lnum)) (e .peb) (l .place) in
-      let a = chosen-at n (copies vs) (e .volume) (e .lnum) (e .peb) (x .0) (x .1) in (
+      let a = chosen-at n (copies vs) (e .volume) (e .lnum) (e .peb) (x .0) (x .1) in
+      let m = maps-stays (e .volume) (e .lnum) (l .key) in (
         a .0,
-        ap (settledOf t ps (e .peb)) (good-inv (vs (e .peb) .vid) (x .0) (a .1))
-            ∙ cond-row (x .0 .header .volume) (x .0 .header .lnum) (e .peb) (e .volume) (e .lnum) (a .2) (a .3) (kept-by e l),
+        rw (good-inv (vs (e .peb) .vid) (x .0) (a .1)) (entry-row (x .0) (vs (e .peb) .ec) (e .peb) (e .volume) (e .lnum) (a .2) (a .3) (l .place) (m .0) (m .1)),
       )
 
   volume-small : (v l : ℕ) → HasSlot t v l → v < noWord
@@ -188,19 +158,19 @@ module _ (t : List ℕ) (n : ℕ) (vs : Views)
   -- ---- fewer than two PEBs: the rows are the map as they stand
 
   -- the entry that a row stands for, if it is used
-  abbrev entryOf : (i : ℕ) → (settledOf t ps i (vs i .vid) ≡ unused) ⊎ Kept i → List Entry
+  abbrev entryOf : (i : ℕ) → (rowOf i ≡ unused) ⊎ Kept i → List Entry
   entryOf i (inl q) = []
   entryOf i (inr k) = record { volume = k .copy .header .volume; lnum = k .copy .header .lnum; peb = i } ∷ []
 
   abbrev rowEntry : ℕ → List Entry
   rowEntry i = entryOf i (kept-or-unused i)
 
-  entry-listed : (i : ℕ) (r : (settledOf t ps i (vs i .vid) ≡ unused) ⊎ Kept i) (e : Entry) → List·Memᴰ e (entryOf i r) → Listed 128 2 t ps e
+  entry-listed : (i : ℕ) (r : (rowOf i ≡ unused) ⊎ Kept i) (e : Entry) → List·Memᴰ e (entryOf i r) → Listed 128 2 t ps e
   entry-listed i (inl q) e m = absurd (List·Memᴰ·not-nil m)
   entry-listed i (inr k) e m = rw (List·Memᴰ·eq-of-singleton m) (listed i k)
 
-  listed-entry : (e : Entry) → Listed 128 2 t ps e → settledOf t ps (e .peb) (vs (e .peb) .vid) ≡ e .volume ∷ e .lnum ∷ e .peb ∷ []
-      → (r : (settledOf t ps (e .peb) (vs (e .peb) .vid) ≡ unused) ⊎ Kept (e .peb)) → List·Memᴰ e (entryOf (e .peb) r)
+  listed-entry : (e : Entry) → Listed 128 2 t ps e → rowOf (e .peb) ≡ e .volume ∷ e .lnum ∷ e .peb ∷ []
+      → (r : (rowOf (e .peb) ≡ unused) ⊎ Kept (e .peb)) → List·Memᴰ e (entryOf (e .peb) r)
   listed-entry e l w (inl q) = let z : e .volume ≡ noWord = cc in absurd (omega (arith, volume-small (e .volume) (e .lnum) (l .key)))
   listed-entry e l w (inr k) =
       let q = sym w ∙ k .row in
@@ -212,23 +182,23 @@ module _ (t : List ℕ) (n : ℕ) (vs : Views)
     ascends zero k = tt
     ascends (suc zero) k = one (kept-or-unused 0)
       where
-        one : (r : (settledOf t ps 0 (vs 0 .vid) ≡ unused) ⊎ Kept 0) → Ascending Before (entryOf 0 r)
+        one : (r : (rowOf 0 ≡ unused) ⊎ Kept 0) → Ascending Before (entryOf 0 r)
         one (inl q) = tt
         one (inr k) = (λ y m. absurd (List·Memᴰ·not-nil m), tt)
     ascends (suc (suc m)) k = absurd (omega arith)
 
-    row-words : (m : ℕ) → m < 2 → concatBelow m (λ (i : ℕ). settledOf t ps i (vs i .vid))
+    row-words : (m : ℕ) → m < 2 → concatBelow m rowOf
         ≡ entryWords (concatBelow m rowEntry) ++ replicate (m * 3 - length (entryWords (concatBelow m rowEntry))) noWord
     row-words zero k = refl
     row-words (suc zero) k = one (kept-or-unused 0)
       where
-        one : (r : (settledOf t ps 0 (vs 0 .vid) ≡ unused) ⊎ Kept 0)
-            → settledOf t ps 0 (vs 0 .vid) ≡ entryWords (entryOf 0 r) ++ replicate (3 - length (entryWords (entryOf 0 r))) noWord
+        one : (r : (rowOf 0 ≡ unused) ⊎ Kept 0)
+            → rowOf 0 ≡ entryWords (entryOf 0 r) ++ replicate (3 - length (entryWords (entryOf 0 r))) noWord
         one (inl q) = q
         one (inr k) = k .row
     row-words (suc (suc m)) k = absurd (omega arith)
 
-    small : concatBelow n (λ (i : ℕ). settledOf t ps i (vs i .vid)) ≡ mapWords n (mapUpTo 128 2 t ps)
+    small : concatBelow n rowOf ≡ mapWords n (mapUpTo 128 2 t ps)
     unfolding mapWords
     small =
         row-words n h
@@ -240,8 +210,8 @@ module _ (t : List ℕ) (n : ℕ) (vs : Views)
   -- ---- the rows in their slots
 
   module _ (two : 2 ≤ n) (few : n ≤ 4096) (fits : (v : ℕ) → sumBelow v (λ (v : ℕ). reservedOf (recordFor t v)) ≤ n - 2) (rows : List ℕ)
-      (first : (i : ℕ) → i < n → firstAt 3 rows i ≡ getD (settledOf t ps i (vs i .vid)) 0 0)
-      (second : (i : ℕ) → i < n → secondAt 3 rows i ≡ getD (settledOf t ps i (vs i .vid)) 1 0) where
+      (first : (i : ℕ) → i < n → firstAt 3 rows i ≡ getD (rowOf i) 0 0)
+      (second : (i : ℕ) → i < n → secondAt 3 rows i ≡ getD (rowOf i) 1 0) where
     abbrev firsts : List ℕ
     firsts = firstSlots n t
 
@@ -249,7 +219,7 @@ module _ (t : List ℕ) (n : ℕ) (vs : Views)
     holder : (i s : ℕ) → i < n → hasSlot firsts rows i s ≡ true → (k : Kept i) × (slotOf firsts (k .copy .header .volume) (k .copy .header .lnum) ≡ s)
     holder i s h e =
         ⊎-elim
-        (λ (q : settledOf t ps i (vs i .vid) ≡ unused).
+        (λ (q : rowOf i ≡ unused).
         absurd (false≢true (rw (first i h, q) at (and-left (not (eqb (firstAt 3 rows i) noWord)) (eqb (slotOf firsts (firstAt 3 rows i) (secondAt 3 rows i)) s) e))))
         (λ (k : Kept i).
         (k, rw (first i h, second i h, k .row) at (eqb-true _ s (and-right (not (eqb (firstAt 3 rows i) noWord)) (eqb (slotOf firsts (firstAt 3 rows i) (secondAt 3 rows i)) s) e))))
@@ -330,8 +300,8 @@ module _ (g : Geometry) (n : ℕ) (vs : Views) (t pebs map₀ : List ℕ) (o : M
     unfolding classAt counterAt
     peb-row = rw (class-word, counter-word, key-first, key-second, class-is t pl i (vs i .ec) (vs i .vid), o .table-is)
 
-    map-row : mapRow t pebs map₀ i ≡ settledOf t pl i (vs i .vid)
-    map-row = rw (class-word, key-first, key-second, key-third) (row-is t pl i (vs i .ec) (vs i .vid))
+    map-row : mapRow t pebs map₀ i ≡ rowOf t n vs (o .layout-small) i
+    map-row = rw (class-word, key-first, key-second, key-third)
 
   pub peb-words : concatBelow n (pebRow t pebs map₀) ≡ pebWords g n vs
   unfolding pebWords
