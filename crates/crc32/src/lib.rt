@@ -28,7 +28,7 @@ pub fn update(state: u32, bytes: &[u8]) -> u32
     by_length(&TABLE, state, bytes)
 }
 
-// The second table is copied too, which pays only on a long slice.
+// A long slice pays for the copy of a second table.
 fn by_length(t: &[u32; 2048], state: u32, bytes: &[u8]) -> u32
     requires { ⌜ now t ≡ crcRows 0 ⌝ }
     ensures { λ r. ⌜ r ≡ crcFrom state (now (bytes .entry)) ⌝ }
@@ -36,6 +36,14 @@ fn by_length(t: &[u32; 2048], state: u32, bytes: &[u8]) -> u32
     if bytes.len() < 256 {
         return by_words(t, state, bytes);
     }
+    by_both(t, state, bytes)
+}
+
+// A function of its own: the copy is made where a function begins, and a short slice must not wait for it.
+fn by_both(t: &[u32; 2048], state: u32, bytes: &[u8]) -> u32
+    requires { ⌜ (now t ≡ crcRows 0) × (24 ≤ length (now bytes)) ⌝ }
+    ensures { λ r. ⌜ r ≡ crcFrom state (now (bytes .entry)) ⌝ }
+{
     by_lanes(t, &AHEAD, state, bytes)
 }
 
