@@ -27,7 +27,7 @@ pub record Nearest (map : List ℕ) (b m w : ℕ) : Type 0 where
 abbrev pub Linked : ℕ → List ℕ → Type 0
 Linked m map = (i : ℕ) → i < m → (volumeWord map i ≡ noWord → ⊥) → Nearest map (bucketAt map i) i (linkWord map i)
 
--- and each bucket's head is the nearest below m
+-- each bucket's head is the nearest below m
 abbrev pub Headed : ℕ → List ℕ → List ℕ → Type 0
 Headed m map heads = (b : ℕ) → b < 128 → Nearest map b m (getD heads b 0)
 
@@ -39,14 +39,14 @@ pub record Chained (n m : ℕ) (map heads : List ℕ) : Type 0 where
   pub links : Linked m map
   pub tops : Headed m map heads
 
--- the words with other links: volumes and LEBs, and the words beyond n PEBs, are the same
+-- map′ has other links than map: the volumes, the LEBs and the words beyond n PEBs are the same
 pub record Relinked (n : ℕ) (map map′ : List ℕ) : Type 0 where
   pub size : length map′ ≡ length map
   pub volumes : (i : ℕ) → volumeWord map′ i ≡ volumeWord map i
   pub lebs : (i : ℕ) → lebWord map′ i ≡ lebWord map i
   pub tail : drop (n * 3) map′ ≡ drop (n * 3) map
 
--- and other heads
+-- map′ and heads′ link the first m of n PEBs, and are otherwise as map and heads
 pub record Chains (n m : ℕ) (map map′ heads heads′ : List ℕ) : Type 0 where
   pub chained : Chained n m map′ heads′
   pub relinked : Relinked n map map′
@@ -57,7 +57,7 @@ pub record Chains (n m : ℕ) (map map′ heads heads′ : List ℕ) : Type 0 wh
 abbrev pub ownWord : ℕ → ℕ → ℕ
 ownWord v i = cond (eqb v noWord) noWord i
 
--- the words without links
+-- map′ is map without links
 pub record Unlinked (n : ℕ) (map map′ : List ℕ) : Type 0 where
   pub relinked : Relinked n map map′
   pub owns : (i : ℕ) → i < n → linkWord map′ i ≡ ownWord (volumeWord map i) i

@@ -63,13 +63,13 @@ pub fn has_lower_copy(map: &[u32], n: usize, i: usize) -> bool
     requires { ⌜ (i < n) × ((n * 3 ≤ length (now map)) × ((Linked n (now map)) × (volumeWord (now map) i ≡ noWord → ⊥))) ⌝ }
     ensures { λ r. ⌜ r ≡ anyBelow i (sameLeb (now (map .entry)) i) ⌝ }
 {
-    let mut at = i;
+    let mut above = i;
     let mut j = link(map, i);
-    while j < at {
+    while j < above {
         if same_leb(map, i, j) {
             return true;
         }
-        at = j;
+        above = j;
         j = link(map, j);
     }
     false

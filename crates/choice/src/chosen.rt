@@ -59,11 +59,11 @@ fn highest_up_to(
     ensures { λ r. ⌜ Highest g (now (image .entry)) n (now (map .entry)) i most 0 r ⌝ }
 {
     let mut best = n;
-    let mut at = n;
+    let mut above = n;
     let mut j = top;
-    while j < at {
+    while j < above {
         best = higher(image, g, n, map, i, most, best, j);
-        at = j;
+        above = j;
         j = link(map, j);
     }
     best

@@ -18,13 +18,13 @@ pub fn first_repeat(image: &[u8], g: Geometry, n: usize, map: &[u32]) -> usize
 {
     let mut i: usize = 0;
     'pebs: while i < n {
-        let mut at = i;
+        let mut above = i;
         let mut j = link(map, i);
-        while j < at {
+        while j < above {
             if is_repeat(image, g, map, i, j) {
                 break 'pebs;
             }
-            at = j;
+            above = j;
             j = link(map, j);
         }
         i += 1;

@@ -1,4 +1,4 @@
--- `choice::chain::has_lower_copy` meets its contract: no PEB from `at` on has the LEB. Assumes nothing.
+-- `choice::chain::has_lower_copy` meets its contract: no PEB from `above` on has the LEB. Assumes nothing.
 use mathlib.Core.Path.{_≡_, sym, _∙_}
 use Prim.Native.Nat.{_≤_, _<_, ℕ}
 use native.Mathlib.Omega.{arith}
@@ -15,10 +15,10 @@ use Rattle.choice.proofs.chain.link.Reads as link-reads
 use Rattle.choice.proofs.repeat.same_leb.Reads as same-leb-reads
 
 abbrev Inv-loop : tie.InvT-loop
-Inv-loop map n i at₀ j₀ at j = (Along map i i at j) × ((k : ℕ) → at ≤ k → k < i → sameLeb map i k ≡ false)
+Inv-loop map n i above₀ j₀ above j = (Along map i i above j) × ((k : ℕ) → above ≤ k → k < i → sameLeb map i k ≡ false)
 
 abbrev μ-loop : tie.MeasureT-loop
-μ-loop map n i at₀ j₀ at j = at
+μ-loop map n i above₀ j₀ above j = above
 
 link-requires : tie.Need-link-requires Inv-loop μ-loop
 link-requires c κs = search needs

@@ -1,4 +1,4 @@
--- `choice::chosen::highest_up_to` meets its contract: `best` is the highest of the PEBs from `at` on. Assumes nothing.
+-- `choice::chosen::highest_up_to` meets its contract: `best` is the highest of the PEBs from `above` on. Assumes nothing.
 use native.Mathlib.Omega.{arith}
 use borrow.Author.Needs.{needs}
 use Rattle.choice.specs.Keyed.{Highest}
@@ -12,10 +12,10 @@ use Rattle.choice.proofs.chain.link.Reads as link-reads
 use Rattle.choice.proofs.chosen.higher.Reads as higher-reads
 
 abbrev Inv-loop : tie.InvT-loop
-Inv-loop image g n map i top most best₀ at₀ j₀ best at j = (Along map i n at j) × Highest g image n map i most at best
+Inv-loop image g n map i top most best₀ above₀ j₀ best above j = (Along map i n above j) × Highest g image n map i most above best
 
 abbrev μ-loop : tie.MeasureT-loop
-μ-loop image g n map i top most best₀ at₀ j₀ best at j = at
+μ-loop image g n map i top most best₀ above₀ j₀ best above j = above
 
 loop-holds : tie.Need-loop-holds Inv-loop μ-loop
 loop-holds c =
@@ -44,7 +44,7 @@ loop-again c =
     let l = c .before .before .before .loop in (
       rw (c .link .ensures) (along-next (l .inv .0) (d .pre .1 .0) (omega arith) (omega arith)),
       rw (c .before .higher .ensures)
-          (highest-more (a .g) (a .image .now) (a .n) (a .map .now) (a .i) (a .most) (d .pre .0 .holds) (l .at) (l .j) (l .best) (l .inv .0) (l .inv .1) (omega arith)),
+          (highest-more (a .g) (a .image .now) (a .n) (a .map .now) (a .i) (a .most) (d .pre .0 .holds) (l .above) (l .j) (l .best) (l .inv .0) (l .inv .1) (omega arith)),
     )
 
 returns : tie.Need-returns Inv-loop μ-loop
@@ -52,7 +52,7 @@ returns c =
     let d = c .before .before .before .before in
     let a = d .args in
     let l = c .before .loop in
-    highest-all (a .g) (a .image .now) (a .n) (a .map .now) (a .i) (a .most) (d .pre .0 .holds) (l .at) (l .j) (l .best) (l .inv .0) (l .inv .1) (omega arith)
+    highest-all (a .g) (a .image .now) (a .n) (a .map .now) (a .i) (a .most) (d .pre .0 .holds) (l .above) (l .j) (l .best) (l .inv .0) (l .inv .1) (omega arith)
 
 pub highest-up-to-spec : {M : Type 1} → statement M
 highest-up-to-spec =

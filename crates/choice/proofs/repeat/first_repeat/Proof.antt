@@ -18,10 +18,10 @@ use Rattle.choice.proofs.chain.link.Reads as link-reads
 use Rattle.choice.proofs.repeat.is_repeat.Reads as is-repeat-reads
 
 abbrev Inv-loop : tie.InvT-loop
-Inv-loop image g n map i at₀ j₀ at j = (Along map i i at j) × ((m : ℕ) → at ≤ m → m < i → repeats (copies (viewsOf g image) i) (copies (viewsOf g image) m) ≡ false)
+Inv-loop image g n map i above₀ j₀ above j = (Along map i i above j) × ((m : ℕ) → above ≤ m → m < i → repeats (copies (viewsOf g image) i) (copies (viewsOf g image) m) ≡ false)
 
 abbrev μ-loop : tie.MeasureT-loop
-μ-loop image g n map i at₀ j₀ at j = at
+μ-loop image g n map i above₀ j₀ above j = above
 
 abbrev Inv-pebs : tie.InvT-pebs
 Inv-pebs image g n map i₀ i = (i ≤ n) × ((k : ℕ) → k < i → Fresh n (copies (viewsOf g image)) k)
