@@ -16,7 +16,7 @@ use Rattle.report.specs.View.{viewsOf, copies}
 use Rattle.report.specs.Choice.{repeats}
 use Rattle.report.specs.Report.{noWord}
 use Rattle.choice.specs.Keyed.{Keyed, volumeWord, lebWord, sameLeb}
-use Rattle.choice.specs.Chain.{linkWord, bucketAt, Nearest, Linked, Chained, Relinked, Chains, ownWord}
+use Rattle.choice.specs.Chain.{linkWord, bucketAt, Nearest, Link, Linked, Chained, Relinked, Chains, ownWord}
 use Rattle.choice.proofs.Words.{not-so, same-true, repeat-words}
 
 -- ---- who is in a bucket
@@ -152,7 +152,7 @@ module _ {n i : ℕ} {map heads : List ℕ} (h : i < n) (o : Chained n i map hea
       few = o .few;
       long-map = o .long-map;
       long-heads = o .long-heads;
-      links = one-more (λ (k : ℕ). (volumeWord map k ≡ noWord → ⊥) → Nearest map (bucketAt map k) k (linkWord map k)) i (o .links) (λ z. absurd (z e));
+      links = one-more (Link map) i (o .links) (λ z. absurd (z e));
       tops = λ b l. nearest-past (let f = o .few in omega arith) (λ (z : bucketAt map i ≡ b). let y = no-bucket map i e in omega arith) (o .tops b l);
     };
     relinked = relinked-none n map;
@@ -176,7 +176,7 @@ module _ {n i : ℕ} {map heads : List ℕ} (h : i < n) (o : Chained n i map hea
     b-small : b₀ < 128
     b-small = mod-lt (lebWord map i) (omega arith)
 
-    linked : (k : ℕ) → k < i → (volumeWord map₁ k ≡ noWord → ⊥) → Nearest map₁ (bucketAt map₁ k) k (linkWord map₁ k)
+    linked : Linked i map₁
     linked k l z =
         rw (same-buckets r₁ k, getD-set-other map (i * 3 + 2) (k * 3 + 2) (getD heads b₀ 0) 0 (λ e. omega arith))
         (nearest-same r₁ (o .links k l (λ (y : volumeWord map k ≡ noWord). z (r₁ .volumes k ∙ y))))
@@ -200,7 +200,7 @@ module _ {n i : ℕ} {map heads : List ℕ} (h : i < n) (o : Chained n i map hea
         few = o .few;
         long-map = let l = o .long-map in let e = r₁ .size in omega arith;
         long-heads = let l = o .long-heads in let e = length-set heads b₀ i in omega arith;
-        links = one-more (λ (k : ℕ). (volumeWord map₁ k ≡ noWord → ⊥) → Nearest map₁ (bucketAt map₁ k) k (linkWord map₁ k)) i linked (λ z. linked-one);
+        links = one-more (Link map₁) i linked (λ z. linked-one);
         tops = λ b l. nearest-same r₁ (topped b l (eq-or-ne b b₀));
       };
       relinked = r₁;

@@ -23,9 +23,12 @@ pub record Nearest (map : List ℕ) (b m w : ℕ) : Type 0 where
   pub none : m ≤ w → w ≡ noWord
   pub skips : (k : ℕ) → k < m → bucketAt map k ≡ b → (w < m) × (k ≤ w)
 
--- each of the first m PEBs that is in a bucket is linked to the nearest below it
+-- PEB i, if it is in a bucket, is linked to the nearest below it; and so is each of the first m PEBs
+abbrev pub Link : List ℕ → ℕ → Type 0
+Link map i = (volumeWord map i ≡ noWord → ⊥) → Nearest map (bucketAt map i) i (linkWord map i)
+
 abbrev pub Linked : ℕ → List ℕ → Type 0
-Linked m map = (i : ℕ) → i < m → (volumeWord map i ≡ noWord → ⊥) → Nearest map (bucketAt map i) i (linkWord map i)
+Linked m map = (i : ℕ) → i < m → Link map i
 
 -- each bucket's head is the nearest below m
 abbrev pub Headed : ℕ → List ℕ → List ℕ → Type 0
