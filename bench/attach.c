@@ -1,5 +1,6 @@
 /* Time of the proved attach on two synthetic chips, beside the CRC of the bytes that attaching must checksum alone, and
-   beside a plain C attach with zlib that fills the same tables. */
+   beside a plain C attach with zlib that fills the same tables. Plain C judges refusal 9 in two ways: by two nested loops over
+   the copies, as the rules word it, and in the sorted copies. */
 #include <stdint.h>
 #include <stdio.h>
 #include <stdlib.h>
@@ -166,6 +167,7 @@ struct attaching {
     uint32_t image_seq;   /* of the first of them */
     uint64_t counters;    /* their sum */
     int used;             /* some PEB is neither free nor blank */
+    int by_sort;          /* refusal 9 is judged in the sorted copies */
     const uint8_t *table; /* the records taken */
     struct report report;
 };
@@ -323,7 +325,7 @@ static uint32_t pass_peb(struct attaching *a, uint32_t peb)
 
 /* ---- Plain C: which copy counts ---- */
 
-/* the first copy that repeats an earlier one, or the count */
+/* the lowest PEB that repeats the copy in a lower one, or NONE */
 static uint32_t first_repeat(const struct attaching *a)
 {
     const uint32_t *map = a->map;
@@ -331,8 +333,8 @@ static uint32_t first_repeat(const struct attaching *a)
         for (uint32_t j = 0; j < i; j++)
             if (map[3 * i + 1] == map[3 * j + 1] && map[3 * i] == map[3 * j] &&
                 copies[i].sequence == copies[j].sequence)
-                return i;
-    return a->count;
+                return copies[i].peb;
+    return NONE;
 }
 
 static int crc_right(const struct attaching *a, const struct copy *c)
@@ -341,7 +343,7 @@ static int crc_right(const struct attaching *a, const struct copy *c)
     return checksum(data, c->data_size) == c->data_crc;
 }
 
-/* by volume and LEB, and the newest first */
+/* by volume and LEB, the newest first, of repeats the lowest PEB */
 static int compare(const void *left, const void *right)
 {
     const struct copy *a = left, *b = right;
@@ -349,12 +351,24 @@ static int compare(const void *left, const void *right)
         return a->volume < b->volume ? -1 : 1;
     if (a->leb != b->leb)
         return a->leb < b->leb ? -1 : 1;
-    return a->sequence > b->sequence ? -1 : a->sequence < b->sequence;
+    if (a->sequence != b->sequence)
+        return a->sequence > b->sequence ? -1 : 1;
+    return a->peb < b->peb ? -1 : 1;
 }
 
 static int same_leb(const struct copy *a, const struct copy *b)
 {
     return a->volume == b->volume && a->leb == b->leb;
+}
+
+/* the same as first_repeat, once the copies are sorted */
+static uint32_t first_repeat_sorted(const struct attaching *a)
+{
+    uint32_t least = NONE;
+    for (uint32_t k = 1; k < a->count; k++)
+        if (same_leb(&copies[k - 1], &copies[k]) && copies[k - 1].sequence == copies[k].sequence && copies[k].peb < least)
+            least = copies[k].peb;
+    return least;
 }
 
 /* of a LEB's copies, the newest first, the one that counts; the last does if no other does, so it is not checksummed */
@@ -365,11 +379,10 @@ static const struct copy *best(const struct attaching *a, const struct copy *c, 
     return c;
 }
 
-/* from all copies to the chosen ones */
+/* from all copies, sorted, to the chosen ones */
 static void choose(struct attaching *a)
 {
     uint32_t chosen = 0, end;
-    qsort(copies, a->count, sizeof *copies, compare);
     for (uint32_t first = 0; first < a->count; first = end) {
         end = first + 1;
         while (end < a->count && same_leb(&copies[end], &copies[first]))
@@ -587,9 +600,12 @@ static uint32_t attach_pebs(struct attaching *a, uint32_t *place)
         if (refusal != 0)
             return refusal;
     }
-    uint32_t at = first_repeat(a);
-    *place = at < a->count ? copies[at].peb : 0;
-    if (at < a->count)
+    uint32_t at = a->by_sort ? NONE : first_repeat(a);
+    qsort(copies, a->count, sizeof *copies, compare);
+    if (a->by_sort)
+        at = first_repeat_sorted(a);
+    *place = at == NONE ? 0 : at;
+    if (at != NONE)
         return 9;
     if (!a->used)
         return 10;
@@ -612,9 +628,9 @@ static struct report refused(uint32_t number, uint32_t place)
 }
 
 static struct report plain_attach(const uint8_t *slip, size_t slip_len, const uint8_t *image, size_t image_len,
-                                  const struct tables *lent)
+                                  const struct tables *lent, int by_sort)
 {
-    struct attaching a = { .image = image, .pebs = lent->pebs, .map = lent->map, .states = lent->states };
+    struct attaching a = { .image = image, .pebs = lent->pebs, .map = lent->map, .states = lent->states, .by_sort = by_sort };
     uint32_t place, refusal = read_slip(slip, slip_len, &a.g);
     if (refusal != 0)
         return refused(refusal, 0);
@@ -833,11 +849,21 @@ static uint32_t proved_attach_job(struct bench *b)
                                   t->map, t->map_len, t->states, t->states_len);
 }
 
-static uint32_t plain_attach_job(struct bench *b)
+static uint32_t plain_job(struct bench *b, int by_sort)
 {
     const struct chip *c = b->chip;
-    b->report = plain_attach(c->slip, SLIP, c->image, (size_t)c->peb_count * c->peb_size, &b->plain);
+    b->report = plain_attach(c->slip, SLIP, c->image, (size_t)c->peb_count * c->peb_size, &b->plain, by_sort);
     return b->report.refusal ? REFUSED + b->report.refusal : b->report.grade;
+}
+
+static uint32_t plain_attach_job(struct bench *b)
+{
+    return plain_job(b, 0);
+}
+
+static uint32_t sorted_attach_job(struct bench *b)
+{
+    return plain_job(b, 1);
 }
 
 /* all checksums in one word, so that none can be left out */
@@ -884,19 +910,11 @@ static int same_words(const char *name, const uint32_t *ours, const uint32_t *th
     return 1;
 }
 
-/* both attach, with the same answer and the same words, and the checksums of all runs are the same */
-static int agree(struct bench *b)
+/* both attach, with the same answer and the same words */
+static int same_report(struct bench *b, uint32_t ours, uint32_t theirs)
 {
-    uint32_t ours = proved_attach_job(b);
-    noting = &b->runs;
-    uint32_t theirs = plain_attach_job(b);
-    noting = NULL;
     if (ours != theirs || ours >= REFUSED) {
         printf("%s: proved answers %u, plain C %u\n", ours != theirs ? "differ" : "refused", ours, theirs);
-        return 0;
-    }
-    if (proved_crc_job(b) != zlib_job(b)) {
-        printf("differ: checksums\n");
         return 0;
     }
     return same_words("pebs", b->proved.pebs, b->plain.pebs, b->plain.pebs_len) &&
@@ -904,10 +922,28 @@ static int agree(struct bench *b)
            same_words("states", b->proved.states, b->plain.states, b->plain.states_len);
 }
 
+/* all attach alike, and the checksums of all runs are the same */
+static int agree(struct bench *b)
+{
+    uint32_t ours = proved_attach_job(b);
+    if (!same_report(b, ours, sorted_attach_job(b)))
+        return 0;
+    noting = &b->runs;
+    uint32_t theirs = plain_attach_job(b);
+    noting = NULL;
+    if (!same_report(b, ours, theirs))
+        return 0;
+    if (proved_crc_job(b) != zlib_job(b)) {
+        printf("differ: checksums\n");
+        return 0;
+    }
+    return 1;
+}
+
 static void measure(struct bench *b)
 {
-    double proved = 1e9, proved_crc = 1e9, plain = 1e9, zlib_alone = 1e9;
-    uint32_t grade_proved, grade_plain, sum_proved, sum_zlib;
+    double proved = 1e9, proved_crc = 1e9, plain = 1e9, sorted = 1e9, zlib_alone = 1e9;
+    uint32_t grade_proved, grade_plain, grade_sorted, sum_proved, sum_zlib;
     size_t bytes = 0;
     for (size_t i = 0; i < b->runs.count; i++)
         bytes += b->runs.list[i].len;
@@ -915,9 +951,10 @@ static void measure(struct bench *b)
         timed(proved_attach_job, b, &proved, &grade_proved);
         timed(proved_crc_job, b, &proved_crc, &sum_proved);
         timed(plain_attach_job, b, &plain, &grade_plain);
+        timed(sorted_attach_job, b, &sorted, &grade_sorted);
         timed(zlib_job, b, &zlib_alone, &sum_zlib);
     }
-    if (grade_proved != grade_plain || sum_proved != sum_zlib)
+    if (grade_proved != grade_plain || grade_proved != grade_sorted || sum_proved != sum_zlib)
         stop("differ: answers of the last round");
     printf("%s: %u PEBs, entries %u mean %u highest %llu grade %u\n", b->chip->name, b->report.peb_count,
            b->report.entries, b->report.mean, (unsigned long long)b->report.highest, grade_proved);
@@ -925,9 +962,11 @@ static void measure(struct bench *b)
     printf("  proved attach       %9.3f ms\n", proved * 1e3);
     printf("  proved CRC alone    %9.3f ms\n", proved_crc * 1e3);
     printf("  plain C attach      %9.3f ms\n", plain * 1e3);
+    printf("  .. 9 by the sort    %9.3f ms\n", sorted * 1e3);
     printf("  zlib alone          %9.3f ms\n", zlib_alone * 1e3);
     printf("  proved attach / proved CRC alone  %6.2f\n", proved / proved_crc);
     printf("  proved attach / plain C attach    %6.2f\n", proved / plain);
+    printf("  proved attach / .. 9 by the sort  %6.2f\n", proved / sorted);
 }
 
 static int bench_chip(struct chip *c)
