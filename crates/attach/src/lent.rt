@@ -6,18 +6,6 @@ ghost use lib.ListN.{length, drop, replicate};
 ghost use Rattle.report.specs.Report.{noWord};
 use report::Attached;
 
-// The first n words are set to 0xFFFFFFFF; the others stay.
-pub fn fill_words(words: &mut [u32], n: usize)
-    requires { ⌜ n ≤ length (now words) ⌝ }
-    ensures { λ _. ⌜ now (words .exit) ≡ replicate n noWord ++ drop n (now (words .entry)) ⌝ }
-{
-    let mut i: usize = 0;
-    while i < n {
-        words[i] = 0xFFFFFFFF;
-        i += 1;
-    }
-}
-
 // A refusal 5 to 12: all needed words are filled.
 pub fn refuse(
     number: u32,
@@ -33,8 +21,8 @@ pub fn refuse(
     ensures map { λ _. ⌜ now (map .exit) ≡ replicate (n * 3) noWord ++ drop (n * 3) (now (map .entry)) ⌝ }
     ensures states { λ _. ⌜ now (states .exit) ≡ replicate 128 noWord ++ drop 128 (now (states .entry)) ⌝ }
 {
-    fill_words(pebs, n * 2);
-    fill_words(map, n * 3);
-    fill_words(states, 128);
+    scan::fill_words(pebs, n * 2);
+    scan::fill_words(map, n * 3);
+    scan::fill_words(states, 128);
     Attached::Refused { number, place }
 }

@@ -9,7 +9,6 @@ ghost use Rattle.report.specs.Scratch.{markedWords};
 ghost use Rattle.scan.specs.Pass.{firstWords};
 ghost use Rattle.choice.specs.Chain.{Chains};
 ghost use Rattle.attach.specs.Marking.{Linking, MarkedTo};
-use crate::lent::fill_words;
 use geometry::Geometry;
 
 // The copies are linked. The first 128 state words are free until the report is done, and hold the buckets' heads.
@@ -17,7 +16,7 @@ pub fn link_copies(n: usize, map: &mut [u32], states: &mut [u32])
     requires { ⌜ (n ≤ 4096) × ((n * 3 ≤ length (now map)) × (128 ≤ length (now states))) ⌝ }
     ensures { λ _. ⌜ Chains n n (now (map .entry)) (now (map .exit)) (now (states .entry)) (now (states .exit)) ⌝ }
 {
-    fill_words(states, 128);
+    scan::fill_words(states, 128);
     choice::link_copies(map, states, n)
 }
 

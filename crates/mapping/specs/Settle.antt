@@ -1,7 +1,7 @@
 -- What the contracts here cite: the words of a PEB once the table is known. No public promise names them. Assumes nothing.
 use mathlib.Core.Path.{_≡_}
 use Prim.Native.Nat.{ℕ, _+_, _*_, _<_}
-use mathlib.Core.Bool.{_&&_, cond}
+use mathlib.Core.Bool.{cond}
 use mathlib.Core.List.{List, [], _∷_, _++_}
 use mathlib.Core.Option.{some}
 use lib.Dec.{eqb}
@@ -27,20 +27,19 @@ thirdAt w words i = getD words (i * w + 2) 0
 abbrev pub settledClass : List ℕ → ℕ → ℕ → ℕ → ℕ
 settledClass t k v l = cond (eqb k 1) (cond (staysIn t v l) 1 5) k
 
--- class and counter, settled
-abbrev pub settledPair : List ℕ → ℕ → ℕ → ℕ → ℕ → List ℕ
-settledPair t k counter v l = settledClass t k v l ∷ counter ∷ []
+-- volume and LEB where the settled class is 1; the third word is an empty slot
+abbrev pub settledKey : ℕ → ℕ → ℕ → List ℕ
+settledKey k v l = cond (eqb k 1) v noWord ∷ cond (eqb k 1) l noWord ∷ noWord ∷ []
 
--- volume, LEB and PEB of a chosen copy that stays in the map; else no words
-abbrev pub settledTriple : List ℕ → ℕ → ℕ → ℕ → ℕ → List ℕ
-settledTriple t k v l p = cond (eqb k 1 && staysIn t v l) (v ∷ l ∷ p ∷ []) (noWord ∷ noWord ∷ noWord ∷ [])
+-- the class of PEB i, and its words, settled
+abbrev pub classFrom : List ℕ → List ℕ → List ℕ → ℕ → ℕ
+classFrom t pebs map i = settledClass t (firstAt 2 pebs i) (firstAt 3 map i) (secondAt 3 map i)
 
--- the words of PEB i, settled
 abbrev pub pebRow : List ℕ → List ℕ → List ℕ → ℕ → List ℕ
-pebRow t pebs map i = settledPair t (firstAt 2 pebs i) (secondAt 2 pebs i) (firstAt 3 map i) (secondAt 3 map i)
+pebRow t pebs map i = classFrom t pebs map i ∷ secondAt 2 pebs i ∷ []
 
 abbrev pub mapRow : List ℕ → List ℕ → List ℕ → ℕ → List ℕ
-mapRow t pebs map i = settledTriple t (firstAt 2 pebs i) (firstAt 3 map i) (secondAt 3 map i) (thirdAt 3 map i)
+mapRow t pebs map i = settledKey (classFrom t pebs map i) (firstAt 3 map i) (secondAt 3 map i)
 
 -- the words once the copies are chosen: marked classes with counters, keys of all copies; and the records of the table taken
 pub record Marked (g : Geometry) (n : ℕ) (vs : Views) (t pebs map : List ℕ) : Type 0 where

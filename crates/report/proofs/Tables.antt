@@ -192,7 +192,7 @@ module _ (size unit pebs : ℕ) (copy0 copy1 : List ℕ) where
         go false q e = none-some e
 
     -- volumes reserve no more than the PEBs beside the layout volume's two
-    reserved-sum : (k : ℕ) → sumBelow k (λ v. reservedOf (recordFor t v)) ≤ pebs - 2
+    pub reserved-sum : (k : ℕ) → sumBelow k (λ v. reservedOf (recordFor t v)) ≤ pebs - 2
     reserved-sum k =
         simp (reserved-is)
         (omega (

@@ -9,6 +9,7 @@ use header::VidHeader;
 pub use peb::see_ec;
 pub use peb::see_vid;
 pub use run::pass;
+pub use words::fill_words;
 pub use words::store_pair;
 pub use words::store_triple;
 

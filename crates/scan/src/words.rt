@@ -1,10 +1,10 @@
 // The words that a PEB is given in the lent tables before any copy is chosen.
 ghost use mathlib.Core.Path.{_≡_};
 ghost use mathlib.Core.Bool.{_||_};
-ghost use mathlib.Core.List.{List, [], _∷_};
+ghost use mathlib.Core.List.{List, [], _∷_, _++_};
 ghost use Prim.Native.Nat.{ℕ, _+_, _*_, _≤_, _<_};
 ghost use lib.Dec.{eqb};
-ghost use lib.ListN.{length};
+ghost use lib.ListN.{length, drop, replicate};
 ghost use Rattle.base.specs.Lists.{put};
 ghost use Rattle.geometry.specs.declared.Geometry.{Geometry};
 ghost use Rattle.report.specs.View.{goodEc, vidBlank};
@@ -71,6 +71,18 @@ pub fn counter_word(e: EcSeen) -> u32
         EcSeen::Newer => return 0xFFFFFFFF,
         EcSeen::Blank => return 0xFFFFFFFF,
         EcSeen::Lost => return 0xFFFFFFFF,
+    }
+}
+
+// The first n words are set to 0xFFFFFFFF; the others stay.
+pub fn fill_words(words: &mut [u32], n: usize)
+    requires { ⌜ n ≤ length (now words) ⌝ }
+    ensures { λ _. ⌜ now (words .exit) ≡ replicate n noWord ++ drop n (now (words .entry)) ⌝ }
+{
+    let mut i: usize = 0;
+    while i < n {
+        words[i] = 0xFFFFFFFF;
+        i += 1;
     }
 }
 

@@ -8,7 +8,6 @@ use Rattle.attach.proofs.lent.refuse.Statement.{statement}
 use Rattle.attach.proofs.lent.refuse.Tie as tie
 use Rattle.attach.proofs.lent.refuse.Reads as reads
 use Rattle.attach.proofs.lent.refuse.Lts as lts
-use Rattle.attach.proofs.lent.fill_words.Reads as fill-words-reads
 
 mul-fill-words : tie.Need-mul-fill-words
 mul-fill-words c = search needs

@@ -5,7 +5,6 @@ use Rattle.attach.proofs.marking.link_copies.Statement.{statement}
 use Rattle.attach.proofs.marking.link_copies.Tie as tie
 use Rattle.attach.proofs.marking.link_copies.Reads as reads
 use Rattle.attach.proofs.marking.link_copies.Lts as lts
-use Rattle.attach.proofs.lent.fill_words.Reads as fill-words-reads
 use Rattle.choice.proofs.link_copies.Reads as link-copies-reads
 
 fill-words-requires : tie.Need-fill-words-requires

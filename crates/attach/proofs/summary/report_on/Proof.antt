@@ -23,7 +23,7 @@ use Rattle.volumes.proofs.fill_states.Reads as fill-states-reads
 make-map-requires : tie.Need-make-map-requires
 make-map-requires c κs =
     let r = c .before .before .before .before .before .before .before .pre .past10 .room in
-    (whole-records (c .before .before .before .before .before .before .before .pre), (r .few, (r .long-pebs, r .long-map)))
+    (whole-records (c .before .before .before .before .before .before .before .pre), ((r .least, r .few), (r .long-pebs, r .long-map)))
 
 count-entries-requires : tie.Need-count-entries-requires
 count-entries-requires c κs = search needs

@@ -1,16 +1,14 @@
--- `attach::lent::fill_words` meets its contract: after i turns the first i words are set. Assumes nothing.
-use mathlib.Core.Path.{_≡_, refl, sym, ap, _∙_}
-use Prim.Native.Nat.{_≤_, _<_, _-_, _+_}
+-- `scan::words::fill_words` meets its contract: after i turns the first i words are set. Assumes nothing.
+use mathlib.Core.Path.{_≡_}
+use Prim.Native.Nat.{_≤_, _-_, _+_}
 use native.Mathlib.Omega.{arith}
 use borrow.Author.Needs.{needs}
 use mathlib.Core.List.{_++_}
 use borrow.Author.Fill.{fill-more}
 use lib.ListN.{length, length-set, drop, replicate}
 use Rattle.report.specs.Report.{noWord}
-use Rattle.attach.proofs.lent.fill_words.Statement.{statement}
-use Rattle.attach.proofs.lent.fill_words.Tie as tie
-use Rattle.attach.proofs.lent.fill_words.Reads as reads
-use Rattle.attach.proofs.lent.fill_words.Lts as lts
+use Rattle.scan.proofs.words.fill_words.Statement.{statement}
+use Rattle.scan.proofs.words.fill_words.Tie as tie
 
 abbrev Inv-loop : tie.InvT-loop
 Inv-loop words₀ n i₀ words i = (i ≤ n) × ((length words ≡ length words₀) × (words ≡ replicate i noWord ++ drop i words₀))
