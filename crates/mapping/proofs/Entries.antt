@@ -1,7 +1,7 @@
 -- What the settled words come to: the report's classes and counters, and, by way of the slots, the words of the map. Assumes nothing.
 use mathlib.Core.Path.{_≡_, refl, sym, ap, ap₂, _∙_}
 use mathlib.Core.Logic.{_⊎_, inl, inr, ⊎-elim}
-use mathlib.Core.Bool.{Bool, true, false, not, cond, false≢true, or-true}
+use mathlib.Core.Bool.{Bool, true, false, cond, false≢true, or-true}
 use mathlib.Core.Option.{Option, none, some}
 use mathlib.Core.List.{List, [], _∷_, _++_, append-assoc, append-nil}
 use Prim.Native.Nat.{ℕ, _+_, _*_, _-_, _≤_, _<_}
@@ -13,7 +13,7 @@ use lib.Seq.{length-take-le, drop-drop}
 use Rattle.base.specs.Answers.{mapO}
 use Rattle.base.specs.Lists.{part}
 use Rattle.base.specs.Below.{sumBelow, concatBelow}
-use Rattle.base.proofs.Answers.{and-left, and-right, or-true-cases}
+use Rattle.base.proofs.Answers.{or-true-cases}
 use Rattle.base.proofs.Lists.{length-part}
 use Rattle.base.proofs.Rows.{rows-tail, row-word, row-first}
 use Rattle.geometry.specs.declared.Geometry.{Geometry}
@@ -29,7 +29,7 @@ use Rattle.report.proofs.First.{none-some}
 use Rattle.report.proofs.Map.{concat-cong}
 use Rattle.report.proofs.Words.{key-length}
 use Rattle.mapping.specs.Settle.{firstAt, secondAt, thirdAt, settledClass, settledKey, classFrom, pebRow, mapRow, Marked, Mapped}
-use Rattle.mapping.specs.Slots.{firstSlots, slotOf, hasSlot, slotWord, Slots, inSlot, allEntries, Collected}
+use Rattle.mapping.specs.Slots.{firstSlots, slotOf, rowSlot, slotWord, Slots, inSlot, allEntries, Collected}
 use Rattle.mapping.proofs.Laws.{reserved-fit}
 use Rattle.mapping.proofs.SlotLaws.{HasSlot, slot-within, slot-apart, none-there, one-there, entries-from}
 
@@ -132,62 +132,57 @@ module _ (t : List ℕ) (n : ℕ) (vs : Views)
       go vidBad q = inl (row i h ∙ rw q (none-of false))
 
   -- a row with the slot of a LEB is that of the LEB's PEB
-  placed : (v l i : ℕ) → HasSlot t v l → i < n → hasSlot firsts rows i (slotOf firsts v l) ≡ true → ps v l ≡ some i
+  placed : (v l i : ℕ) → HasSlot t v l → i < n → rowSlot firsts rows i ≡ slotOf firsts v l → ps v l ≡ some i
   placed v l i h b e =
-      let used = and-left (not (eqb (firstAt 3 rows i) noWord)) (eqb (slotOf firsts (firstAt 3 rows i) (secondAt 3 rows i)) (slotOf firsts v l)) e in
-      let same = and-right (not (eqb (firstAt 3 rows i) noWord)) (eqb (slotOf firsts (firstAt 3 rows i) (secondAt 3 rows i)) (slotOf firsts v l)) e in
       ⊎-elim
-      (λ (q : rowAt rows i ≡ unused). let z : firstAt 3 rows i ≡ noWord = cc in absurd (false≢true (rw z at used)))
+      (λ (q : rowAt rows i ≡ unused).
+      let x : firstAt 3 rows i ≡ noWord = cc in
+      let y : secondAt 3 rows i ≡ noWord = cc in
+      absurd (omega (arith, rw (x, y) at e, slot-within n t two fits v l h)))
       (λ (k : Kept i).
       let x : firstAt 3 rows i ≡ k .volume = cc in
       let y : secondAt 3 rows i ≡ k .lnum = cc in
-      let z = slot-apart n t two fits (k .volume) (k .lnum) v l (k .key) h (eqb-true _ _ (rw (x, y) at same)) in
+      let z = slot-apart n t two fits (k .volume) (k .lnum) v l (k .key) h (rw (x, y) at e) in
       ap₂ ps (sym (z .0)) (sym (z .1)) ∙ k .place)
       (kept-or-unused i b)
 
-  maps-stays : (v l : ℕ) → HasSlot t v l → (v < noWord) × (isMappable v ≡ true) × (staysIn t v l ≡ true)
-  maps-stays v l (inl h) = (omega arith, rw (lt-ltb _ _ (h .0)), rw (lt-ltb _ _ (h .1)) (or-true (eqb v layoutVolume)))
-  maps-stays v l (inr h) = (omega arith, rw (eq-eqb _ _ (h .0)) (or-true (ltb v 128)), rw (eq-eqb _ _ (h .0)))
+  maps-stays : (v l : ℕ) → HasSlot t v l → (isMappable v ≡ true) × (staysIn t v l ≡ true)
+  maps-stays v l (inl h) = (rw (lt-ltb _ _ (h .0)), rw (lt-ltb _ _ (h .1)) (or-true (eqb v layoutVolume)))
+  maps-stays v l (inr h) = (rw (eq-eqb _ _ (h .0)) (or-true (ltb v 128)), rw (eq-eqb _ _ (h .0)))
 
   -- and the PEB of a LEB has its slot
   kept-row : (c : Copy) (e : EcView) (p v l : ℕ) → c .header .volume ≡ v → c .header .lnum ≡ l → ps v l ≡ some p → isMappable v ≡ true → staysIn t v l ≡ true
       → settledKey (classOf t ps p e (vidGood c)) (getD (keyWords p (vidGood c)) 0 0) (getD (keyWords p (vidGood c)) 1 0) ≡ v ∷ l ∷ noWord ∷ []
   kept-row c e p v l a b q m s = rw (a, b, m, q, eq-eqb p p refl, s)
 
-  has : (v l p : ℕ) → HasSlot t v l → ps v l ≡ some p → (p < n) × (hasSlot firsts rows p (slotOf firsts v l) ≡ true)
+  has : (v l p : ℕ) → HasSlot t v l → ps v l ≡ some p → (p < n) × (rowSlot firsts rows p ≡ slotOf firsts v l)
   unfolding placesOf
   has v l p h e =
       let x = place-chosen (chosen n (copies vs) v l) p e in
       let a = chosen-at n (copies vs) v l p (x .0) (x .1) in
       let m = maps-stays v l h in
-      let w : rowAt rows p ≡ v ∷ l ∷ noWord ∷ [] = row p (a .0) ∙ rw (good-inv (vs p .vid) (x .0) (a .1)) (kept-row (x .0) (vs p .ec) p v l (a .2) (a .3) e (m .1) (m .2)) in
+      let w : rowAt rows p ≡ v ∷ l ∷ noWord ∷ [] = row p (a .0) ∙ rw (good-inv (vs p .vid) (x .0) (a .1)) (kept-row (x .0) (vs p .ec) p v l (a .2) (a .3) e (m .0) (m .1)) in
       let y : firstAt 3 rows p ≡ v = cc in
       let z : secondAt 3 rows p ≡ l = cc in
-      let ne : v ≡ noWord → ⊥ = λ q. omega (arith, m .0) in
-      (a .0, rw (y, z, ne-eqb v noWord ne, eq-eqb (slotOf firsts v l) (slotOf firsts v l) refl))
+      (a .0, rw (y, z))
 
   -- what a slot holds is the place of its LEB
   slot-holds : (m : List ℕ) → Slots n (slotWord firsts rows n) rows m → (v l : ℕ) → HasSlot t v l → inSlot m (slotOf firsts v l) ≡ ps v l
   slot-holds m o v l h = go (ps v l) refl
     where
-      within : slotOf firsts v l < n
+      s : ℕ
+      s = slotOf firsts v l
+
+      within : s < n
       within = slot-within n t two fits v l h
 
-      word : thirdAt 3 m (slotOf firsts v l) ≡ slotWord firsts rows n (slotOf firsts v l)
-      word = o .third (slotOf firsts v l) within
-
-      empty : ps v l ≡ none → (i : ℕ) → i < n → hasSlot firsts rows i (slotOf firsts v l) ≡ false
-      empty q i b = at (hasSlot firsts rows i (slotOf firsts v l)) refl
-        where
-          at : (x : Bool) → hasSlot firsts rows i (slotOf firsts v l) ≡ x → hasSlot firsts rows i (slotOf firsts v l) ≡ false
-          at true e = none-some (sym q ∙ placed v l i h b e)
-          at false e = e
-
-      go : (x : Option ℕ) → ps v l ≡ x → inSlot m (slotOf firsts v l) ≡ x
-      go none q = rw (eq-eqb _ _ (word ∙ none-there firsts rows (slotOf firsts v l) n (empty q) ∙ (let z : thirdAt 3 rows (slotOf firsts v l) ≡ noWord = cc (row (slotOf firsts v l) within) in z)))
+      go : (x : Option ℕ) → ps v l ≡ x → inSlot m s ≡ x
+      go none q =
+          let z : thirdAt 3 rows s ≡ noWord = cc (row s within) in
+          rw (eq-eqb _ _ (o .third s within ∙ none-there firsts rows s n (λ i b e. none-some (sym q ∙ placed v l i h b e)) ∙ z))
       go (some p) q =
           let a = has v l p h q in
-          let w = word ∙ one-there firsts rows (slotOf firsts v l) n p (a .0) (a .1) (λ i b e. let z : some i ≡ some p = sym (placed v l i h b e) ∙ q in cc) in
+          let w = o .third s within ∙ one-there firsts rows s n p (a .0) (a .1) (λ i b e. let z : some i ≡ some p = sym (placed v l i h b e) ∙ q in cc) in
           let ne : p ≡ noWord → ⊥ = λ y. omega (arith, a .0) in
           rw (w, ne-eqb p noWord ne)
 
@@ -233,52 +228,44 @@ module _ (g : Geometry) (n : ℕ) (vs : Views) (t pebs map₀ : List ℕ) (o : M
   unfolding pebWords
   peb-words = concat-cong n _ _ peb-row
 
-  entries-are : mapWords n (mapUpTo 128 2 t pl) ≡ mapWords n (entries g n vs)
-  unfolding entries mapOf
-  entries-are = rw (o .table-is)
-
-  -- settled
+  -- settled, and then through the slots, with the rows behind the last entry left unused
   module _ {pebs′ map₁ : List ℕ} (p : pebs′ ≡ concatBelow n (pebRow t pebs map₀) ++ drop (n * 2) pebs)
-      (m : map₁ ≡ concatBelow n (mapRow t pebs map₀) ++ drop (n * 3) map₀) where
-    with-map : (map′ : List ℕ) → map′ ≡ mapWords n (mapUpTo 128 2 t pl) ++ drop (n * 3) map₀ → Mapped g n vs pebs pebs′ map₀ map′
-    with-map map′ e = record {
-      pebs-are = p ∙ ap (λ (x : List ℕ). x ++ drop (n * 2) pebs) peb-words;
-      map-is = e ∙ ap (λ (x : List ℕ). x ++ drop (n * 3) map₀) entries-are;
-    }
+      (m : map₁ ≡ concatBelow n (mapRow t pebs map₀) ++ drop (n * 3) map₀) (two : 2 ≤ n) (few : n ≤ 4096) (fs : List ℕ) (q : fs ≡ firstSlots n t)
+      (k : ℕ) (map₂ map₃ w : List ℕ) (long : n * 3 ≤ length map₃) (s : Slots n (slotWord fs map₁ n) map₁ map₂)
+      (x : Collected (allEntries fs n map₂) 0 n k map₂ map₃) where
+    row : (i : ℕ) → i < n → rowAt map₁ i ≡ settledKey (classOf t pl i (vs i .ec) (vs i .vid)) (getD (keys i) 0 0) (getD (keys i) 1 0)
+    row i h =
+        rw (
+          m,
+          row-first n 3 (mapRow t pebs map₀) (drop (n * 3) map₀) (λ j. refl) i h (omega arith),
+          row-word n 3 (mapRow t pebs map₀) (drop (n * 3) map₀) (λ j. refl) i 1 h (omega arith),
+          row-word n 3 (mapRow t pebs map₀) (drop (n * 3) map₀) (λ j. refl) i 2 h (omega arith),
+          class-settled i h,
+          key-first i h,
+          key-second i h,
+        )
 
-    -- through the slots, with the rows behind the last entry left unused
-    module _ (two : 2 ≤ n) (few : n ≤ 4096) (fs : List ℕ) (q : fs ≡ firstSlots n t) (k : ℕ) (map₂ map₃ w : List ℕ) (long : n * 3 ≤ length map₃)
-        (s : Slots n (slotWord fs map₁ n) map₁ map₂) (x : Collected (allEntries fs n map₂) 0 n k map₂ map₃) where
-      row : (i : ℕ) → i < n → rowAt map₁ i ≡ settledKey (classOf t pl i (vs i .ec) (vs i .vid)) (getD (keys i) 0 0) (getD (keys i) 1 0)
-      row i h =
-          rw (
-            m,
-            row-first n 3 (mapRow t pebs map₀) (drop (n * 3) map₀) (λ j. refl) i h (omega arith),
-            row-word n 3 (mapRow t pebs map₀) (drop (n * 3) map₀) (λ j. refl) i 1 h (omega arith),
-            row-word n 3 (mapRow t pebs map₀) (drop (n * 3) map₀) (λ j. refl) i 2 h (omega arith),
-            class-settled i h,
-            key-first i h,
-            key-second i h,
-          )
+    collected : take (k * 3) map₃ ≡ entryWords (entries g n vs)
+    unfolding entries mapOf
+    collected =
+        x .words
+        ∙ ap entryWords
+        (ap (λ (f : List ℕ). allEntries f n map₂) q
+        ∙ slots-are t n vs (o .layout-small) two few (λ v. rw (o .table-is) (reserved-fit g n vs v)) map₁ row map₂ (rw q at s)
+        ∙ ap (λ (r : List ℕ). mapUpTo 128 2 r pl) (o .table-is))
 
-      collected : take (k * 3) map₃ ≡ entryWords (mapUpTo 128 2 t pl)
-      collected =
-          x .words
-          ∙ ap entryWords
-          (ap (λ (f : List ℕ). allEntries f n map₂) q
-          ∙ slots-are t n vs (o .layout-small) two few (λ v. rw (o .table-is) (reserved-fit g n vs v)) map₁ row
-          map₂ (rw q at s))
+    tail-is : drop (n * 3) map₃ ≡ drop (n * 3) map₀
+    tail-is = x .rest ∙ s .rest ∙ rw m (rows-tail n n 3 (mapRow t pebs map₀) map₀ (λ j. refl) (omega arith))
 
-      tail-is : drop (n * 3) map₃ ≡ drop (n * 3) map₀
-      tail-is = x .rest ∙ s .rest ∙ rw m (rows-tail n n 3 (mapRow t pebs map₀) map₀ (λ j. refl) (omega arith))
-
-      pub mapped : w ≡ replicate (n * 3 - k * 3) noWord ++ drop (n * 3 - k * 3) (part (k * 3) (n * 3 - k * 3) map₃)
-          → Mapped g n vs pebs pebs′ map₀ (take (k * 3) map₃ ++ (w ++ drop (n * 3 - k * 3) (drop (k * 3) map₃)))
-      unfolding mapWords
-      mapped e =
-          let b : k * 3 + (n * 3 - k * 3) ≡ n * 3 = omega (arith, x .within) in
-          let l : k * 3 ≡ length (entryWords (mapUpTo 128 2 t pl)) = sym (length-take-le (k * 3) map₃ (omega (arith, x .within))) ∙ ap length collected in
-          let z : length (part (k * 3) (n * 3 - k * 3) map₃) ≤ n * 3 - k * 3 = omega (arith, length-part (k * 3) (n * 3 - k * 3) map₃ (omega (arith, b))) in
-          with-map _
-          (rw (e, drop-of-length-le (part (k * 3) (n * 3 - k * 3) map₃) z, append-nil, drop-drop (n * 3 - k * 3) (k * 3) map₃, b, tail-is, collected, l)
-          (sym (append-assoc (entryWords (mapUpTo 128 2 t pl)) _ (drop (n * 3) map₀))))
+    pub mapped : w ≡ replicate (n * 3 - k * 3) noWord ++ drop (n * 3 - k * 3) (part (k * 3) (n * 3 - k * 3) map₃)
+        → Mapped g n vs pebs pebs′ map₀ (take (k * 3) map₃ ++ (w ++ drop (n * 3 - k * 3) (drop (k * 3) map₃)))
+    unfolding mapWords
+    mapped e =
+        let b : k * 3 + (n * 3 - k * 3) ≡ n * 3 = omega (arith, x .within) in
+        let l : k * 3 ≡ length (entryWords (entries g n vs)) = sym (length-take-le (k * 3) map₃ (omega (arith, x .within))) ∙ ap length collected in
+        let z : length (part (k * 3) (n * 3 - k * 3) map₃) ≤ n * 3 - k * 3 = omega (arith, length-part (k * 3) (n * 3 - k * 3) map₃ (omega (arith, b))) in
+        record {
+          pebs-are = rw (← peb-words) p;
+          map-is = rw (e, drop-of-length-le (part (k * 3) (n * 3 - k * 3) map₃) z, append-nil, drop-drop (n * 3 - k * 3) (k * 3) map₃, b, tail-is, collected, l)
+              (sym (append-assoc (entryWords (entries g n vs)) _ (drop (n * 3) map₀)));
+        }
