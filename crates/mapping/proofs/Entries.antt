@@ -92,14 +92,6 @@ module _ (t : List ℕ) (n : ℕ) (vs : Views)
   abbrev firsts : List ℕ
   firsts = firstSlots n t
 
-  -- a PEB in the map, with its LEB
-  record Kept (i : ℕ) : Type 0 where
-    volume : ℕ
-    lnum : ℕ
-    key : HasSlot t volume lnum
-    place : ps volume lnum ≡ some i
-    words : rowAt rows i ≡ volume ∷ lnum ∷ noWord ∷ []
-
   has-slot : (i : ℕ) (c : Copy) → copies vs i ≡ some c → isMappable (c .header .volume) ≡ true → staysIn t (c .header .volume) (c .header .lnum) ≡ true
       → HasSlot t (c .header .volume) (c .header .lnum)
   has-slot i c e m s =
@@ -110,58 +102,53 @@ module _ (t : List ℕ) (n : ℕ) (vs : Views)
       (λ (u : eqb (c .header .volume) layoutVolume ≡ true). let l : c .header .volume ≡ layoutVolume = eqb-true _ _ u in inr (l, layout-small i c e l))
       (or-true-cases (ltb (c .header .volume) 128) (eqb (c .header .volume) layoutVolume) m)
 
-  kept-or-unused : (i : ℕ) → i < n → (rowAt rows i ≡ unused) ⊎ Kept i
-  kept-or-unused i h = go (vs i .vid) refl
+  -- a row with the slot of a LEB is that of the LEB's PEB
+  placed : (v l i : ℕ) → HasSlot t v l → i < n → rowSlot firsts rows i ≡ slotOf firsts v l → ps v l ≡ some i
+  placed v l i h j e = go (vs i .vid) refl
     where
+      not-unused : rowAt rows i ≡ unused → ps v l ≡ some i
+      not-unused q =
+          let x : firstAt 3 rows i ≡ noWord = cc in
+          let y : secondAt 3 rows i ≡ noWord = cc in
+          absurd (omega (arith, rw (x, y) at e, slot-within n t two fits v l h))
+
       none-of : (b : Bool) → cond b noWord noWord ∷ cond b noWord noWord ∷ noWord ∷ [] ≡ unused
       none-of true = refl
       none-of false = refl
 
-      go : (v : VidView) → vs i .vid ≡ v → (rowAt rows i ≡ unused) ⊎ Kept i
+      same-leb : (v′ l′ : ℕ) → HasSlot t v′ l′ → ps v′ l′ ≡ some i → rowAt rows i ≡ v′ ∷ l′ ∷ noWord ∷ [] → ps v l ≡ some i
+      same-leb v′ l′ k p q =
+          let x : firstAt 3 rows i ≡ v′ = cc in
+          let y : secondAt 3 rows i ≡ l′ = cc in
+          let z = slot-apart n t two fits v′ l′ v l k h (rw (x, y) at e) in
+          ap₂ ps (sym (z .0)) (sym (z .1)) ∙ p
+
+      go : (w : VidView) → vs i .vid ≡ w → ps v l ≡ some i
       go (vidGood c) q =
           at (isMappable (c .header .volume)) refl (isPlace (ps (c .header .volume) (c .header .lnum)) i) refl (staysIn t (c .header .volume) (c .header .lnum)) refl
         where
           at : (m : Bool) → isMappable (c .header .volume) ≡ m → (b : Bool) → isPlace (ps (c .header .volume) (c .header .lnum)) i ≡ b
-              → (s : Bool) → staysIn t (c .header .volume) (c .header .lnum) ≡ s → (rowAt rows i ≡ unused) ⊎ Kept i
-          at true x true y true z = inr (record { volume = c .header .volume; lnum = c .header .lnum; key = has-slot i c (ap goodVid q) x z; place = place-is _ i y; words = row i h ∙ rw (q, x, y, z) })
-          at true x true y false z = inl (row i h ∙ rw (q, x, y, z))
-          at true x false y s z = inl (row i h ∙ rw (q, x, y))
-          at false x b y s z = inl (row i h ∙ rw (q, x) (none-of (eqb (cond (eqb (c .header .compat) 1) 5 6) 1)))
-      go vidBlank q = inl (row i h ∙ rw q (none-of (eqb (classOf t ps i (vs i .ec) vidBlank) 1)))
-      go vidNewer q = inl (row i h ∙ rw q (none-of false))
-      go vidBad q = inl (row i h ∙ rw q (none-of false))
-
-  -- a row with the slot of a LEB is that of the LEB's PEB
-  placed : (v l i : ℕ) → HasSlot t v l → i < n → rowSlot firsts rows i ≡ slotOf firsts v l → ps v l ≡ some i
-  placed v l i h b e =
-      ⊎-elim
-      (λ (q : rowAt rows i ≡ unused).
-      let x : firstAt 3 rows i ≡ noWord = cc in
-      let y : secondAt 3 rows i ≡ noWord = cc in
-      absurd (omega (arith, rw (x, y) at e, slot-within n t two fits v l h)))
-      (λ (k : Kept i).
-      let x : firstAt 3 rows i ≡ k .volume = cc in
-      let y : secondAt 3 rows i ≡ k .lnum = cc in
-      let z = slot-apart n t two fits (k .volume) (k .lnum) v l (k .key) h (rw (x, y) at e) in
-      ap₂ ps (sym (z .0)) (sym (z .1)) ∙ k .place)
-      (kept-or-unused i b)
+              → (s : Bool) → staysIn t (c .header .volume) (c .header .lnum) ≡ s → ps v l ≡ some i
+          at true x true y true z = same-leb (c .header .volume) (c .header .lnum) (has-slot i c (ap goodVid q) x z) (place-is _ i y) (row i j ∙ rw (q, x, y, z))
+          at true x true y false z = not-unused (row i j ∙ rw (q, x, y, z))
+          at true x false y s z = not-unused (row i j ∙ rw (q, x, y))
+          at false x b y s z = not-unused (row i j ∙ rw (q, x) (none-of (eqb (cond (eqb (c .header .compat) 1) 5 6) 1)))
+      go vidBlank q = not-unused (row i j ∙ rw q (none-of (eqb (classOf t ps i (vs i .ec) vidBlank) 1)))
+      go vidNewer q = not-unused (row i j ∙ rw q)
+      go vidBad q = not-unused (row i j ∙ rw q)
 
   maps-stays : (v l : ℕ) → HasSlot t v l → (isMappable v ≡ true) × (staysIn t v l ≡ true)
   maps-stays v l (inl h) = (rw (lt-ltb _ _ (h .0)), rw (lt-ltb _ _ (h .1)) (or-true (eqb v layoutVolume)))
   maps-stays v l (inr h) = (rw (eq-eqb _ _ (h .0)) (or-true (ltb v 128)), rw (eq-eqb _ _ (h .0)))
 
   -- and the PEB of a LEB has its slot
-  kept-row : (c : Copy) (e : EcView) (p v l : ℕ) → c .header .volume ≡ v → c .header .lnum ≡ l → ps v l ≡ some p → isMappable v ≡ true → staysIn t v l ≡ true
-      → settledKey (classOf t ps p e (vidGood c)) (getD (keyWords p (vidGood c)) 0 0) (getD (keyWords p (vidGood c)) 1 0) ≡ v ∷ l ∷ noWord ∷ []
-  kept-row c e p v l a b q m s = rw (a, b, m, q, eq-eqb p p refl, s)
-
   has : (v l p : ℕ) → HasSlot t v l → ps v l ≡ some p → (p < n) × (rowSlot firsts rows p ≡ slotOf firsts v l)
   unfolding placesOf
   has v l p h e =
       let x = place-chosen (chosen n (copies vs) v l) p e in
       let a = chosen-at n (copies vs) v l p (x .0) (x .1) in
       let m = maps-stays v l h in
-      let w : rowAt rows p ≡ v ∷ l ∷ noWord ∷ [] = row p (a .0) ∙ rw (good-inv (vs p .vid) (x .0) (a .1)) (kept-row (x .0) (vs p .ec) p v l (a .2) (a .3) e (m .0) (m .1)) in
+      let w : rowAt rows p ≡ v ∷ l ∷ noWord ∷ [] = row p (a .0) ∙ rw (good-inv (vs p .vid) (x .0) (a .1), a .2, a .3, m .0, e, eq-eqb p p refl, m .1) in
       let y : firstAt 3 rows p ≡ v = cc in
       let z : secondAt 3 rows p ≡ l = cc in
       (a .0, rw (y, z))
