@@ -1,14 +1,12 @@
 -- Laws of how attaching ends: lent words after it, the mean, refusals in their order. Assumes nothing.
 use mathlib.Core.Path.{_≡_, refl, sym, ap, ap₂, _∙_}
-use mathlib.Core.Logic.{_⊎_, inl, inr, ⊎-elim}
 use mathlib.Core.Bool.{Bool, true, false, _&&_, cond}
 use mathlib.Core.Option.{Option, none, some}
-use mathlib.Core.List.{List, [], _∷_, _++_}
-use Prim.Native.Nat.{ℕ, zero, suc, _+_, _*_, _-_, _/_, _≤_, _<_}
-use native.Mathlib.Nat.{div-zero, div-le-of-le-mul}
+use mathlib.Core.List.{List, _++_}
+use Prim.Native.Nat.{ℕ, zero, suc, _+_, _*_, _-_, _≤_, _<_}
 use native.Mathlib.Omega.{arith}
 use borrow.Author.Tests.{leb-true}
-use lib.Dec.{eqb, leb}
+use lib.Dec.{eqb}
 use lib.ListN.{length, take, drop, replicate, length-append, length-drop, length-replicate}
 use lib.Seq.{take-append-seam, drop-append-seam}
 use Rattle.base.specs.Answers.{allOf}
@@ -19,8 +17,7 @@ use Rattle.geometry.specs.declared.Geometry.{Geometry}
 use Rattle.header.specs.declared.EcHeader.{EcHeader}
 use Rattle.header.specs.Fields.{Verdict, good, bad, newer, byVersion, crcMatches}
 use Rattle.header.specs.Ec.{readEc, judgeEc, ecRules, ecFields, ecMagic}
-use Rattle.report.specs.View.{allFF, EcView, ecBlank, ecOf, goodEc, viewOf, viewsOf, pebAt, ecs, copies}
-use Rattle.report.specs.Scan.{Refusal}
+use Rattle.report.specs.View.{allFF, ecBlank, ecOf, goodEc, viewOf, viewsOf, pebAt, ecs}
 use Rattle.report.specs.Volumes.{refusal1112}
 use Rattle.report.specs.Report.{noWord, counterOr, hasCounter, counterAt, refusal, faces, places, records, taken}
 use Rattle.report.specs.Attach.{over}

@@ -1,24 +1,24 @@
 -- Laws of finding chosen copies in the words, and of the layout LEBs' contents. Assumes nothing.
-use mathlib.Core.Path.{_≡_, refl, sym, ap, ap₂, _∙_, subst}
+use mathlib.Core.Path.{_≡_, refl, sym, ap, ap₂, _∙_}
 use mathlib.Core.Logic.{_⊎_, inl, inr, ⊎-elim}
-use mathlib.Core.Bool.{Bool, true, false, _&&_, cond, true≢false, false≢true}
+use mathlib.Core.Bool.{Bool, true, false, cond, true≢false}
 use mathlib.Core.Option.{Option, none, some}
-use mathlib.Core.List.{List, [], _∷_, _++_}
-use Prim.Native.Nat.{ℕ, zero, suc, _+_, _*_, _-_, _≤_, _<_}
+use mathlib.Core.List.{List, [], _∷_}
+use Prim.Native.Nat.{ℕ, _-_, _≤_, _<_}
 use native.Mathlib.Omega.{arith}
-use borrow.Author.Tests.{eq-eqb, ne-eqb, eqb-true, ltb-true, ltb-false}
+use borrow.Author.Tests.{eq-eqb, eqb-true, ltb-true, ltb-false}
 use lib.Dec.{eqb, ltb}
-use lib.ListN.{length, getD, drop}
+use lib.ListN.{getD}
 use Rattle.base.proofs.Answers.{and-left, and-right}
 use Rattle.base.proofs.Below.{below-suc}
 use Rattle.geometry.specs.declared.Geometry.{Geometry}
-use Rattle.report.specs.View.{Copy, EcView, ecGood, ecNewer, ecBlank, ecLost, VidView, vidGood, vidNewer, vidBlank, vidBad, View, Views, copies, goodVid, isMappable}
+use Rattle.report.specs.View.{Copy, EcView, ecGood, ecNewer, ecBlank, ecLost, VidView, vidGood, vidNewer, vidBlank, vidBad, Views, copies, isMappable}
 use Rattle.report.specs.Choice.{chosen}
 use Rattle.report.specs.Volumes.{Places, placesOf}
 use Rattle.report.specs.Report.{isPlace, places}
 use Rattle.report.specs.Scratch.{keyWords, markedClass}
 use Rattle.report.proofs.Choice.{chosen-at}
-use Rattle.mapping.specs.Settle.{firstAt, secondAt, Marked}
+use Rattle.mapping.specs.Settle.{firstAt, Marked}
 use Rattle.mapping.proofs.Entries.{place-is, place-chosen, good-inv, class-word, key-first, key-second}
 use Rattle.attach.specs.Layout.{isChosen, Found, placeOr}
 

@@ -1,12 +1,12 @@
 -- Laws of the layout LEBs' contents. Assumes nothing.
-use mathlib.Core.Path.{_≡_, refl, sym, ap, ap₂, _∙_}
-use mathlib.Core.Bool.{Bool, true, false, _&&_, cond}
+use mathlib.Core.Path.{_≡_, refl, sym, ap, _∙_}
+use mathlib.Core.Bool.{true, _&&_}
 use mathlib.Core.Option.{Option, none, some}
-use mathlib.Core.List.{List, [], _∷_}
+use mathlib.Core.List.{List, []}
 use Prim.Native.Nat.{ℕ, _+_, _*_, _-_, _≤_, _<_}
 use native.Mathlib.Nat.{mul-le-mul-right}
 use native.Mathlib.Omega.{arith}
-use borrow.Author.Tests.{eq-eqb, ne-eqb, eqb-true, leb-true}
+use borrow.Author.Tests.{eq-eqb, eqb-true, leb-true}
 use lib.Dec.{eqb, leb}
 use lib.ListN.{length, take, drop}
 use Rattle.base.specs.Answers.{mapO}
@@ -16,14 +16,12 @@ use Rattle.geometry.specs.declared.Geometry.{Geometry}
 use Rattle.geometry.specs.Placed.{Placed}
 use Rattle.header.specs.declared.VidHeader.{VidHeader}
 use Rattle.header.specs.Vid.{layoutVolume, layoutRule, vidRules, vidFields}
-use Rattle.report.specs.View.{Copy, Views, viewsOf, vidPart, pebAt, copyOf, copies}
+use Rattle.report.specs.View.{Copy, viewsOf, vidPart, pebAt, copyOf, copies}
 use Rattle.report.specs.Choice.{chosen}
-use Rattle.report.specs.Volumes.{Face, faceOf, facesOf, placesOf, layoutContent, contentOf}
+use Rattle.report.specs.Volumes.{faceOf, facesOf, placesOf, layoutContent}
 use Rattle.report.specs.Report.{faces, places, records}
 use Rattle.report.proofs.Choice.{chosen-at}
-use Rattle.choice.specs.Keyed.{copyAt, headerAt}
 use Rattle.choice.proofs.Copies.{view-good, data-there}
-use Rattle.mapping.specs.Settle.{Marked}
 use Rattle.attach.specs.Layout.{Found, Chosen, placeOr}
 use Rattle.attach.proofs.Laws.{found-place}
 

@@ -3,12 +3,12 @@ use mathlib.Core.Path.{_≡_, refl, sym}
 use mathlib.Core.Logic.{_⊎_, ⊎-elim}
 use mathlib.Core.Bool.{Bool, true, false}
 use mathlib.Core.Option.{Option, none, some}
-use Prim.Native.Nat.{ℕ, zero, suc, _+_, _≤_, _<_}
+use Prim.Native.Nat.{ℕ, zero, suc, _≤_, _<_}
 use native.Mathlib.Omega.{arith}
 use borrow.Author.Tests.{lt-ltb, le-ltb}
 use Rattle.base.specs.Answers.{mapO}
 use Rattle.base.specs.Below.{anyBelow, firstBelow}
-use Rattle.base.proofs.Below.{below-suc, step-below, none-at, none-intro, any-intro, first-none, first-none-at}
+use Rattle.base.proofs.Below.{below-suc, none-at, none-intro, any-intro, first-none, first-none-at}
 use Rattle.report.specs.View.{Copy}
 use Rattle.report.specs.Scan.{when, atPeb}
 use Rattle.report.specs.Choice.{repeats, refusal9}

@@ -1,7 +1,5 @@
 -- `attach::long_enough` meets its contract. Assumes nothing.
-use mathlib.Core.Path.{_≡_, refl, sym, ap, _∙_}
-use Prim.Native.Nat.{_≤_, _<_, _-_, _+_}
-use native.Mathlib.Omega.{arith}
+use Prim.Native.Nat.{_-_}
 use borrow.Author.Needs.{needs}
 use Rattle.attach.proofs.Stages.{short-pebs, short-map, by-states}
 use Rattle.attach.proofs.long_enough.Statement.{statement}

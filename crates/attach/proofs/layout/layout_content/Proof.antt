@@ -1,10 +1,8 @@
 -- `attach::layout::layout_content` meets its contract. Assumes nothing.
-use mathlib.Core.Path.{_≡_, refl, sym, ap, _∙_}
-use Prim.Native.Nat.{_≤_, _<_, _-_, _+_}
+use Prim.Native.Nat.{_-_}
 use native.Mathlib.Omega.{arith}
 use borrow.Author.Needs.{needs}
-use lib.ListN.{length}
-use Rattle.attach.proofs.Layouts.{no-content, found-below, found-bytes, content-slice}
+use Rattle.attach.proofs.Layouts.{no-content, found-bytes, content-slice}
 use borrow.Author.Needs.{needs}
 use Rattle.attach.proofs.layout.layout_content.Statement.{statement}
 use Rattle.attach.proofs.layout.layout_content.Tie as tie

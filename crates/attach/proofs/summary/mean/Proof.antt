@@ -1,9 +1,8 @@
 -- `attach::summary::mean` meets its contract. Assumes nothing.
-use mathlib.Core.Path.{_≡_, refl, sym, ap, _∙_}
-use Prim.Native.Nat.{_≤_, _<_, _-_, _+_}
+use Prim.Native.Nat.{_≤_, _-_}
 use native.Mathlib.Omega.{arith}
 use borrow.Author.Needs.{needs}
-use Prim.Native.Nat.{_/_, _*_}
+use Prim.Native.Nat.{_/_}
 use native.Mathlib.Nat.{div-zero, div-le-of-le-mul}
 use Rattle.attach.proofs.summary.mean.Statement.{statement}
 use Rattle.attach.proofs.summary.mean.Tie as tie

@@ -1,12 +1,9 @@
 -- `attach::summary::report_on` meets its contract. Assumes nothing.
-use mathlib.Core.Path.{_≡_, refl, sym, ap, _∙_}
-use Prim.Native.Nat.{_≤_, _<_, _-_, _+_}
+use mathlib.Core.Path.{refl}
+use Prim.Native.Nat.{_≤_, _-_}
 use native.Mathlib.Omega.{arith}
 use borrow.Author.Needs.{needs}
-use lib.ListN.{length}
-use Rattle.geometry.specs.declared.Geometry.{Geometry}
 use Rattle.report.specs.View.{viewsOf}
-use Rattle.volumes.proofs.Words.{table-long}
 use Rattle.attach.proofs.Reports.{marked, whole-records, mean-fits, map-take, sorted, count-within, count-few, fits, misfit-ended, graded, report-ended}
 use Rattle.attach.proofs.summary.report_on.Statement.{statement}
 use Rattle.attach.proofs.summary.report_on.Tie as tie
