@@ -14,7 +14,7 @@ uint64_t bench_attach(const uint8_t *slip, size_t slip_len, const uint8_t *image
                       size_t pebs_len, uint32_t *map, size_t map_len, uint32_t *states, size_t states_len);
 uint32_t bench_attach_crc(uint32_t state, const uint8_t *bytes, size_t len);
 
-enum { ROUNDS = 15, SPARE = 4, SLIP = 20, HEADER = 64, HEADER_CRC = 60, RECORD = 172, RECORD_CRC = 168 };
+enum { ROUNDS = 60, SPARE = 4, SLIP = 20, HEADER = 64, HEADER_CRC = 60, RECORD = 172, RECORD_CRC = 168 };
 enum { VOLUMES = 128, CHIP_VOLUMES = 4, FEWEST_PEBS = 2, MOST_PEBS = 4096, REFUSED = 16 };
 enum { DYNAMIC = 1, STATIC = 2 };
 enum { DELETE = 1, READ_ONLY = 2, PRESERVE = 4, REJECT = 5 };

@@ -1,4 +1,4 @@
-/* Throughput of the proved CRC-32 and of zlib's, over the same 128 MiB. */
+/* Throughput of the proved CRC-32 and of zlib's, over the same 128 MiB, and over shorter runs from the cache. */
 #include <stdint.h>
 #include <stdio.h>
 #include <stdlib.h>
@@ -8,7 +8,7 @@
 /* crates/bench_crc: a slice is a pointer and a length */
 uint32_t bench_crc_update(uint32_t state, const uint8_t *bytes, size_t len);
 
-enum { SIZE = 128 << 20, ROUNDS = 15, STARTS = 16, LENGTHS = 300 };
+enum { SIZE = 128 << 20, ROUNDS = 15, STARTS = 16, LENGTHS = 300, CACHED = 1 << 20, CACHED_ROUNDS = 60 };
 
 static uint32_t proved(const uint8_t *bytes, size_t len)
 {
@@ -61,6 +61,31 @@ static int agree(const uint8_t *bytes)
     return 1;
 }
 
+/* all checksums of CACHED bytes in runs, in one word, so that none can be left out */
+static uint32_t in_runs(uint32_t (*crc)(const uint8_t *, size_t), const uint8_t *bytes, size_t run, double *least)
+{
+    uint32_t all = 0;
+    double start = seconds();
+    for (size_t at = 0; at + run <= CACHED; at += run)
+        all = all * 31 + crc(bytes + at, run);
+    double took = (seconds() - start) / (CACHED / run);
+    if (took < *least)
+        *least = took;
+    return all;
+}
+
+static int measure_runs(const uint8_t *bytes, size_t run)
+{
+    double ours = 1e9, theirs = 1e9;
+    for (int i = 0; i < CACHED_ROUNDS; i++)
+        if (in_runs(proved, bytes, run, &ours) != in_runs(zlib, bytes, run, &theirs)) {
+            printf("differ: runs of %zu\n", run);
+            return 0;
+        }
+    printf("runs of %6zu: proved %8.1f ns, zlib %8.1f ns, ratio %.2f\n", run, ours * 1e9, theirs * 1e9, theirs / ours);
+    return 1;
+}
+
 int main(void)
 {
     double ours = 1e9, theirs = 1e9;
@@ -78,6 +103,7 @@ int main(void)
     printf("proved       %5.2f GB/s  %08x\n", SIZE / ours / 1e9, a);
     printf("zlib %-7s %5.2f GB/s  %08x\n", zlibVersion(), SIZE / theirs / 1e9, b);
     printf("ratio        %5.2f\n", theirs / ours);
+    int same = a == b && measure_runs(bytes, 60) && measure_runs(bytes, 1900) && measure_runs(bytes, 126976);
     free(bytes);
-    return a != b;
+    return !same;
 }
