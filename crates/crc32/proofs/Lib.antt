@@ -1,5 +1,7 @@
 pub mod Xor
 pub mod Laws
-pub mod Words
-pub mod Lanes
-pub mod Spans
+pub mod LookUp
+pub mod Sparse
+pub mod Folding
+pub mod Owed
+pub mod Histories

@@ -9,6 +9,6 @@ unfoldable pub leOf : List ℕ → ℕ
 leOf [] = 0
 leOf (b ∷ bs) = leOf bs * 256 + b
 
--- eight rows of 256 entries, numbered from `first` on: entry k of row j is k after 8 (first + j + 1) shifts
-unfoldable pub crcRows : ℕ → List ℕ
-crcRows first = rows (crcBits 8) 8 (table (crcBits (8 * (first + 1))) 0 256)
+-- sixteen rows of sixteen entries: entry k of row j is k after 4 (j + 1) shifts
+unfoldable pub crcRows : List ℕ
+crcRows = rows (crcBits 4) 16 (table (crcBits 4) 0 16)

@@ -1,20 +1,45 @@
--- `crc32::update` meets its contract: the constant is the table, by a test that computes. Assumes nothing.
+-- `crc32::update` meets its contract. Assumes nothing.
+use Rattle.crc32.specs.Crc.{crcFrom}
+use Prim.Native.Nat.{ℕ}
+use Rattle.crc32.proofs.Owed.{words-state}
+use native.Mathlib.Omega.{arith}
+use mathlib.Core.Path.{_∙_, ap}
 use borrow.Author.Needs.{needs}
-use Rattle.base.specs.Lists.{eqs}
-use Rattle.crc32.specs.Crc.{tap, crcBit, crcBits}
-use Rattle.crc32.proofs.Spans.{span, basis, spans, rows-by-test}
 use Rattle.crc32.proofs.update.Statement.{statement}
 use Rattle.crc32.proofs.update.Tie as tie
 use Rattle.crc32.proofs.update.Reads as reads
 use Rattle.crc32.proofs.update.Lts as lts
-use Rattle.crc32.proofs.by_length.Reads as by-length-reads
+use Rattle.crc32.proofs.fold.by_folding.Reads as by-folding-reads
+use Rattle.crc32.proofs.history.by_history.Reads as by-history-reads
+use Rattle.crc32.proofs.words.by_table.Reads as by-table-reads
 
-by-length-requires : tie.Need-by-length-requires
-unfolding tap crcBit crcBits span basis spans eqs
-by-length-requires c κs = rows-by-test 0 _ tt
+by-table-requires : tie.Need-by-table-requires
+by-table-requires c κs = search needs
 
 returns : tie.Need-returns
 returns c = search needs
 
+by-folding-requires : tie.Need-by-folding-requires
+by-folding-requires c κs = search needs
+
+returns-2 : tie.Need-returns-2
+returns-2 c =
+    let a = c .before .before .before .before .args in
+    c .by-folding .ensures ∙ ap (λ (n : ℕ). crcFrom n (a .bytes .now)) (words-state (a .state) (omega arith))
+
+by-history-requires : tie.Need-by-history-requires
+by-history-requires c κs = search needs
+
+returns-3 : tie.Need-returns-3
+returns-3 c = search needs
+
 pub update-spec : {M : Type 1} → statement M
-update-spec = tie.close (tie.spec by-length-requires returns)
+update-spec =
+    tie.close
+    (tie.spec
+    by-table-requires
+    returns
+    by-folding-requires
+    returns-2
+    by-history-requires
+    returns-3)

@@ -1,0 +1,56 @@
+-- `crc32::history::owed_word` meets its contract. Assumes nothing.
+use Rattle.crc32.proofs.Histories.{owed-low}
+use lib.ListN.{getD}
+use native.Mathlib.Nat.{mod-eq-of-lt}
+use native.Mathlib.Omega.{arith}
+use Prim.Native.Nat.{_+_, _^_, _<_}
+use borrow.Author.Needs.{needs}
+use Rattle.crc32.proofs.history.owed_word.Statement.{statement}
+use Rattle.crc32.proofs.history.owed_word.Tie as tie
+use Rattle.crc32.proofs.history.owed_word.Reads as reads
+use Rattle.crc32.proofs.history.owed_word.Lts as lts
+use Rattle.crc32.proofs.history.word_at.Reads as word-at-reads
+
+add-word-at : tie.Need-add-word-at
+add-word-at c = search needs
+
+word-at-requires : tie.Need-word-at-requires
+word-at-requires c κs = search needs
+
+add-word-at-2 : tie.Need-add-word-at-2
+add-word-at-2 c = search needs
+
+word-at-requires-2 : tie.Need-word-at-requires-2
+word-at-requires-2 c κs = search needs
+
+add-word-at-3 : tie.Need-add-word-at-3
+add-word-at-3 c = search needs
+
+word-at-requires-3 : tie.Need-word-at-requires-3
+word-at-requires-3 c κs = search needs
+
+word-at-requires-4 : tie.Need-word-at-requires-4
+word-at-requires-4 c κs = search needs
+
+returns : tie.Need-returns
+returns c =
+    let a = c .before .before .before .before .args in
+    let b = a .b .now in
+    let h : getD b (a .j + 155) 0 < 2 ^ 64 = omega (arith, c .before .before .before .word-at .ensures) in
+    let k : getD b (a .j + 117) 0 < 2 ^ 64 = omega (arith, c .before .before .word-at2 .ensures) in
+    let l : getD b (a .j + 89) 0 < 2 ^ 64 = omega (arith, c .before .word-at3 .ensures) in
+    let m : getD b (a .j) 0 < 2 ^ 64 = omega (arith, c .word-at4 .ensures) in
+    cc (owed-low (a .j) b (omega arith), mod-eq-of-lt h, mod-eq-of-lt k, mod-eq-of-lt l, mod-eq-of-lt m)
+
+pub owed-word-spec : {M : Type 1} → statement M
+owed-word-spec =
+    tie.close
+    (tie.spec
+    add-word-at
+    word-at-requires
+    add-word-at-2
+    word-at-requires-2
+    add-word-at-3
+    word-at-requires-3
+    word-at-requires-4
+    returns)

@@ -1,0 +1,20 @@
+-- `crc32::words::at` meets its contract. Assumes nothing.
+use mathlib.Core.Path.{refl}
+use native.Mathlib.Omega.{arith}
+use borrow.Author.Needs.{needs}
+use Rattle.crc32.proofs.words.at.Statement.{statement}
+use Rattle.crc32.proofs.words.at.Tie as tie
+use Rattle.crc32.proofs.words.at.Reads as reads
+use Rattle.crc32.proofs.words.at.Lts as lts
+
+shared-slice-read-result : tie.Need-shared-slice-read-result
+shared-slice-read-result c = search needs
+
+cast-result : tie.Need-cast-result
+cast-result c = omega (arith, c .shared-slice-known .given (c .before .args .i))
+
+returns : tie.Need-returns
+returns c = (refl, omega (arith, c .shared-slice-known .given (c .before .args .i)))
+
+pub at-spec : {M : Type 1} → statement M
+at-spec = tie.close (tie.spec shared-slice-read-result cast-result returns)

@@ -1,0 +1,20 @@
+-- `crc32::words::half_byte` meets its contract. Assumes nothing.
+use mathlib.Core.Path.{sym, _∙_}
+use Rattle.crc32.proofs.Laws.{crcBits-split}
+use borrow.Author.Needs.{needs}
+use Rattle.crc32.proofs.words.half_byte.Statement.{statement}
+use Rattle.crc32.proofs.words.half_byte.Tie as tie
+use Rattle.crc32.proofs.words.half_byte.Reads as reads
+use Rattle.crc32.proofs.words.half_byte.Lts as lts
+use Rattle.crc32.proofs.words.entry.Reads as entry-reads
+
+entry-requires : tie.Need-entry-requires
+entry-requires c κs = search needs
+
+returns : tie.Need-returns
+returns c =
+    let x = c .before .args .c in
+    sym (crcBits-split 4 x ∙ cc)
+
+pub half-byte-spec : {M : Type 1} → statement M
+half-byte-spec = tie.close (tie.spec entry-requires returns)

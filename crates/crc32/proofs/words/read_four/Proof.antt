@@ -1,0 +1,60 @@
+-- `crc32::words::read_four` meets its contract. Assumes nothing.
+use native.Mathlib.Omega.{arith}
+use Rattle.crc32.proofs.LookUp.{four-at}
+use borrow.Author.Needs.{needs}
+use Rattle.crc32.proofs.words.read_four.Statement.{statement}
+use Rattle.crc32.proofs.words.read_four.Tie as tie
+use Rattle.crc32.proofs.words.read_four.Reads as reads
+use Rattle.crc32.proofs.words.read_four.Lts as lts
+use Rattle.crc32.proofs.words.at.Reads as at-reads
+
+at-requires : tie.Need-at-requires
+at-requires c κs = search needs
+
+add-at : tie.Need-add-at
+add-at c = search needs
+
+at-requires-2 : tie.Need-at-requires-2
+at-requires-2 c κs = search needs
+
+add-result : tie.Need-add-result
+add-result c = search needs
+
+add-at-2 : tie.Need-add-at-2
+add-at-2 c = search needs
+
+at-requires-3 : tie.Need-at-requires-3
+at-requires-3 c κs = search needs
+
+add-result-2 : tie.Need-add-result-2
+add-result-2 c = search needs
+
+add-at-3 : tie.Need-add-at-3
+add-at-3 c = search needs
+
+at-requires-4 : tie.Need-at-requires-4
+at-requires-4 c κs = search needs
+
+add-result-3 : tie.Need-add-result-3
+add-result-3 c = search needs
+
+returns : tie.Need-returns
+returns c =
+    let a = c .before .before .before .before .before .args in
+    omega (arith, four-at (a .i) (a .s .now) (omega arith))
+
+pub read-four-spec : {M : Type 1} → statement M
+read-four-spec =
+    tie.close
+    (tie.spec
+    at-requires
+    add-at
+    at-requires-2
+    add-result
+    add-at-2
+    at-requires-3
+    add-result-2
+    add-at-3
+    at-requires-4
+    add-result-3
+    returns)

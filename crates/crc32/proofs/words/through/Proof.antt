@@ -1,0 +1,26 @@
+-- `crc32::words::through` meets its contract. Assumes nothing.
+use native.Mathlib.Omega.{arith}
+use Prim.Native.Nat.{_^_, _<_}
+use native.Mathlib.Nat.{mod-eq-of-lt}
+use borrow.Author.Needs.{needs}
+use Rattle.crc32.proofs.words.through.Statement.{statement}
+use Rattle.crc32.proofs.words.through.Tie as tie
+use Rattle.crc32.proofs.words.through.Reads as reads
+use Rattle.crc32.proofs.words.through.Lts as lts
+use Rattle.crc32.proofs.words.eight.Reads as eight-reads
+use Rattle.crc32.proofs.words.read_eight.Reads as read-eight-reads
+
+read-eight-requires : tie.Need-read-eight-requires
+read-eight-requires c κs = search needs
+
+eight-requires : tie.Need-eight-requires
+eight-requires c κs = search needs
+
+returns : tie.Need-returns
+returns c =
+    let a = c .before .before .before .args in
+    let h : a .w < 2 ^ 64 = omega arith in
+    cc (mod-eq-of-lt h)
+
+pub through-spec : {M : Type 1} → statement M
+through-spec = tie.close (tie.spec read-eight-requires eight-requires returns)
