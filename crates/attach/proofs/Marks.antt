@@ -7,7 +7,7 @@ use mathlib.Core.List.{List, [], _∷_, _++_}
 use Prim.Native.Nat.{ℕ, zero, suc, _+_, _*_, _≤_, _<_}
 use native.Mathlib.Omega.{arith}
 use borrow.Author.Tests.{eq-eqb}
-use lib.ListN.{length, getD, set, drop, replicate, length-set, getD-replicate, List·getD-append}
+use lib.ListN.{length, getD, set, drop, replicate, length-set, length-replicate, getD-replicate, List·getD-append}
 use lib.Seq.{getD-set-same, getD-set-other, drop-set-lt}
 use Rattle.base.specs.Below.{anyBelow}
 use Rattle.base.proofs.Answers.{or-true-cases}
@@ -27,23 +27,21 @@ use Rattle.mapping.specs.Settle.{firstAt}
 use Rattle.mapping.proofs.Entries.{place-is, good-inv}
 use Rattle.scan.specs.Pass.{firstWords}
 use Rattle.attach.specs.Marking.{MarkedTo}
-use Rattle.attach.proofs.Ends.{words-tail}
 use Rattle.attach.proofs.Rows.{rows-there}
 
 -- ---- no heads before copies are linked
 
-module _ (n : ℕ) (map heads : List ℕ) {heads₁ : List ℕ} (e : heads₁ ≡ replicate 128 noWord ++ drop 128 heads) (s : length heads₁ ≡ length heads)
-    (h : 128 ≤ length heads) where
-  pub no-heads : n ≤ 4096 → n * 3 ≤ length map → Chained n 0 map heads₁
-  no-heads f l = record {
+module _ (n : ℕ) (map heads : List ℕ) {heads₁ : List ℕ} (k : ℕ) (e : heads₁ ≡ replicate k noWord ++ drop k heads) (s : length heads₁ ≡ length heads) where
+  pub no-heads : 2048 ≤ k → 2048 ≤ length heads → n ≤ 4096 → n * 3 ≤ length map → Chained n 0 map heads₁
+  no-heads q h f l = record {
     few = f;
     long-map = l;
     long-heads = omega arith;
-    links = λ i k. absurd (omega arith);
-    tops = λ b k. record {
-      is = λ z. absurd (omega arith);
-      none = λ _. ap (λ (x : List ℕ). getD x b 0) e ∙ List·getD-append (replicate 128 noWord) (drop 128 heads) 0 b k ∙ getD-replicate 128 b noWord 0 k;
-      skips = λ i z. absurd (omega arith);
+    links = λ i z. absurd (omega arith);
+    tops = λ b z. record {
+      is = λ y. absurd (omega arith);
+      none = λ _. ap (λ (x : List ℕ). getD x b 0) e ∙ List·getD-append (replicate k noWord) (drop k heads) 0 b (omega (arith, length-replicate k noWord)) ∙ getD-replicate k b noWord 0 (omega arith);
+      skips = λ i y. absurd (omega arith);
     };
   }
 
@@ -52,7 +50,6 @@ module _ (n : ℕ) (map heads : List ℕ) {heads₁ : List ℕ} (e : heads₁ �
     chained = o .chained;
     relinked = o .relinked;
     heads-size = o .heads-size ∙ s;
-    heads-tail = o .heads-tail ∙ words-tail 128 (replicate 128 noWord) heads e s h;
   }
 
 -- ---- chosen copies are marked

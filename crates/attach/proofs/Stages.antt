@@ -217,8 +217,8 @@ own-key i vidNewer = refl
 own-key i vidBlank = refl
 own-key i vidBad = refl
 
-module _ {g : Geometry} {image : List ℕ} {n : ℕ} {s : Sums} {pebs map states : List ℕ} (p : Past8 g image n s pebs map states) {map₁ states₁ : List ℕ}
-    (o : Chains n n map map₁ states states₁) where
+module _ {g : Geometry} {image : List ℕ} {n : ℕ} {s : Sums} {pebs map states : List ℕ} (p : Past8 g image n s pebs map states) {map₁ heads heads₁ : List ℕ}
+    (o : Chains n n map map₁ heads heads₁) where
   abbrev us : Views
   us = viewsOf g image
 
@@ -243,8 +243,8 @@ module _ {g : Geometry} {image : List ℕ} {n : ℕ} {s : Sums} {pebs map states
 
   pub refused-linked : (number place : ℕ) → refusal g n us ≡ some (record { number = number; place = place }) → {r : Attached} {pebs′ map′ states′ : List ℕ}
       → r ≡ Refused number place → pebs′ ≡ replicate (n * 2) noWord ++ drop (n * 2) pebs → map′ ≡ replicate (n * 3) noWord ++ drop (n * 3) map₁
-      → states′ ≡ replicate 128 noWord ++ drop 128 states₁ → Ended (outcome g image n) r pebs pebs′ map map′ states states′
-  refused-linked number place q = refused-ended g image n number place q pebs pebs map map₁ states states₁ refl (o .relinked .tail) (o .heads-tail)
+      → states′ ≡ replicate 128 noWord ++ drop 128 states → Ended (outcome g image n) r pebs pebs′ map map′ states states′
+  refused-linked number place q = refused-ended g image n number place q pebs pebs map map₁ states states refl (o .relinked .tail) refl
 
   module _ (r : ℕ) (e : repeatAt n r ≡ refusal9 n (copies us)) where
     pub repeat-refusal : r < n → refusal g n us ≡ some (record { number = 9; place = r })
@@ -263,7 +263,7 @@ module _ {g : Geometry} {image : List ℕ} {n : ℕ} {s : Sums} {pebs map states
       unfolding refusal10
       none10 u = let q = sym (p .sums .unused) ∙ u in rw q
 
-      pub linking : Linking g image n map₁ states₁
+      pub linking : Linking g image n map₁ heads₁
       linking = record { keyed = keyed; chained = o .chained; no-repeat = none9 }
 
       module _ {pebs₂ map₂ : List ℕ} (me : pebs₂ ≡ markedWords (places g n us) n us ++ drop (n * 2) pebs) (lp : length pebs₂ ≡ length pebs) (ul : Unlinked n map₁ map₂) where
@@ -282,7 +282,7 @@ module _ {g : Geometry} {image : List ℕ} {n : ℕ} {s : Sums} {pebs map states
         key-there i (suc (suc zero)) h k = ul .owns i h ∙ ap (λ (x : ℕ). ownWord x i) (volume-is i h) ∙ own-key i (us i .vid)
         key-there i (suc (suc (suc j))) h k = absurd (omega arith)
 
-        pub past-ten : s .unused ≡ false → Past10 g image n s pebs₂ map₂ states₁
+        pub past-ten : s .unused ≡ false → Past10 g image n s pebs₂ map₂ states
         past-ten u =
             let long-pebs : n * 2 ≤ length pebs₂ = omega (arith, p .room .long-pebs, lp) in
             record {
@@ -293,7 +293,7 @@ module _ {g : Geometry} {image : List ℕ} {n : ℕ} {s : Sums} {pebs map states
                 few = p .room .few;
                 long-pebs = long-pebs;
                 long-map = long₂;
-                long-states = o .chained .long-heads;
+                long-states = p .room .long-states;
               };
               chosen = record {
                 placed = p .room .placed;

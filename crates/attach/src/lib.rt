@@ -6,6 +6,7 @@ mod summary;
 
 ghost use mathlib.Core.Path.{_≡_};
 ghost use Prim.Native.Nat.{_≤_};
+ghost use lib.ListN.{length};
 ghost use Rattle.geometry.specs.Placed.{Placed};
 ghost use Rattle.base.specs.Answers.{given};
 ghost use Rattle.report.specs.Attach.{attaching, byGeometry, longEnough, attachedAnswer, answerOf, pebsAfter, mapAfter, statesAfter};
@@ -47,7 +48,34 @@ fn attach_chosen(
     }
 }
 
-// From the first pass on: refusals 9 and 10, and the rest. Copies are linked while they are compared.
+// From the first pass on: refusals 9 and 10, and the rest. Copies are linked while they are compared, each bucket from its head.
+fn attach_linked(
+    image: &[u8],
+    g: Geometry,
+    n: usize,
+    sums: Sums,
+    pebs: &mut [u32],
+    map: &mut [u32],
+    states: &mut [u32],
+    heads: &mut [u32],
+) -> Attached
+    requires { ⌜ (Past8 g (now image) n sums (now pebs) (now map) (now states)) × (2048 ≤ length (now heads)) ⌝ }
+    ensures { λ r. ⌜ Ended (outcome g (now (image .entry)) n) r (now (pebs .entry)) (now (pebs .exit)) (now (map .entry)) (now (map .exit)) (now (states .entry)) (now (states .exit)) ⌝ }
+{
+    marking::link_copies(n, map, heads);
+    let again = choice::first_repeat(image, g, n, map);
+    if again < n {
+        return lent::refuse(9, again as u32, n, pebs, map, states);
+    }
+    if sums.unused {
+        return lent::refuse(10, 0, n, pebs, map, states);
+    }
+    marking::mark_chosen(image, g, n, map, heads, pebs);
+    choice::unlink(map, n);
+    attach_chosen(image, g, n, sums, pebs, map, states)
+}
+
+// The heads of the buckets stand in memory of their own: the lent tables have no room for as many.
 fn attach_passed(
     image: &[u8],
     g: Geometry,
@@ -60,17 +88,8 @@ fn attach_passed(
     requires { ⌜ Past8 g (now image) n sums (now pebs) (now map) (now states) ⌝ }
     ensures { λ r. ⌜ Ended (outcome g (now (image .entry)) n) r (now (pebs .entry)) (now (pebs .exit)) (now (map .entry)) (now (map .exit)) (now (states .entry)) (now (states .exit)) ⌝ }
 {
-    marking::link_copies(n, map, states);
-    let again = choice::first_repeat(image, g, n, map);
-    if again < n {
-        return lent::refuse(9, again as u32, n, pebs, map, states);
-    }
-    if sums.unused {
-        return lent::refuse(10, 0, n, pebs, map, states);
-    }
-    marking::mark_chosen(image, g, n, map, states, pebs);
-    choice::unlink(map, n);
-    attach_chosen(image, g, n, sums, pebs, map, states)
+    let mut heads = [0u32; 2048];
+    attach_linked(image, g, n, sums, pebs, map, states, &mut heads)
 }
 
 // An image of n PEBs with lent tables that are long enough: refusals 5 to 8, and the rest.

@@ -11,13 +11,13 @@ ghost use Rattle.choice.specs.Chain.{Chains};
 ghost use Rattle.attach.specs.Marking.{Linking, MarkedTo};
 use geometry::Geometry;
 
-// The copies are linked. The first 128 state words are free until the report is done, and hold the buckets' heads.
-pub fn link_copies(n: usize, map: &mut [u32], states: &mut [u32])
-    requires { ⌜ (n ≤ 4096) × ((n * 3 ≤ length (now map)) × (128 ≤ length (now states))) ⌝ }
-    ensures { λ _. ⌜ Chains n n (now (map .entry)) (now (map .exit)) (now (states .entry)) (now (states .exit)) ⌝ }
+// The copies are linked, whatever the buckets' heads were before.
+pub fn link_copies(n: usize, map: &mut [u32], heads: &mut [u32])
+    requires { ⌜ (n ≤ 4096) × ((n * 3 ≤ length (now map)) × (2048 ≤ length (now heads))) ⌝ }
+    ensures { λ _. ⌜ Chains n n (now (map .entry)) (now (map .exit)) (now (heads .entry)) (now (heads .exit)) ⌝ }
 {
-    scan::fill_words(states, 128);
-    choice::link_copies(map, states, n)
+    scan::fill_words(heads, 2048);
+    choice::link_copies(map, heads, n)
 }
 
 // The copy chosen for the LEB of PEB i gets class 1, if no lower PEB has that LEB. Until then all copies have class 2.

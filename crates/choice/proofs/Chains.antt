@@ -1,10 +1,9 @@
 -- Laws of the chains: who is in a bucket, a walk along a chain, links stored and taken out. Assumes nothing.
-use mathlib.Core.Path.{_≡_, refl, sym, ap, _∙_}
+use mathlib.Core.Path.{_≡_, refl, sym, ap, ap₂, _∙_}
 use mathlib.Core.Logic.{_≢_, _⊎_, inl, inr}
 use mathlib.Core.Bool.{Bool, true, false}
 use mathlib.Core.List.{List}
-use Prim.Native.Nat.{ℕ, _+_, _*_, _%_, _≤_, _<_}
-use native.Mathlib.Nat.{mod-lt}
+use Prim.Native.Nat.{ℕ, _+_, _*_, _≤_, _<_}
 use native.Mathlib.Omega.{arith}
 use borrow.Author.Tests.{eq-eqb, ne-eqb, ltb-true, ltb-false}
 use lib.Dec.{ltb}
@@ -16,28 +15,28 @@ use Rattle.report.specs.View.{viewsOf, copies}
 use Rattle.report.specs.Choice.{repeats}
 use Rattle.report.specs.Report.{noWord}
 use Rattle.choice.specs.Keyed.{Keyed, volumeWord, lebWord, sameLeb}
-use Rattle.choice.specs.Chain.{linkWord, bucketAt, Nearest, Link, Linked, Chained, Relinked, Chains, ownWord}
+use Rattle.choice.specs.Chain.{linkWord, bucketOf, bucketAt, Nearest, Link, Linked, Chained, Relinked, Chains, ownWord}
 use Rattle.choice.proofs.Words.{not-so, same-true, repeat-words}
 
 -- ---- who is in a bucket
 
 module _ (map : List ℕ) (i : ℕ) where
-  pub no-bucket : volumeWord map i ≡ noWord → bucketAt map i ≡ 128
+  pub no-bucket : volumeWord map i ≡ noWord → bucketAt map i ≡ 2048
   unfolding bucketAt
   no-bucket e = rw (eq-eqb (volumeWord map i) noWord e)
 
-  pub in-bucket : (volumeWord map i ≡ noWord → ⊥) → bucketAt map i ≡ lebWord map i % 128
+  pub in-bucket : (volumeWord map i ≡ noWord → ⊥) → bucketAt map i ≡ bucketOf (volumeWord map i) (lebWord map i)
   unfolding bucketAt
   in-bucket h = rw (ne-eqb (volumeWord map i) noWord h)
 
-  pub bucket-small : (volumeWord map i ≡ noWord → ⊥) → bucketAt map i < 128
-  bucket-small h = rw (in-bucket h) (mod-lt (lebWord map i) (omega arith))
+  pub bucket-small : (volumeWord map i ≡ noWord → ⊥) → bucketAt map i < 2048
+  bucket-small h = rw (in-bucket h) (omega arith)
 
 module _ (map : List ℕ) (i k : ℕ) (h : volumeWord map i ≡ noWord → ⊥) where
   pub same-bucket : sameLeb map i k ≡ true → bucketAt map k ≡ bucketAt map i
   same-bucket s =
       let e = same-true map i k s in
-      in-bucket map k (λ (z : volumeWord map k ≡ noWord). h (e .0 ∙ z)) ∙ ap (λ (l : ℕ). l % 128) (sym (e .1)) ∙ sym (in-bucket map i h)
+      in-bucket map k (λ (z : volumeWord map k ≡ noWord). h (e .0 ∙ z)) ∙ ap₂ bucketOf (sym (e .0)) (sym (e .1)) ∙ sym (in-bucket map i h)
 
   pub bucket-holds : bucketAt map k ≡ bucketAt map i → volumeWord map k ≡ noWord → ⊥
   bucket-holds e z = let y = bucket-small map i h in let x = no-bucket map k z in omega arith
@@ -157,12 +156,11 @@ module _ {n i : ℕ} {map heads : List ℕ} (h : i < n) (o : Chained n i map hea
     };
     relinked = relinked-none n map;
     heads-size = refl;
-    heads-tail = refl;
   }
 
   module _ (c : volumeWord map i ≡ noWord → ⊥) where
     abbrev b₀ : ℕ
-    b₀ = lebWord map i % 128
+    b₀ = bucketOf (volumeWord map i) (lebWord map i)
 
     abbrev map₁ : List ℕ
     map₁ = set map (i * 3 + 2) (getD heads b₀ 0)
@@ -173,8 +171,8 @@ module _ {n i : ℕ} {map heads : List ℕ} (h : i < n) (o : Chained n i map hea
     r₁ : Relinked n map map₁
     r₁ = relinked-one n i (getD heads b₀ 0) map h
 
-    b-small : b₀ < 128
-    b-small = mod-lt (lebWord map i) (omega arith)
+    b-small : b₀ < 2048
+    b-small = omega arith
 
     linked : Linked i map₁
     linked k l z =
@@ -186,7 +184,7 @@ module _ {n i : ℕ} {map heads : List ℕ} (h : i < n) (o : Chained n i map hea
         rw (same-buckets r₁ i, in-bucket map i c, getD-set-same map (i * 3 + 2) (getD heads b₀ 0) 0 (let l = o .long-map in omega arith))
         (nearest-same r₁ (o .tops b₀ b-small))
 
-    topped : (b : ℕ) → b < 128 → (b ≡ b₀) ⊎ (b ≢ b₀) → Nearest map b (i + 1) (getD heads₁ b 0)
+    topped : (b : ℕ) → b < 2048 → (b ≡ b₀) ⊎ (b ≢ b₀) → Nearest map b (i + 1) (getD heads₁ b 0)
     topped b l (inl e) =
         rw (e, getD-set-same heads b₀ i 0 (let y = o .long-heads in let x = b-small in omega arith), ← (in-bucket map i c)) (nearest-self map i)
     topped b l (inr e) =
@@ -205,7 +203,6 @@ module _ {n i : ℕ} {map heads : List ℕ} (h : i < n) (o : Chained n i map hea
       };
       relinked = r₁;
       heads-size = length-set heads b₀ i;
-      heads-tail = drop-set-lt 128 heads b₀ i b-small;
     }
 
 pub chains-on : {n m k : ℕ} {map map′ map″ heads heads′ heads″ : List ℕ} → Chains n m map map′ heads heads′ → Chains n k map′ map″ heads′ heads″
@@ -214,7 +211,6 @@ chains-on o p = record {
   chained = p .chained;
   relinked = relinked-on (o .relinked) (p .relinked);
   heads-size = p .heads-size ∙ o .heads-size;
-  heads-tail = p .heads-tail ∙ o .heads-tail;
 }
 
 -- ---- links are taken out

@@ -13,9 +13,13 @@ use Rattle.choice.specs.Keyed.{volumeWord, lebWord}
 abbrev pub linkWord : List ℕ → ℕ → ℕ
 linkWord map i = getD map (i * 3 + 2) 0
 
--- the bucket of PEB i, by its LEB: one of 128. A PEB that holds no user or layout LEB is in none of them
+-- the bucket of a volume's LEB: one of 2,048
+abbrev pub bucketOf : ℕ → ℕ → ℕ
+bucketOf volume leb = volume % 4 * 512 + leb % 512
+
+-- the bucket of PEB i. A PEB that holds no user or layout LEB is in none of them
 unfoldable pub bucketAt : List ℕ → ℕ → ℕ
-bucketAt map i = cond (eqb (volumeWord map i) noWord) 128 (lebWord map i % 128)
+bucketAt map i = cond (eqb (volumeWord map i) noWord) 2048 (bucketOf (volumeWord map i) (lebWord map i))
 
 -- w is the highest PEB below m in bucket b; no word if there is none
 pub record Nearest (map : List ℕ) (b m w : ℕ) : Type 0 where
@@ -32,13 +36,13 @@ Linked m map = (i : ℕ) → i < m → Link map i
 
 -- each bucket's head is the nearest below m
 abbrev pub Headed : ℕ → List ℕ → List ℕ → Type 0
-Headed m map heads = (b : ℕ) → b < 128 → Nearest map b m (getD heads b 0)
+Headed m map heads = (b : ℕ) → b < 2048 → Nearest map b m (getD heads b 0)
 
 -- the first m of n PEBs are linked
 pub record Chained (n m : ℕ) (map heads : List ℕ) : Type 0 where
   pub few : n ≤ 4096
   pub long-map : n * 3 ≤ length map
-  pub long-heads : 128 ≤ length heads
+  pub long-heads : 2048 ≤ length heads
   pub links : Linked m map
   pub tops : Headed m map heads
 
@@ -49,12 +53,11 @@ pub record Relinked (n : ℕ) (map map′ : List ℕ) : Type 0 where
   pub lebs : (i : ℕ) → lebWord map′ i ≡ lebWord map i
   pub tail : drop (n * 3) map′ ≡ drop (n * 3) map
 
--- map′ and heads′ link the first m of n PEBs, and are otherwise as map and heads
+-- map′ and heads′ link the first m of n PEBs, and map′ is otherwise as map
 pub record Chains (n m : ℕ) (map map′ heads heads′ : List ℕ) : Type 0 where
   pub chained : Chained n m map′ heads′
   pub relinked : Relinked n map map′
   pub heads-size : length heads′ ≡ length heads
-  pub heads-tail : drop 128 heads′ ≡ drop 128 heads
 
 -- the third word of PEB i without links: its number, or no word
 abbrev pub ownWord : ℕ → ℕ → ℕ

@@ -1,27 +1,27 @@
 // The copies of a LEB are found along chains. While copies are compared, the third word of a PEB links it to the next lower PEB of its
 // bucket, and a head for each bucket starts its chain. A chain ends at a word that is not below the PEB before it.
 ghost use mathlib.Core.Path.{_≡_};
-ghost use Prim.Native.Nat.{_+_, _*_, _%_, _≤_, _<_};
+ghost use Prim.Native.Nat.{_+_, _*_, _≤_, _<_};
 ghost use lib.ListN.{length, getD};
 ghost use Rattle.base.specs.Below.{anyBelow};
 ghost use Rattle.report.specs.Report.{noWord};
 ghost use Rattle.choice.specs.Keyed.{volumeWord, sameLeb};
-ghost use Rattle.choice.specs.Chain.{linkWord, bucketAt, Linked, Chained, Chains, ownWord, Unlinked};
+ghost use Rattle.choice.specs.Chain.{linkWord, bucketOf, bucketAt, Linked, Chained, Chains, ownWord, Unlinked};
 use crate::repeat::same_leb;
 
-// The bucket of a LEB: one of 128.
-fn bucket(leb: u32) -> usize
-    ensures { λ r. ⌜ r ≡ leb % 128 ⌝ }
+// The bucket of a volume's LEB: one of 2,048.
+fn bucket(volume: u32, leb: u32) -> usize
+    ensures { λ r. ⌜ r ≡ bucketOf volume leb ⌝ }
 {
-    (leb % 128) as usize
+    (volume % 4 * 512 + leb % 512) as usize
 }
 
 // The highest PEB in the bucket of PEB i, which holds a user or layout LEB.
 pub fn head(map: &[u32], heads: &[u32], i: usize) -> usize
-    requires { ⌜ (i * 3 + 3 ≤ length (now map)) × ((128 ≤ length (now heads)) × (volumeWord (now map) i ≡ noWord → ⊥)) ⌝ }
+    requires { ⌜ (i * 3 + 3 ≤ length (now map)) × ((2048 ≤ length (now heads)) × (volumeWord (now map) i ≡ noWord → ⊥)) ⌝ }
     ensures { λ r. ⌜ r ≡ getD (now (heads .entry)) (bucketAt (now (map .entry)) i) 0 ⌝ }
 {
-    let at = bucket(map[i * 3 + 1]);
+    let at = bucket(map[i * 3], map[i * 3 + 1]);
     heads[at] as usize
 }
 
@@ -41,7 +41,7 @@ fn link_peb(map: &mut [u32], heads: &mut [u32], n: usize, i: usize)
     if map[i * 3] == 0xFFFFFFFF {
         return;
     }
-    let b = bucket(map[i * 3 + 1]);
+    let b = bucket(map[i * 3], map[i * 3 + 1]);
     map[i * 3 + 2] = heads[b];
     heads[b] = i as u32;
 }

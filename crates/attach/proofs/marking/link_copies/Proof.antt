@@ -1,5 +1,6 @@
 -- `attach::marking::link_copies` meets its contract. Assumes nothing.
 use borrow.Author.Needs.{needs}
+use lib.Dec.{lit≤}
 use Rattle.attach.proofs.Marks.{no-heads, heads-from}
 use Rattle.attach.proofs.marking.link_copies.Statement.{statement}
 use Rattle.attach.proofs.marking.link_copies.Tie as tie
@@ -14,7 +15,7 @@ link-copies-requires : tie.Need-link-copies-requires
 link-copies-requires c κs =
     let d = c .before .before .before .before .before .before .before .before in
     let p = d .pre in
-    no-heads (d .args .n) (d .args .map .now) (d .args .states .now) (c .before .before .before .before .fill-words .ensures) (search (needs, c .before .before .before .states .given)) (p .1 .1) (p .0) (p .1 .0)
+    no-heads (d .args .n) (d .args .map .now) (d .args .heads .now) 2048 (c .before .before .before .before .fill-words .ensures) (search (needs, c .before .before .before .heads .given)) (lit≤ tt) (p .1 .1) (p .0) (p .1 .0)
 
 same-length : tie.Need-same-length
 same-length c = search needs
@@ -25,7 +26,7 @@ same-length-2 c = search needs
 returns : tie.Need-returns
 returns c =
     let d = c .before .before .before .before .before .before .before .before .before .before .before .before .before in
-    heads-from (d .args .n) (d .args .map .now) (d .args .states .now) (c .before .before .before .before .before .before .before .before .before .fill-words .ensures) (search (needs, c .before .before .before .before .before .before .before .before .states .given)) (d .pre .1 .1)
+    heads-from (d .args .n) (d .args .map .now) (d .args .heads .now) 2048 (c .before .before .before .before .before .before .before .before .before .fill-words .ensures) (search (needs, c .before .before .before .before .before .before .before .before .heads .given))
     (c .before .before .before .before .link-copies .ensures)
 
 pub link-copies-spec : {M : Type 1} → statement M

@@ -20,7 +20,7 @@ abbrev μ-loop : tie.MeasureT-loop
 loop-holds : tie.Need-loop-holds Inv-loop μ-loop
 loop-holds c =
     let d = c .before .before in
-    (omega arith, record { chained = d .pre; relinked = relinked-none (d .args .n) (d .args .map .now); heads-size = refl; heads-tail = refl })
+    (omega arith, record { chained = d .pre; relinked = relinked-none (d .args .n) (d .args .map .now); heads-size = refl })
 
 link-peb-requires : tie.Need-link-peb-requires Inv-loop μ-loop
 link-peb-requires c κs = (omega arith, c .before .before .before .loop .inv .1 .chained)

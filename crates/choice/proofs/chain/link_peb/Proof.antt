@@ -1,6 +1,6 @@
 -- `choice::chain::link_peb` meets its contract. Assumes nothing.
-use borrow.Author.Needs.{needs}
 use Rattle.choice.proofs.Chains.{chain-other, chain-copy}
+use borrow.Author.Needs.{needs}
 use Rattle.choice.proofs.chain.link_peb.Statement.{statement}
 use Rattle.choice.proofs.chain.link_peb.Tie as tie
 use Rattle.choice.proofs.chain.link_peb.Reads as reads
@@ -22,14 +22,23 @@ returns c = chain-other (c .before .before .before .before .pre .0) (c .before .
 mul-bucket : tie.Need-mul-bucket
 mul-bucket c = search needs
 
-add-bucket : tie.Need-add-bucket
-add-bucket c = search needs
-
 mul-bucket-2 : tie.Need-mul-bucket-2
 mul-bucket-2 c = search needs
 
 slice-read-bucket : tie.Need-slice-read-bucket
 slice-read-bucket c = search needs
+
+mul-bucket-3 : tie.Need-mul-bucket-3
+mul-bucket-3 c = search needs
+
+add-bucket : tie.Need-add-bucket
+add-bucket c = search needs
+
+mul-bucket-4 : tie.Need-mul-bucket-4
+mul-bucket-4 c = search needs
+
+slice-read-bucket-2 : tie.Need-slice-read-bucket-2
+slice-read-bucket-2 c = search needs
 
 bucket-requires : tie.Need-bucket-requires
 bucket-requires c κs = search needs
@@ -69,8 +78,8 @@ same-length-2 c = search needs
 
 returns-2 : tie.Need-returns-2
 returns-2 c =
-    let p = c .before .before .before .before .before .before .before .pre in
-    rw (c .before .bucket .ensures) (chain-copy (p .0) (p .1) (c .before .before .before .if1 .left))
+    let p = c .before .before .before .before .before .before .before .before .pre in
+    rw (c .before .bucket .ensures) (chain-copy (p .0) (p .1) (c .before .before .before .before .if1 .left))
 
 pub link-peb-spec : {M : Type 1} → statement M
 link-peb-spec =
@@ -81,9 +90,12 @@ link-peb-spec =
     slice-read-if1
     returns
     mul-bucket
-    add-bucket
     mul-bucket-2
     slice-read-bucket
+    mul-bucket-3
+    add-bucket
+    mul-bucket-4
+    slice-read-bucket-2
     bucket-requires
     mul-map
     slice-read-map
