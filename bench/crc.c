@@ -8,7 +8,7 @@
 /* crates/bench_crc: a slice is a pointer and a length */
 uint32_t bench_crc_update(uint32_t state, const uint8_t *bytes, size_t len);
 
-enum { SIZE = 128 << 20, ROUNDS = 15, STARTS = 16, LENGTHS = 300, CACHED = 1 << 20, CACHED_ROUNDS = 60 };
+enum { SIZE = 128 << 20, ROUNDS = 15, STARTS = 16, LENGTHS = 300, LONGEST = 20000, CACHED = 1 << 20, CACHED_ROUNDS = 60 };
 
 static uint32_t proved(const uint8_t *bytes, size_t len)
 {
@@ -49,15 +49,25 @@ static void fill(uint8_t *bytes)
     }
 }
 
-/* every short length from every start */
+static int agree_at(const uint8_t *bytes, size_t at, size_t len)
+{
+    if (proved(bytes + at, len) == zlib(bytes + at, len))
+        return 1;
+    printf("differ: start %zu, length %zu\n", at, len);
+    return 0;
+}
+
+/* every short length from every start, and longer ones */
 static int agree(const uint8_t *bytes)
 {
-    for (size_t at = 0; at < STARTS; at++)
+    for (size_t at = 0; at < STARTS; at++) {
         for (size_t len = 0; len < LENGTHS; len++)
-            if (proved(bytes + at, len) != zlib(bytes + at, len)) {
-                printf("differ: start %zu, length %zu\n", at, len);
+            if (!agree_at(bytes, at, len))
                 return 0;
-            }
+        for (size_t len = LENGTHS; len < LONGEST; len += 61)
+            if (!agree_at(bytes, at, len))
+                return 0;
+    }
     return 1;
 }
 

@@ -64,4 +64,24 @@ def crc_cases():
         length = chance.between(65, 4096)
         add(bytes(length), chance.below(8))
         add(b"\xff" * length, chance.below(8))
+
+    # Long strings: all rests of a word, and around the lengths at which the
+    # program takes one block, two and three (2,448 bytes and 2,400 for each).
+    for length in range(4097, 4105):
+        add(chance.bytes(length), next(offsets))
+    for blocks in (1, 2, 3):
+        for rest in (-9, -8, -1, 0, 1, 7, 8, 9):
+            add(chance.bytes(2448 + 2400 * blocks + rest), next(offsets))
+    add(chance.bytes(65000), next(offsets))
+    for length in (5000, 20000):
+        add(bytes(length), next(offsets))
+        add(b"\xff" * length, next(offsets))
+        add(chance.bytes(length), next(offsets))
+    # One bit set in a long string of zeroes.
+    for place in range(0, 7500, 977):
+        string = bytearray(7500)
+        string[place] = 1 << (place % 8)
+        add(string, next(offsets))
+    for _ in range(10):
+        add(chance.bytes(chance.between(4105, 12000)), chance.below(8))
     return cases

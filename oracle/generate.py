@@ -34,8 +34,8 @@ ROOT = os.path.dirname(HERE)
 # counted. The numbers stand here so that a generator that loses a case does
 # not go unseen; who adds cases counts them again.
 PROGRAMS = (
-    ("test_crc", crc_cases, 500000, {
-        "bytes": 814,
+    ("test_crc", crc_cases, 1000000, {
+        "bytes": 871,
         "empty": 38,
     }),
     ("test_slip", slip_cases, 500000, {
