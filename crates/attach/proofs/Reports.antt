@@ -67,7 +67,8 @@ module _ {g : Geometry} {image : List ℕ} {n : ℕ} {s : Sums} {t : List ℕ} {
   marked = record {
     table-is = p .table-is;
     pebs-are = p .past10 .chosen .marked .pebs-are;
-    map-is = p .past10 .chosen .marked .map-is;
+    volumes = p .past10 .chosen .marked .volumes;
+    lebs = p .past10 .chosen .marked .lebs;
     layout-small = p .past10 .chosen .marked .layout-small;
   }
 

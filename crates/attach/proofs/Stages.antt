@@ -17,7 +17,7 @@ use Rattle.header.specs.Vid.{layoutVolume}
 use Rattle.volume_table.specs.Table.{recordsPart, tableGood, takenLeb, takenRecords, copiesMark, takenNumber}
 use Rattle.volume_table.specs.declared.Taken.{Taken}
 use Rattle.volume_table.specs.declared.Taken.the-variants.{First, Second, Neither}
-use Rattle.report.specs.View.{VidView, vidGood, vidNewer, vidBlank, vidBad, Views, viewsOf, copies, isMappable}
+use Rattle.report.specs.View.{Views, viewsOf, copies}
 use Rattle.report.specs.Scan.{Refusal, refusal10}
 use Rattle.report.specs.Choice.{refusal9}
 use Rattle.report.specs.Volumes.{layoutContent, tableLeb, tableRecords, tableMark}
@@ -52,13 +52,11 @@ use Rattle.report.proofs.Words.{key-length, entry-words-length, peb-words-lengt
 use Rattle.base.proofs.Rows.{row-word}
 use Rattle.base.specs.Lists.{table}
 use Rattle.choice.specs.Keyed.{Keyed, volumeWord, repeatAt}
-use Rattle.choice.specs.Chain.{ownWord, Chains, Unlinked}
-use Rattle.choice.proofs.Words.{mappable-word}
+use Rattle.choice.specs.Chain.{Chains}
 use Rattle.attach.specs.Marking.{Linking}
 use Rattle.attach.specs.Stage.{Ended, Room, Past8, Past10, Past11, outcome}
 use Rattle.attach.proofs.Ends.{words-tail, late-refusal}
 use Rattle.attach.proofs.Reports.{refused-ended}
-use Rattle.attach.proofs.Rows.{rows-there}
 use Rattle.attach.proofs.Layouts.{layout-small}
 
 -- ---- the table taken
@@ -206,17 +204,6 @@ module _ {g : Geometry} {image : List ℕ} {n : ℕ} {pebs map states : List ℕ
 
 -- ---- refusals 9 and 10
 
--- the third word of a PEB after the first pass
-own-key : (i : ℕ) (v : VidView) → ownWord (getD (keyWords i v) 0 0) i ≡ getD (keyWords i v) 2 0
-own-key i (vidGood c) = go (isMappable (c .header .volume)) refl
-  where
-    go : (m : Bool) → isMappable (c .header .volume) ≡ m → ownWord (getD (keyWords i (vidGood c)) 0 0) i ≡ getD (keyWords i (vidGood c)) 2 0
-    go true m = rw (m, ne-eqb (c .header .volume) noWord (mappable-word (c .header .volume) m))
-    go false m = rw m
-own-key i vidNewer = refl
-own-key i vidBlank = refl
-own-key i vidBad = refl
-
 module _ {g : Geometry} {image : List ℕ} {n : ℕ} {s : Sums} {pebs map states : List ℕ} (p : Past8 g image n s pebs map states) {map₁ heads heads₁ : List ℕ}
     (o : Chains n n map map₁ heads heads₁) where
   abbrev us : Views
@@ -266,23 +253,11 @@ module _ {g : Geometry} {image : List ℕ} {n : ℕ} {s : Sums} {pebs map states
       pub linking : Linking g image n map₁ heads₁
       linking = record { keyed = keyed; chained = o .chained; no-repeat = none9 }
 
-      module _ {pebs₂ map₂ : List ℕ} (me : pebs₂ ≡ markedWords (places g n us) n us ++ drop (n * 2) pebs) (lp : length pebs₂ ≡ length pebs) (ul : Unlinked n map₁ map₂) where
+      module _ {pebs₂ : List ℕ} (me : pebs₂ ≡ markedWords (places g n us) n us ++ drop (n * 2) pebs) (lp : length pebs₂ ≡ length pebs) where
         pub marked-tail : drop (n * 2) pebs₂ ≡ drop (n * 2) pebs
         marked-tail = words-tail (n * 2) (markedWords (places g n us) n us) pebs me lp (p .room .long-pebs)
 
-        pub unlinked-tail : drop (n * 3) map₂ ≡ drop (n * 3) map
-        unlinked-tail = ul .relinked .tail ∙ o .relinked .tail
-
-        long₂ : n * 3 ≤ length map₂
-        long₂ = omega (arith, o .chained .long-map, ul .relinked .size)
-
-        key-there : (i j : ℕ) → i < n → j < 3 → getD map₂ (i * 3 + j) 0 ≡ getD (keys i) j 0
-        key-there i zero h k = let z : i * 3 + 0 ≡ i * 3 = omega arith in rw z (ul .relinked .volumes i ∙ volume-is i h)
-        key-there i (suc zero) h k = ul .relinked .lebs i ∙ keyed .lebs i h
-        key-there i (suc (suc zero)) h k = ul .owns i h ∙ ap (λ (x : ℕ). ownWord x i) (volume-is i h) ∙ own-key i (us i .vid)
-        key-there i (suc (suc (suc j))) h k = absurd (omega arith)
-
-        pub past-ten : s .unused ≡ false → Past10 g image n s pebs₂ map₂ states
+        pub past-ten : s .unused ≡ false → Past10 g image n s pebs₂ map₁ states
         past-ten u =
             let long-pebs : n * 2 ≤ length pebs₂ = omega (arith, p .room .long-pebs, lp) in
             record {
@@ -292,7 +267,7 @@ module _ {g : Geometry} {image : List ℕ} {n : ℕ} {s : Sums} {pebs map states
                 least = p .room .least;
                 few = p .room .few;
                 long-pebs = long-pebs;
-                long-map = long₂;
+                long-map = o .chained .long-map;
                 long-states = p .room .long-states;
               };
               chosen = record {
@@ -300,11 +275,12 @@ module _ {g : Geometry} {image : List ℕ} {n : ℕ} {s : Sums} {pebs map states
                 whole = p .room .whole;
                 few = p .room .few;
                 long-pebs = long-pebs;
-                long-map = long₂;
+                long-map = o .chained .long-map;
                 marked = record {
                   table-is = refl;
                   pebs-are = me ∙ ap (λ (x : List ℕ). markedWords (places g n us) n us ++ x) (sym marked-tail);
-                  map-is = sym (rows-there 3 keys map₂ (λ j. key-length j (us j .vid)) n long₂ key-there);
+                  volumes = keyed .volumes;
+                  lebs = keyed .lebs;
                   layout-small = layout-small g image;
                 };
               };

@@ -71,7 +71,6 @@ fn attach_linked(
         return lent::refuse(10, 0, n, pebs, map, states);
     }
     marking::mark_chosen(image, g, n, map, heads, pebs);
-    choice::unlink(map, n);
     attach_chosen(image, g, n, sums, pebs, map, states)
 }
 

@@ -1,5 +1,5 @@
--- Laws of the chains: who is in a bucket, a walk along a chain, links stored and taken out. Assumes nothing.
-use mathlib.Core.Path.{_≡_, refl, sym, ap, ap₂, _∙_}
+-- Laws of the chains: who is in a bucket, a walk along a chain, links stored. Assumes nothing.
+use mathlib.Core.Path.{_≡_, refl, sym, ap₂, _∙_}
 use mathlib.Core.Logic.{_≢_, _⊎_, inl, inr}
 use mathlib.Core.Bool.{Bool, true, false}
 use mathlib.Core.List.{List}
@@ -7,7 +7,7 @@ use Prim.Native.Nat.{ℕ, _+_, _*_, _≤_, _<_}
 use native.Mathlib.Omega.{arith}
 use borrow.Author.Tests.{eq-eqb, ne-eqb, ltb-true, ltb-false}
 use lib.Dec.{ltb}
-use lib.ListN.{length, getD, set, length-set}
+use lib.ListN.{getD, set, length-set}
 use lib.Seq.{getD-set-same, getD-set-other, drop-set-lt}
 use Rattle.base.proofs.Below.{eq-or-ne, one-more}
 use Rattle.geometry.specs.declared.Geometry.{Geometry}
@@ -15,7 +15,7 @@ use Rattle.report.specs.View.{viewsOf, copies}
 use Rattle.report.specs.Choice.{repeats}
 use Rattle.report.specs.Report.{noWord}
 use Rattle.choice.specs.Keyed.{Keyed, volumeWord, lebWord, sameLeb}
-use Rattle.choice.specs.Chain.{linkWord, bucketOf, bucketAt, Nearest, Link, Linked, Chained, Relinked, Chains, ownWord}
+use Rattle.choice.specs.Chain.{linkWord, bucketOf, bucketAt, Nearest, Link, Linked, Chained, Relinked, Chains}
 use Rattle.choice.proofs.Words.{not-so, same-true, repeat-words}
 
 -- ---- who is in a bucket
@@ -212,15 +212,3 @@ chains-on o p = record {
   relinked = relinked-on (o .relinked) (p .relinked);
   heads-size = p .heads-size ∙ o .heads-size;
 }
-
--- ---- links are taken out
-
-pub unlink-more : {n i v : ℕ} {map map′ : List ℕ} → i < n → n * 3 ≤ length map → Relinked n map map′ → v ≡ ownWord (volumeWord map′ i) i
-    → ((k : ℕ) → k < i → linkWord map′ k ≡ ownWord (volumeWord map k) k)
-    → (Relinked n map (set map′ (i * 3 + 2) v)) × ((k : ℕ) → k < i + 1 → linkWord (set map′ (i * 3 + 2) v) k ≡ ownWord (volumeWord map k) k)
-unlink-more {n} {i} {v} {map} {map′} h l o e p = (
-  relinked-on o (relinked-one n i v map′ h),
-  one-more (λ (k : ℕ). linkWord (set map′ (i * 3 + 2) v) k ≡ ownWord (volumeWord map k) k) i
-      (λ k q. getD-set-other map′ (i * 3 + 2) (k * 3 + 2) v 0 (λ y. omega arith) ∙ p k q)
-      (getD-set-same map′ (i * 3 + 2) v 0 (let z = o .size in omega arith) ∙ e ∙ ap (λ (x : ℕ). ownWord x i) (o .volumes i)),
-)

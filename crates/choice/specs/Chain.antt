@@ -58,12 +58,3 @@ pub record Chains (n m : ℕ) (map map′ heads heads′ : List ℕ) : Type 0 wh
   pub chained : Chained n m map′ heads′
   pub relinked : Relinked n map map′
   pub heads-size : length heads′ ≡ length heads
-
--- the third word of PEB i without links: its number, or no word
-abbrev pub ownWord : ℕ → ℕ → ℕ
-ownWord v i = cond (eqb v noWord) noWord i
-
--- map′ is map without links
-pub record Unlinked (n : ℕ) (map map′ : List ℕ) : Type 0 where
-  pub relinked : Relinked n map map′
-  pub owns : (i : ℕ) → i < n → linkWord map′ i ≡ ownWord (volumeWord map i) i

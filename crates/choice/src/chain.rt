@@ -6,7 +6,7 @@ ghost use lib.ListN.{length, getD};
 ghost use Rattle.base.specs.Below.{anyBelow};
 ghost use Rattle.report.specs.Report.{noWord};
 ghost use Rattle.choice.specs.Keyed.{volumeWord, sameLeb};
-ghost use Rattle.choice.specs.Chain.{linkWord, bucketOf, bucketAt, Linked, Chained, Chains, ownWord, Unlinked};
+ghost use Rattle.choice.specs.Chain.{linkWord, bucketOf, bucketAt, Linked, Chained, Chains};
 use crate::repeat::same_leb;
 
 // The bucket of a volume's LEB: one of 2,048.
@@ -73,27 +73,4 @@ pub fn has_lower_copy(map: &[u32], n: usize, i: usize) -> bool
         j = link(map, j);
     }
     false
-}
-
-// The third word of PEB i without links.
-fn own_word(volume: u32, i: u32) -> u32
-    ensures { λ r. ⌜ r ≡ ownWord volume i ⌝ }
-{
-    if volume == 0xFFFFFFFF {
-        return volume;
-    }
-    i
-}
-
-// The words of n PEBs as they were before they were linked.
-pub fn unlink(map: &mut [u32], n: usize)
-    requires { ⌜ (n ≤ 4096) × (n * 3 ≤ length (now map)) ⌝ }
-    ensures { λ _. ⌜ Unlinked n (now (map .entry)) (now (map .exit)) ⌝ }
-{
-    let mut i: usize = 0;
-    while i < n {
-        let own = own_word(map[i * 3], i as u32);
-        map[i * 3 + 2] = own;
-        i += 1;
-    }
 }

@@ -6,7 +6,6 @@ mod repeat;
 
 pub use chain::has_lower_copy;
 pub use chain::link_copies;
-pub use chain::unlink;
 pub use chosen::chosen_peb;
 pub use copy::is_sound;
 pub use repeat::first_repeat;

@@ -1,15 +1,15 @@
 -- A word of a message may be left out if it is added to what follows. Assumes nothing.
-use mathlib.Core.Path.{_≡_, refl, sym, ap, ap₂, _∙_}
-use Prim.Native.Nat.{ℕ, zero, suc, _+_, _*_, _-_, _/_, _%_, _^_, _≤_, _<_}
-use mathlib.Core.List.{List, [], _∷_}
+use mathlib.Core.Path.{_≡_, sym, ap, _∙_}
+use Prim.Native.Nat.{ℕ, _+_, _*_, _-_, _/_, _%_, _^_, _≤_, _<_}
+use mathlib.Core.List.{List}
 use native.Mathlib.Omega.{arith}
-use lib.Bits.{bitXor, xor-zero-l, xor-zero-r, xor-self, xor-comm, xor-lt, xor-shr, xor-mod, xor-block}
+use lib.Bits.{bitXor, xor-zero-l, xor-zero-r, xor-self, xor-comm, xor-lt, xor-shr, xor-mod}
 use lib.ListN.{length, drop, length-drop}
 use Rattle.base.specs.Lists.{part, Bytes}
 use Rattle.base.proofs.Lists.{bytes-drop}
 use Rattle.crc32.specs.Crc.{crcBits, crcFrom}
 use Rattle.crc32.specs.Table.{leOf}
-use Rattle.crc32.specs.Fold.{wordsOf, lags, spread}
+use Rattle.crc32.specs.Fold.{lags, spread}
 use Rattle.crc32.proofs.Xor.{xor-assoc}
 use Rattle.crc32.proofs.Laws.{crcBits-xor, crcBits-add, crcBits-shift, crcBits-split, crcBits-lt, crcFrom-word}
 use Rattle.crc32.proofs.LookUp.{crcFrom-part}

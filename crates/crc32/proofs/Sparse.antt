@@ -5,7 +5,7 @@ use Prim.Native.Nat.{ℕ, zero, suc, _+_, _*_, _-_, _/_, _%_, _^_, _≤_, _<_}
 use mathlib.Core.List.{List, [], _∷_}
 use native.Mathlib.Nat.{mod-lt, zero-mul, one-mul, pow-suc}
 use native.Mathlib.Omega.{arith}
-use lib.Bits.{bitXor, xor-zero-r, xor-shifted, xor-self, xor-comm}
+use lib.Bits.{bitXor, xor-shifted, xor-self}
 use lib.Pow.{pow-pos, pow-add, split, shr-lt}
 use Rattle.crc32.specs.Crc.{tap, crcBit, crcBits}
 use Rattle.crc32.proofs.Xor.{xor-assoc, xor-swap}

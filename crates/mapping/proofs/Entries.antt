@@ -27,7 +27,6 @@ use Rattle.report.specs.Scratch.{keyWords, markedClass}
 use Rattle.report.proofs.Choice.{chosen-at}
 use Rattle.report.proofs.First.{none-some}
 use Rattle.report.proofs.Map.{concat-cong}
-use Rattle.report.proofs.Words.{key-length}
 use Rattle.mapping.specs.Settle.{firstAt, secondAt, thirdAt, settledClass, settledKey, classFrom, pebRow, mapRow, Marked, Mapped}
 use Rattle.mapping.specs.Slots.{firstSlots, slotOf, rowSlot, slotWord, Slots, inSlot, allEntries, Collected}
 use Rattle.mapping.proofs.Laws.{reserved-fit}
@@ -188,9 +187,6 @@ module _ (g : Geometry) (n : ℕ) (vs : Views) (t pebs map₀ : List ℕ) (o : M
   abbrev keys : ℕ → List ℕ
   keys i = keyWords i (vs i .vid)
 
-  keys-long : (i : ℕ) → length (keys i) ≡ 3
-  keys-long i = key-length i (vs i .vid)
-
   module _ (i : ℕ) (h : i < n) where
     pub class-word : firstAt 2 pebs i ≡ markedClass pl i (vs i .ec) (vs i .vid)
     class-word = ap (λ (x : List ℕ). getD x (i * 2) 0) (o .pebs-are) ∙ row-first n 2 marked (drop (n * 2) pebs) (λ j. refl) i h (omega arith)
@@ -199,10 +195,10 @@ module _ (g : Geometry) (n : ℕ) (vs : Views) (t pebs map₀ : List ℕ) (o : M
     counter-word = ap (λ (x : List ℕ). getD x (i * 2 + 1) 0) (o .pebs-are) ∙ row-word n 2 marked (drop (n * 2) pebs) (λ j. refl) i 1 h (omega arith)
 
     pub key-first : firstAt 3 map₀ i ≡ getD (keys i) 0 0
-    key-first = ap (λ (x : List ℕ). getD x (i * 3) 0) (o .map-is) ∙ row-first n 3 keys (drop (n * 3) map₀) keys-long i h (omega arith)
+    key-first = o .volumes i h
 
     pub key-second : secondAt 3 map₀ i ≡ getD (keys i) 1 0
-    key-second = ap (λ (x : List ℕ). getD x (i * 3 + 1) 0) (o .map-is) ∙ row-word n 3 keys (drop (n * 3) map₀) keys-long i 1 h (omega arith)
+    key-second = o .lebs i h
 
     class-settled : classFrom t pebs map₀ i ≡ classOf t pl i (vs i .ec) (vs i .vid)
     class-settled = rw (class-word, key-first, key-second) (class-is t pl i (vs i .ec) (vs i .vid))

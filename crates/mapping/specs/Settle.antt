@@ -11,7 +11,7 @@ use Rattle.header.specs.Vid.{layoutVolume}
 use Rattle.report.specs.View.{Copy, Views, copies}
 use Rattle.report.specs.Report.{noWord, staysIn, records, places, entries}
 use Rattle.report.specs.Attach.{pebWords, mapWords}
-use Rattle.report.specs.Scratch.{keysOf, markedWords}
+use Rattle.report.specs.Scratch.{keyWords, markedWords}
 
 -- the first, second and third word of PEB i, where each PEB has w words
 abbrev pub firstAt : ℕ → List ℕ → ℕ → ℕ
@@ -41,11 +41,12 @@ pebRow t pebs map i = classFrom t pebs map i ∷ secondAt 2 pebs i ∷ []
 abbrev pub mapRow : List ℕ → List ℕ → List ℕ → ℕ → List ℕ
 mapRow t pebs map i = settledKey (classFrom t pebs map i) (firstAt 3 map i) (secondAt 3 map i)
 
--- the words once the copies are chosen: marked classes with counters, keys of all copies; and the records of the table taken
+-- the words once the copies are chosen: marked classes with counters, volumes and LEBs of all copies; and the records of the table taken
 pub record Marked (g : Geometry) (n : ℕ) (vs : Views) (t pebs map : List ℕ) : Type 0 where
   pub table-is : t ≡ records g n vs
   pub pebs-are : pebs ≡ markedWords (places g n vs) n vs ++ drop (n * 2) pebs
-  pub map-is : map ≡ keysOf n vs ++ drop (n * 3) map
+  pub volumes : (i : ℕ) → i < n → firstAt 3 map i ≡ getD (keyWords i (vs i .vid)) 0 0
+  pub lebs : (i : ℕ) → i < n → secondAt 3 map i ≡ getD (keyWords i (vs i .vid)) 1 0
   pub layout-small : (i : ℕ) (c : Copy) → copies vs i ≡ some c → c .header .volume ≡ layoutVolume → c .header .lnum < 2
 
 -- the words of the report then: classes and counters, and the map

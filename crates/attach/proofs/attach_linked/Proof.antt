@@ -1,5 +1,5 @@
 -- `attach::attach_linked` meets its contract. Assumes nothing.
-use Rattle.attach.proofs.Stages.{keyed, refused-linked, repeat-refusal, unused-refusal, linking, marked-tail, unlinked-tail, past-ten, ended-from}
+use Rattle.attach.proofs.Stages.{keyed, refused-linked, repeat-refusal, unused-refusal, linking, marked-tail, past-ten, ended-from}
 use mathlib.Core.Path.{refl}
 use borrow.Author.Needs.{needs}
 use Rattle.attach.proofs.attach_linked.Statement.{statement}
@@ -10,7 +10,6 @@ use Rattle.attach.proofs.attach_chosen.Reads as attach-chosen-reads
 use Rattle.attach.proofs.lent.refuse.Reads as refuse-reads
 use Rattle.attach.proofs.marking.link_copies.Reads as link-copies-reads
 use Rattle.attach.proofs.marking.mark_chosen.Reads as mark-chosen-reads
-use Rattle.choice.proofs.unlink.Reads as unlink-reads
 use Rattle.choice.proofs.first_repeat.Reads as first-repeat-reads
 
 link-copies-requires : tie.Need-link-copies-requires
@@ -87,19 +86,16 @@ mark-chosen-requires c κs =
     let r = f .first-repeat in
     (linking p o (r .result) (r .ensures .0) (c .before .before .before .before .if1 .left), (p .room .long-pebs, p .pebs-are))
 
-unlink-requires : tie.Need-unlink-requires
-unlink-requires c κs = search needs
-
 attach-chosen-requires : tie.Need-attach-chosen-requires
 attach-chosen-requires c κs =
-    let f = c .before .before .before .before .before .before .before .before .before .before .before .before .before .before .before in
+    let f = c .before .before .before .before .before .before .before .before .before .before .before in
     let l = f .before .before .before .before .before .before in
     let s = l .before .before .before .before .before .before .before .before in
     let p = s .pre .0 in
     let o = l .link-copies .ensures in
     let r = f .first-repeat in
-    let m = c .before .before .before .before .before .before .before .before in
-    past-ten p o (r .result) (r .ensures .0) (c .before .before .before .before .before .before .before .before .before .before .before .before .before .before .if1 .left) (m .before .mark-chosen .ensures) (search (needs, m .pebs3 .given)) (c .before .before .before .before .before .unlink .ensures) (c .before .before .before .before .before .before .before .before .before .before .before .before .before .if2 .left)
+    let m = c .before .before .before .before in
+    past-ten p o (r .result) (r .ensures .0) (c .before .before .before .before .before .before .before .before .before .before .if1 .left) (m .before .mark-chosen .ensures) (search (needs, m .pebs3 .given)) (c .before .before .before .before .before .before .before .before .before .if2 .left)
 
 same-length-9 : tie.Need-same-length-9
 same-length-9 c = search needs
@@ -115,21 +111,17 @@ same-length-12 c = search needs
 
 returns-3 : tie.Need-returns-3
 returns-3 c =
-    let f = c .before .before .before .before .before .before .before .before .before .before .before .before .before .before .before .before .before .before .before .before .before .before in
+    let f = c .before .before .before .before .before .before .before .before .before .before .before .before .before .before .before .before .before .before in
     let l = f .before .before .before .before .before .before in
     let s = l .before .before .before .before .before .before .before .before in
     let p = s .pre .0 in
     let o = l .link-copies .ensures in
     let a = s .args in
     let r = f .first-repeat in
-    let m = c .before .before .before .before .before .before .before .before .before .before .before .before .before .before .before in
-    let me = m .before .mark-chosen .ensures in
-    let ul = c .before .before .before .before .before .before .before .before .before .before .before .before .unlink .ensures in
-    let no = c .before .before .before .before .before .before .before .before .before .before .before .before .before .before .before .before .before .before .before .before .before .if1 .left in
+    let m = c .before .before .before .before .before .before .before .before .before .before .before in
     ended-from (a .g) (a .image .now) (a .n) (p .room .least) (a .pebs .now) _ (a .map .now) _ (a .states .now) _
-    (marked-tail p o (r .result) (r .ensures .0) no me (search (needs, m .pebs3 .given)) ul)
-    (unlinked-tail p o (r .result) (r .ensures .0) no me (search (needs, m .pebs3 .given)) ul)
-    refl (c .before .before .before .before .before .before .attach-chosen .ensures)
+    (marked-tail p o (r .result) (r .ensures .0) (c .before .before .before .before .before .before .before .before .before .before .before .before .before .before .before .before .before .if1 .left) (m .before .mark-chosen .ensures) (search (needs, m .pebs3 .given)))
+    (o .relinked .tail) refl (c .before .before .before .before .before .before .attach-chosen .ensures)
 
 pub attach-linked-spec : {M : Type 1} → statement M
 attach-linked-spec =
@@ -151,7 +143,6 @@ attach-linked-spec =
     same-length-8
     returns-2
     mark-chosen-requires
-    unlink-requires
     attach-chosen-requires
     same-length-9
     same-length-10

@@ -7,11 +7,6 @@ use mathlib.Core.Path.{_∙_, ap}
 use borrow.Author.Needs.{needs}
 use Rattle.crc32.proofs.update.Statement.{statement}
 use Rattle.crc32.proofs.update.Tie as tie
-use Rattle.crc32.proofs.update.Reads as reads
-use Rattle.crc32.proofs.update.Lts as lts
-use Rattle.crc32.proofs.fold.by_folding.Reads as by-folding-reads
-use Rattle.crc32.proofs.history.by_history.Reads as by-history-reads
-use Rattle.crc32.proofs.words.by_table.Reads as by-table-reads
 
 by-table-requires : tie.Need-by-table-requires
 by-table-requires c κs = search needs

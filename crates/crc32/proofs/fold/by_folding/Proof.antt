@@ -7,15 +7,10 @@ use lib.Dec.{lit≤}
 use lib.ListN.{length, drop}
 use native.Mathlib.Omega.{arith}
 use Prim.Native.Nat.{_+_, _≤_, _-_}
-use mathlib.Core.Path.{_≡_, refl, _∙_}
+use mathlib.Core.Path.{_≡_, _∙_}
 use borrow.Author.Needs.{needs}
 use Rattle.crc32.proofs.fold.by_folding.Statement.{statement}
 use Rattle.crc32.proofs.fold.by_folding.Tie as tie
-use Rattle.crc32.proofs.fold.by_folding.Reads as reads
-use Rattle.crc32.proofs.fold.by_folding.Lts as lts
-use Rattle.crc32.proofs.fold.fold.Reads as fold-reads
-use Rattle.crc32.proofs.words.read_eight.Reads as read-eight-reads
-use Rattle.crc32.proofs.words.settle.Reads as settle-reads
 
 abbrev Inv-loop : tie.InvT-loop
 Inv-loop bytes q₀ i₀ q i = (i + 40 ≤ length bytes) × (crcFrom (pendingOf q) (drop i bytes) ≡ crcFrom (pendingOf q₀) bytes)

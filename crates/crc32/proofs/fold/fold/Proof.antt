@@ -6,11 +6,8 @@ use native.Mathlib.Nat.{mod-eq-of-lt}
 use lib.Bits.{bitXor, xor-lt}
 use native.Mathlib.Omega.{arith}
 use Rattle.crc32.proofs.Owed.{words-high, words-low, spread-words}
-use borrow.Author.Needs.{needs}
 use Rattle.crc32.proofs.fold.fold.Statement.{statement}
 use Rattle.crc32.proofs.fold.fold.Tie as tie
-use Rattle.crc32.proofs.fold.fold.Reads as reads
-use Rattle.crc32.proofs.fold.fold.Lts as lts
 
 returns : tie.Need-returns
 returns c =

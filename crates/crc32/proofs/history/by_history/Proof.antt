@@ -7,9 +7,6 @@ use mathlib.Core.Path.{_∙_, ap}
 use borrow.Author.Needs.{needs}
 use Rattle.crc32.proofs.history.by_history.Statement.{statement}
 use Rattle.crc32.proofs.history.by_history.Tie as tie
-use Rattle.crc32.proofs.history.by_history.Reads as reads
-use Rattle.crc32.proofs.history.by_history.Lts as lts
-use Rattle.crc32.proofs.history.in_blocks.Reads as in-blocks-reads
 
 array-write-b : tie.Need-array-write-b
 array-write-b c = search needs

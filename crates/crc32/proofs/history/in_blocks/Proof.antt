@@ -8,16 +8,10 @@ use Rattle.base.proofs.Lists.{to-end}
 use lib.ListN.{length, drop}
 use native.Mathlib.Omega.{arith}
 use Prim.Native.Nat.{_+_, _≤_, _-_}
-use mathlib.Core.Path.{_≡_, refl, _∙_, ap}
+use mathlib.Core.Path.{_≡_, refl, _∙_}
 use borrow.Author.Needs.{needs}
 use Rattle.crc32.proofs.history.in_blocks.Statement.{statement}
 use Rattle.crc32.proofs.history.in_blocks.Tie as tie
-use Rattle.crc32.proofs.history.in_blocks.Reads as reads
-use Rattle.crc32.proofs.history.in_blocks.Lts as lts
-use Rattle.crc32.proofs.fold.by_folding.Reads as by-folding-reads
-use Rattle.crc32.proofs.history.leave_out.Reads as leave-out-reads
-use Rattle.crc32.proofs.history.rest.Reads as rest-reads
-use Rattle.crc32.proofs.history.slide.Reads as slide-reads
 
 abbrev Inv-loop : tie.InvT-loop
 Inv-loop b₀ bytes i₀ b i = (i + 2448 ≤ length bytes) × ((History b) × (crcFrom (owed 0 b) (drop i bytes) ≡ crcFrom (owed 0 b₀) bytes))

@@ -3,10 +3,8 @@ use Rattle.crc32.proofs.Histories.{left-out-turn}
 use mathlib.Core.Path.{_∙_}
 use lib.ListN.{length-set}
 use mathlib.Core.Path.{refl}
-use Rattle.crc32.proofs.Folding.{fold-step}
-use Rattle.crc32.proofs.Histories.{owed-next}
 use mathlib.Core.Path.{_≡_}
-use Prim.Native.Nat.{_+_, _*_, _≤_, _-_}
+use Prim.Native.Nat.{_*_, _≤_, _-_}
 use native.Mathlib.Omega.{arith}
 use lib.ListN.{length, drop}
 use Rattle.crc32.specs.Crc.{crcFrom}
@@ -14,10 +12,6 @@ use Rattle.crc32.specs.Fold.{owed}
 use borrow.Author.Needs.{needs}
 use Rattle.crc32.proofs.history.leave_out.Statement.{statement}
 use Rattle.crc32.proofs.history.leave_out.Tie as tie
-use Rattle.crc32.proofs.history.leave_out.Reads as reads
-use Rattle.crc32.proofs.history.leave_out.Lts as lts
-use Rattle.crc32.proofs.history.owed_word.Reads as owed-word-reads
-use Rattle.crc32.proofs.words.read_eight.Reads as read-eight-reads
 
 abbrev Inv-loop : tie.InvT-loop
 Inv-loop b₀ bytes j₀ b j = (j ≤ 300) × ((length b ≡ 600) × (crcFrom (owed j b) (drop (8 * j) bytes) ≡ crcFrom (owed 0 b₀) bytes))

@@ -7,9 +7,6 @@ use Prim.Native.Nat.{_+_, _^_, _<_}
 use borrow.Author.Needs.{needs}
 use Rattle.crc32.proofs.history.owed_word.Statement.{statement}
 use Rattle.crc32.proofs.history.owed_word.Tie as tie
-use Rattle.crc32.proofs.history.owed_word.Reads as reads
-use Rattle.crc32.proofs.history.owed_word.Lts as lts
-use Rattle.crc32.proofs.history.word_at.Reads as word-at-reads
 
 add-word-at : tie.Need-add-word-at
 add-word-at c = search needs

@@ -2,22 +2,17 @@
 use Rattle.crc32.specs.Fold.{wordsOf}
 use lib.Bits.{xor-zero-l, xor-zero-r}
 use Rattle.crc32.proofs.Histories.{rest-turn, owed-last}
-use mathlib.Core.Path.{_∙_, ap}
+use mathlib.Core.Path.{_∙_}
 use mathlib.Core.Path.{_≡_}
-use Prim.Native.Nat.{_+_, _*_, _≤_, _-_}
+use Prim.Native.Nat.{_*_, _≤_, _-_}
 use native.Mathlib.Omega.{arith}
 use lib.Bits.{bitXor}
-use lib.ListN.{length, drop}
+use lib.ListN.{drop}
 use Rattle.crc32.specs.Crc.{crcFrom}
 use Rattle.crc32.specs.Fold.{owed, pendingOf}
 use borrow.Author.Needs.{needs}
 use Rattle.crc32.proofs.history.rest.Statement.{statement}
 use Rattle.crc32.proofs.history.rest.Tie as tie
-use Rattle.crc32.proofs.history.rest.Reads as reads
-use Rattle.crc32.proofs.history.rest.Lts as lts
-use Rattle.crc32.proofs.fold.fold.Reads as fold-reads
-use Rattle.crc32.proofs.history.owed_word.Reads as owed-word-reads
-use Rattle.crc32.proofs.words.read_eight.Reads as read-eight-reads
 
 abbrev Inv-loop : tie.InvT-loop
 Inv-loop b bytes p₀ j₀ p j = (j ≤ 300) × (crcFrom (bitXor (owed j b) (pendingOf p)) (drop (8 * j) bytes) ≡ crcFrom (owed 0 b) bytes)

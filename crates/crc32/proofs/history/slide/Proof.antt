@@ -2,20 +2,16 @@
 use Rattle.crc32.proofs.Histories.{slid}
 use Rattle.crc32.proofs.Histories.{slide-low, slide-room, slide-rest}
 use Rattle.crc32.specs.Fold.{zeros}
-use lib.ListN.{length-set, length-drop, take-append-drop}
-use Prim.Native.Nat.{ℕ}
-use mathlib.Core.List.{List, _++_}
-use mathlib.Core.Path.{refl, sym, ap, ap₂, _∙_}
+use lib.ListN.{length-set}
+use mathlib.Core.Path.{refl}
 use mathlib.Core.Path.{_≡_}
 use Prim.Native.Nat.{_+_, _≤_, _-_}
 use native.Mathlib.Omega.{arith}
-use lib.ListN.{length, take, drop, replicate}
+use lib.ListN.{length, take, drop}
 use Rattle.base.specs.Lists.{part}
 use borrow.Author.Needs.{needs}
 use Rattle.crc32.proofs.history.slide.Statement.{statement}
 use Rattle.crc32.proofs.history.slide.Tie as tie
-use Rattle.crc32.proofs.history.slide.Reads as reads
-use Rattle.crc32.proofs.history.slide.Lts as lts
 
 abbrev Inv-loop : tie.InvT-loop
 Inv-loop b₀ j₀ b j = (j ≤ 300) × ((length b ≡ 600) × ((take j b ≡ part 300 j b₀) × ((part 300 j b ≡ zeros j) × (drop (300 + j) b ≡ drop (300 + j) b₀))))

@@ -4,8 +4,6 @@ use native.Mathlib.Omega.{arith}
 use borrow.Author.Needs.{needs}
 use Rattle.crc32.proofs.words.at.Statement.{statement}
 use Rattle.crc32.proofs.words.at.Tie as tie
-use Rattle.crc32.proofs.words.at.Reads as reads
-use Rattle.crc32.proofs.words.at.Lts as lts
 
 shared-slice-read-result : tie.Need-shared-slice-read-result
 shared-slice-read-result c = search needs

@@ -1,9 +1,6 @@
 -- `crc32::words::by_bytes` meets its contract: the rest of the bytes, from the state now, gives the whole. Assumes nothing.
 use Rattle.crc32.proofs.LookUp.{two-halves}
-use mathlib.Core.Path.{_∙_, sym}
-use lib.Bits.{bitXor}
-use Rattle.crc32.proofs.Laws.{crcBits-add}
-use Rattle.crc32.specs.Crc.{crcByte, crcBits}
+use mathlib.Core.Path.{_∙_}
 use mathlib.Core.Path.{_≡_}
 use Prim.Native.Nat.{_≤_, _-_}
 use native.Mathlib.Omega.{arith}
@@ -14,10 +11,6 @@ use Rattle.crc32.proofs.Laws.{crcFrom-step}
 use borrow.Author.Needs.{needs}
 use Rattle.crc32.proofs.words.by_bytes.Statement.{statement}
 use Rattle.crc32.proofs.words.by_bytes.Tie as tie
-use Rattle.crc32.proofs.words.by_bytes.Reads as reads
-use Rattle.crc32.proofs.words.by_bytes.Lts as lts
-use Rattle.crc32.proofs.words.at.Reads as at-reads
-use Rattle.crc32.proofs.words.half_byte.Reads as half-byte-reads
 
 abbrev Inv-loop : tie.InvT-loop
 Inv-loop t state bytes c₀ i₀ c i = (i ≤ length bytes) × (crcFrom c (drop i bytes) ≡ crcFrom state bytes)

@@ -6,11 +6,6 @@ use mathlib.Core.Path.{_∙_}
 use borrow.Author.Needs.{needs}
 use Rattle.crc32.proofs.words.by_half.Statement.{statement}
 use Rattle.crc32.proofs.words.by_half.Tie as tie
-use Rattle.crc32.proofs.words.by_half.Reads as reads
-use Rattle.crc32.proofs.words.by_half.Lts as lts
-use Rattle.crc32.proofs.words.by_bytes.Reads as by-bytes-reads
-use Rattle.crc32.proofs.words.four.Reads as four-reads
-use Rattle.crc32.proofs.words.read_four.Reads as read-four-reads
 
 by-bytes-requires : tie.Need-by-bytes-requires
 by-bytes-requires c κs = search needs

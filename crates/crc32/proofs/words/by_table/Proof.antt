@@ -6,9 +6,6 @@ use Rattle.base.specs.Lists.{eqs}
 use borrow.Author.Needs.{needs}
 use Rattle.crc32.proofs.words.by_table.Statement.{statement}
 use Rattle.crc32.proofs.words.by_table.Tie as tie
-use Rattle.crc32.proofs.words.by_table.Reads as reads
-use Rattle.crc32.proofs.words.by_table.Lts as lts
-use Rattle.crc32.proofs.words.by_words.Reads as by-words-reads
 
 by-words-requires : tie.Need-by-words-requires
 unfolding tap crcBit crcBits crcRows eqs

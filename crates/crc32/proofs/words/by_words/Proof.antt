@@ -13,10 +13,6 @@ use mathlib.Core.Path.{_≡_, _∙_}
 use borrow.Author.Needs.{needs}
 use Rattle.crc32.proofs.words.by_words.Statement.{statement}
 use Rattle.crc32.proofs.words.by_words.Tie as tie
-use Rattle.crc32.proofs.words.by_words.Reads as reads
-use Rattle.crc32.proofs.words.by_words.Lts as lts
-use Rattle.crc32.proofs.words.by_half.Reads as by-half-reads
-use Rattle.crc32.proofs.words.through.Reads as through-reads
 
 abbrev Inv-loop : tie.InvT-loop
 Inv-loop t state bytes c₀ i₀ c i = (i ≤ length bytes) × ((c < 2 ^ 32) × (crcFrom c (drop i bytes) ≡ crcFrom state bytes))

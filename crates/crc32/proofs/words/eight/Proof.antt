@@ -3,9 +3,6 @@ use Rattle.crc32.proofs.LookUp.{low-bits}
 use borrow.Author.Needs.{needs}
 use Rattle.crc32.proofs.words.eight.Statement.{statement}
 use Rattle.crc32.proofs.words.eight.Tie as tie
-use Rattle.crc32.proofs.words.eight.Reads as reads
-use Rattle.crc32.proofs.words.eight.Lts as lts
-use Rattle.crc32.proofs.words.four.Reads as four-reads
 
 cast-four : tie.Need-cast-four
 cast-four c = search needs

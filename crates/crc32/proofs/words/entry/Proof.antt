@@ -5,8 +5,6 @@ use Rattle.crc32.proofs.LookUp.{table-rule}
 use borrow.Author.Needs.{needs}
 use Rattle.crc32.proofs.words.entry.Statement.{statement}
 use Rattle.crc32.proofs.words.entry.Tie as tie
-use Rattle.crc32.proofs.words.entry.Reads as reads
-use Rattle.crc32.proofs.words.entry.Lts as lts
 
 mul-result : tie.Need-mul-result
 mul-result c = search needs

@@ -2,8 +2,8 @@
 use Rattle.crc32.proofs.Sparse.{crcBits-zero}
 use lib.Pow.{shr-lt}
 use lib.Bits.{xor-zero-l, xor-zero-r}
-use Prim.Native.Nat.{ℕ, _-_}
-use mathlib.Core.Path.{refl, _∙_, sym, ap}
+use Prim.Native.Nat.{_-_}
+use mathlib.Core.Path.{_∙_}
 use mathlib.Core.Path.{_≡_}
 use Prim.Native.Nat.{_+_, _*_, _^_, _≤_, _<_}
 use native.Mathlib.Omega.{arith}
@@ -13,9 +13,6 @@ use Rattle.crc32.proofs.LookUp.{half-byte-more}
 use borrow.Author.Needs.{needs}
 use Rattle.crc32.proofs.words.four.Statement.{statement}
 use Rattle.crc32.proofs.words.four.Tie as tie
-use Rattle.crc32.proofs.words.four.Reads as reads
-use Rattle.crc32.proofs.words.four.Lts as lts
-use Rattle.crc32.proofs.words.entry.Reads as entry-reads
 
 abbrev Inv-loop : tie.InvT-loop
 Inv-loop t row z c₀ rest₀ k₀ c rest k = (k ≤ 8) × ((rest < 2 ^ (4 * k)) × (bitXor c (crcBits (4 * (row + k)) rest) ≡ crcBits (4 * (row + 8)) z))

@@ -4,9 +4,6 @@ use Rattle.crc32.proofs.Laws.{crcBits-split}
 use borrow.Author.Needs.{needs}
 use Rattle.crc32.proofs.words.half_byte.Statement.{statement}
 use Rattle.crc32.proofs.words.half_byte.Tie as tie
-use Rattle.crc32.proofs.words.half_byte.Reads as reads
-use Rattle.crc32.proofs.words.half_byte.Lts as lts
-use Rattle.crc32.proofs.words.entry.Reads as entry-reads
 
 entry-requires : tie.Need-entry-requires
 entry-requires c κs = search needs

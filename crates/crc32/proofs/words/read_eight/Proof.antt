@@ -4,9 +4,6 @@ use Rattle.crc32.proofs.LookUp.{eight-at}
 use borrow.Author.Needs.{needs}
 use Rattle.crc32.proofs.words.read_eight.Statement.{statement}
 use Rattle.crc32.proofs.words.read_eight.Tie as tie
-use Rattle.crc32.proofs.words.read_eight.Reads as reads
-use Rattle.crc32.proofs.words.read_eight.Lts as lts
-use Rattle.crc32.proofs.words.read_four.Reads as read-four-reads
 
 read-four-requires : tie.Need-read-four-requires
 read-four-requires c κs = search needs

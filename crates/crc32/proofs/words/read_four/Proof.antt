@@ -4,9 +4,6 @@ use Rattle.crc32.proofs.LookUp.{four-at}
 use borrow.Author.Needs.{needs}
 use Rattle.crc32.proofs.words.read_four.Statement.{statement}
 use Rattle.crc32.proofs.words.read_four.Tie as tie
-use Rattle.crc32.proofs.words.read_four.Reads as reads
-use Rattle.crc32.proofs.words.read_four.Lts as lts
-use Rattle.crc32.proofs.words.at.Reads as at-reads
 
 at-requires : tie.Need-at-requires
 at-requires c κs = search needs

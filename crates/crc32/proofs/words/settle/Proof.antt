@@ -6,9 +6,6 @@ use Rattle.base.specs.Lists.{eqs}
 use borrow.Author.Needs.{needs}
 use Rattle.crc32.proofs.words.settle.Statement.{statement}
 use Rattle.crc32.proofs.words.settle.Tie as tie
-use Rattle.crc32.proofs.words.settle.Reads as reads
-use Rattle.crc32.proofs.words.settle.Lts as lts
-use Rattle.crc32.proofs.words.settle_by.Reads as settle-by-reads
 
 settle-by-requires : tie.Need-settle-by-requires
 unfolding tap crcBit crcBits crcRows eqs

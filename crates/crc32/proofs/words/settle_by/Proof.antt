@@ -11,10 +11,6 @@ use mathlib.Core.Path.{_∙_}
 use borrow.Author.Needs.{needs}
 use Rattle.crc32.proofs.words.settle_by.Statement.{statement}
 use Rattle.crc32.proofs.words.settle_by.Tie as tie
-use Rattle.crc32.proofs.words.settle_by.Reads as reads
-use Rattle.crc32.proofs.words.settle_by.Lts as lts
-use Rattle.crc32.proofs.words.by_words.Reads as by-words-reads
-use Rattle.crc32.proofs.words.through.Reads as through-reads
 
 through-requires : tie.Need-through-requires
 through-requires c κs = search needs

@@ -5,10 +5,6 @@ use native.Mathlib.Nat.{mod-eq-of-lt}
 use borrow.Author.Needs.{needs}
 use Rattle.crc32.proofs.words.through.Statement.{statement}
 use Rattle.crc32.proofs.words.through.Tie as tie
-use Rattle.crc32.proofs.words.through.Reads as reads
-use Rattle.crc32.proofs.words.through.Lts as lts
-use Rattle.crc32.proofs.words.eight.Reads as eight-reads
-use Rattle.crc32.proofs.words.read_eight.Reads as read-eight-reads
 
 read-eight-requires : tie.Need-read-eight-requires
 read-eight-requires c κs = search needs
