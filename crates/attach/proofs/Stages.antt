@@ -9,6 +9,7 @@ use native.Mathlib.Omega.{arith}
 use borrow.Author.Tests.{lt-ltb, le-ltb, lt-leb, le-leb, leb-true, eq-eqb, ne-eqb}
 use lib.Dec.{leb}
 use lib.ListN.{length, drop, getD, replicate, length-append, length-replicate}
+use Rattle.base.proofs.Lists.{table-length}
 use Rattle.base.specs.Answers.{Answer, given, refused, allOf}
 use Rattle.base.proofs.Answers.{each-holds}
 use Rattle.geometry.specs.declared.Geometry.{Geometry}
@@ -50,7 +51,6 @@ use Rattle.scan.specs.declared.Passage.{Passage}
 use Rattle.scan.specs.Pass.{Passed, refusedAt, firstWords}
 use Rattle.report.proofs.Words.{key-length, entry-words-length, peb-words-length}
 use Rattle.base.proofs.Rows.{row-word}
-use Rattle.base.specs.Lists.{table}
 use Rattle.choice.specs.Keyed.{Keyed, volumeWord, repeatAt}
 use Rattle.choice.specs.Chain.{Chains}
 use Rattle.attach.specs.Marking.{Linking}
@@ -118,10 +118,6 @@ module _ {g : Geometry} {image : List ℕ} {n : ℕ} {s : Sums} {pebs map states
         late-refusal g image n p ∙ rw z
 
 -- ---- words before and after a stage
-
-table-length : (f : ℕ → ℕ) (i n : ℕ) → length (table f i n) ≡ n
-table-length f i zero = refl
-table-length f i (suc n) = ap suc (table-length f (suc i) n)
 
 state-words-long : (g : Geometry) (n : ℕ) (vs : Views) → length (stateWords g n vs) ≡ 128
 unfolding stateWords

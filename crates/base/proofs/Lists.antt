@@ -131,6 +131,10 @@ module _ {A : Type 0} where
   table-from f d i (suc n) zero h = ap f (sym (add-zero i))
   table-from f d i (suc n) (suc k) h = table-from f d (suc i) n k (le-of-suc-le-suc h) ∙ ap f (suc-add i k ∙ sym (add-suc i k))
 
+  pub table-length : (f : ℕ → A) (i n : ℕ) → length (table f i n) ≡ n
+  table-length f i zero = refl
+  table-length f i (suc n) = ap suc (table-length f (suc i) n)
+
   pub table-at : (f : ℕ → A) (d : A) (n k : ℕ) → k < n → getD (table f 0 n) k d ≡ f k
   table-at f d n k h = table-from f d 0 n k h ∙ ap f (zero-add k)
 

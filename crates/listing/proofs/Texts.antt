@@ -2,14 +2,14 @@
 use mathlib.Core.Path.{_≡_, refl, sym, ap, _∙_}
 use mathlib.Core.Bool.{Bool, true, false, _&&_}
 use mathlib.Core.List.{List}
-use Prim.Native.Nat.{ℕ, zero, suc, _*_, _-_, _≤_, _<_}
+use Prim.Native.Nat.{ℕ, _*_, _-_, _≤_, _<_}
 use native.Mathlib.Omega.{arith}
 use borrow.Author.Tests.{leb-true, le-leb, lt-leb}
 use lib.Dec.{leb}
 use lib.ListN.{length, take, drop, length-append, length-drop, drop-of-length-le}
 use lib.Seq.{take-all, take-length}
+use Rattle.base.proofs.Lists.{table-length}
 use Rattle.base.specs.Answers.{Answer, given, refused}
-use Rattle.base.specs.Lists.{table}
 use Rattle.base.proofs.Answers.{and-left, and-right, and-intro}
 use Rattle.geometry.specs.declared.Geometry.{Geometry}
 use Rattle.geometry.specs.Slip.{slipGeometry}
@@ -61,10 +61,6 @@ module _ (r : Report) (pebs map states : List ℕ) where
 
 over-long : (ws lent : List ℕ) (k : ℕ) → k ≤ length ws → leb k (length (over ws lent)) ≡ true
 over-long ws lent k h = le-leb k (length (over ws lent)) (rw length-append (omega arith))
-
-table-length : (f : ℕ → ℕ) (i n : ℕ) → length (table f i n) ≡ n
-table-length f i zero = refl
-table-length f i (suc n) = ap suc (table-length f (suc i) n)
 
 entries-held : (n : ℕ) (es : List Entry) → length es * 3 ≤ length (mapWords n es)
 unfolding mapWords

@@ -34,7 +34,7 @@ use Rattle.report.proofs.First.{none-some}
 -- ---- joined lists
 
 module _ {A : Type 0} where
-  pub mem-concat : (n : ℕ) (f : ℕ → List A) (x : A) → List·Memᴰ x (concatBelow n f) → (i : ℕ) × (i < n) × List·Memᴰ x (f i)
+  mem-concat : (n : ℕ) (f : ℕ → List A) (x : A) → List·Memᴰ x (concatBelow n f) → (i : ℕ) × (i < n) × List·Memᴰ x (f i)
   mem-concat zero f x m = absurd (List·Memᴰ·not-nil m)
   mem-concat (suc n) f x m =
       ⊎-elim
@@ -42,7 +42,7 @@ module _ {A : Type 0} where
       (λ h. (n, omega arith, h))
       (List·Memᴰ·append-cases (concatBelow n f) m)
 
-  pub concat-mem : (n : ℕ) (f : ℕ → List A) (x : A) (i : ℕ) → i < n → List·Memᴰ x (f i) → List·Memᴰ x (concatBelow n f)
+  concat-mem : (n : ℕ) (f : ℕ → List A) (x : A) (i : ℕ) → i < n → List·Memᴰ x (f i) → List·Memᴰ x (concatBelow n f)
   concat-mem zero f x i h m = absurd (omega arith)
   concat-mem (suc n) f x i h m =
       ⊎-elim

@@ -201,7 +201,7 @@ module _ (size unit pebs : ℕ) (copy0 copy1 : List ℕ) where
           rw (← (T .is)) at (reserved-within size unit pebs (T .content) (T .good)),
         ))
 
-    pub map-within : (k m : ℕ) (ps : Places) → length (mapUpTo k m t ps) ≤ pebs - 2 + m
+    map-within : (k m : ℕ) (ps : Places) → length (mapUpTo k m t ps) ≤ pebs - 2 + m
     map-within k m ps = omega (arith, map-length k m t ps, reserved-sum k)
 
 -- ---- in an image that attaches
