@@ -48,8 +48,8 @@ fn attach_chosen(
     }
 }
 
-// From the first pass on: refusals 9 and 10, and the rest. Copies are linked while they are compared, each bucket from its head.
-fn attach_linked(
+// From the first pass on: refusals 9 and 10, and the rest. Copies are linked while they are compared; `heads` has each bucket's highest PEB.
+fn attach_with_heads(
     image: &[u8],
     g: Geometry,
     n: usize,
@@ -88,7 +88,7 @@ fn attach_passed(
     ensures { λ r. ⌜ Ended (outcome g (now (image .entry)) n) r (now (pebs .entry)) (now (pebs .exit)) (now (map .entry)) (now (map .exit)) (now (states .entry)) (now (states .exit)) ⌝ }
 {
     let mut heads = [0u32; 2048];
-    attach_linked(image, g, n, sums, pebs, map, states, &mut heads)
+    attach_with_heads(image, g, n, sums, pebs, map, states, &mut heads)
 }
 
 // An image of n PEBs with lent tables that are long enough: refusals 5 to 8, and the rest.

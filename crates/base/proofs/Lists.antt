@@ -19,13 +19,6 @@ use Rattle.base.specs.Lists.{part, put, eqs, table, rows, Bytes}
 pub to-end : (i : ℕ) (s : List ℕ) → take (length s - i) (drop i s) ≡ drop i s
 to-end i s = take-all (length s - i) (drop i s) (omega (arith, length-drop i s))
 
--- the part from i to n: one element, and the part after it
-pub part-cons : (a : List ℕ) (i n : ℕ) → i < n → n ≤ length a → part i (n - i) a ≡ getD a i 0 ∷ part (i + 1) (n - (i + 1)) a
-part-cons a i n h k =
-    let e : n - i ≡ suc (n - (i + 1)) = omega arith in
-    let z : i < length a = omega arith in
-    rw (e, drop-cons a i 0, add-one)
-
 pub length-part : (at n : ℕ) (s : List ℕ) → at + n ≤ length s → length (part at n s) ≡ n
 length-part at n s h = simp (length-take, length-drop) (omega arith)
 

@@ -21,7 +21,7 @@ use Rattle.choice.proofs.Words.{not-so, same-true, repeat-words}
 -- ---- who is in a bucket
 
 module _ (map : List ℕ) (i : ℕ) where
-  pub no-bucket : volumeWord map i ≡ noWord → bucketAt map i ≡ 2048
+  no-bucket : volumeWord map i ≡ noWord → bucketAt map i ≡ 2048
   unfolding bucketAt
   no-bucket e = rw (eq-eqb (volumeWord map i) noWord e)
 
@@ -29,7 +29,7 @@ module _ (map : List ℕ) (i : ℕ) where
   unfolding bucketAt
   in-bucket h = rw (ne-eqb (volumeWord map i) noWord h)
 
-  pub bucket-small : (volumeWord map i ≡ noWord → ⊥) → bucketAt map i < 2048
+  bucket-small : (volumeWord map i ≡ noWord → ⊥) → bucketAt map i < 2048
   bucket-small h = rw (in-bucket h) (omega arith)
 
 module _ (map : List ℕ) (i k : ℕ) (h : volumeWord map i ≡ noWord → ⊥) where
@@ -38,7 +38,7 @@ module _ (map : List ℕ) (i k : ℕ) (h : volumeWord map i ≡ noWord → ⊥) 
       let e = same-true map i k s in
       in-bucket map k (λ (z : volumeWord map k ≡ noWord). h (e .0 ∙ z)) ∙ ap₂ bucketOf (sym (e .0)) (sym (e .1)) ∙ sym (in-bucket map i h)
 
-  pub bucket-holds : bucketAt map k ≡ bucketAt map i → volumeWord map k ≡ noWord → ⊥
+  bucket-holds : bucketAt map k ≡ bucketAt map i → volumeWord map k ≡ noWord → ⊥
   bucket-holds e z = let y = bucket-small map i h in let x = no-bucket map k z in omega arith
 
 -- ---- a walk along the chain of PEB i, over the PEBs below m
@@ -95,14 +95,14 @@ module _ (map : List ℕ) (i x : ℕ) (f : (volumeWord map i ≡ noWord → ⊥)
 -- ---- links are stored
 
 module _ {n : ℕ} {map map′ : List ℕ} (o : Relinked n map map′) where
-  pub same-buckets : (i : ℕ) → bucketAt map′ i ≡ bucketAt map i
+  same-buckets : (i : ℕ) → bucketAt map′ i ≡ bucketAt map i
   unfolding bucketAt
   same-buckets i = rw (o .volumes i, o .lebs i)
 
   nearest-same : {b m w : ℕ} → Nearest map b m w → Nearest map′ b m w
   nearest-same {b} {m} {w} t = record { is = λ h. same-buckets w ∙ t .is h; none = t .none; skips = λ k h e. t .skips k h (sym (same-buckets k) ∙ e) }
 
-  pub relinked-on : {map″ : List ℕ} → Relinked n map′ map″ → Relinked n map map″
+  relinked-on : {map″ : List ℕ} → Relinked n map′ map″ → Relinked n map map″
   relinked-on p = record {
     size = p .size ∙ o .size;
     volumes = λ i. p .volumes i ∙ o .volumes i;
@@ -113,7 +113,7 @@ module _ {n : ℕ} {map map′ : List ℕ} (o : Relinked n map map′) where
 pub relinked-none : (n : ℕ) (map : List ℕ) → Relinked n map map
 relinked-none n map = record { size = refl; volumes = λ i. refl; lebs = λ i. refl; tail = refl }
 
-pub relinked-one : (n i v : ℕ) (map : List ℕ) → i < n → Relinked n map (set map (i * 3 + 2) v)
+relinked-one : (n i v : ℕ) (map : List ℕ) → i < n → Relinked n map (set map (i * 3 + 2) v)
 relinked-one n i v map h = record {
   size = length-set map (i * 3 + 2) v;
   volumes = λ k. getD-set-other map (i * 3 + 2) (k * 3) v 0 (λ e. omega arith);

@@ -46,7 +46,7 @@ fn is_repeat(image: &[u8], g: Geometry, map: &[u32], i: usize, j: usize) -> bool
     sequence(image, g, i) == sequence(image, g, j)
 }
 
-// Do the words of two PEBs name one volume and LEB? Few LEB words agree, so that the first test nearly always decides.
+// Do the words of two PEBs name one volume and LEB?
 pub fn same_leb(map: &[u32], i: usize, j: usize) -> bool
     requires { ⌜ (i * 3 + 3 ≤ length (now map)) × (j * 3 + 3 ≤ length (now map)) ⌝ }
     ensures { λ r. ⌜ r ≡ sameLeb (now (map .entry)) i j ⌝ }

@@ -1,4 +1,4 @@
--- A word of a message may be left out if it is added to what follows. Assumes nothing.
+-- A word of a message may be folded: left out, and added to what follows. Assumes nothing.
 use mathlib.Core.Path.{_≡_, sym, ap, _∙_}
 use Prim.Native.Nat.{ℕ, _+_, _*_, _-_, _/_, _%_, _^_, _≤_, _<_}
 use mathlib.Core.List.{List}
@@ -9,13 +9,13 @@ use Rattle.base.specs.Lists.{part, Bytes}
 use Rattle.base.proofs.Lists.{bytes-drop}
 use Rattle.crc32.specs.Crc.{crcBits, crcFrom}
 use Rattle.crc32.specs.Table.{leOf}
-use Rattle.crc32.specs.Fold.{lags, spread}
+use Rattle.crc32.specs.Fold.{lags, folded}
 use Rattle.crc32.proofs.Xor.{xor-assoc}
 use Rattle.crc32.proofs.Laws.{crcBits-xor, crcBits-add, crcBits-shift, crcBits-split, crcBits-lt, crcFrom-word}
 use Rattle.crc32.proofs.LookUp.{crcFrom-part}
 use Rattle.crc32.proofs.Sparse.{sumOf, crcBits-zero, sparse}
 
--- ---- a word that is left out
+-- ---- a folded word
 
 equal : (a b : ℕ) → bitXor a b ≡ 0 → a ≡ b
 equal a b h =
@@ -32,8 +32,8 @@ narrow d w h g =
 later : (k e m d w : ℕ) → m ≡ k + (d + e) → crcBits m (w * 2 ^ k) ≡ crcBits e (crcBits d w)
 later k e m d w h = rw (h, crcBits-add k (d + e) (w * 2 ^ k), crcBits-shift k w) (crcBits-add d e w)
 
-left-out : (k m w : ℕ) → w < 2 ^ 64 → 64 ≤ 145 * 2 ^ k → 300 * 2 ^ k ≤ m + 32 → crcBits m (crcBits 64 w) ≡ crcBits m (spread (2 ^ k) lags w)
-unfolding spread sumOf
+left-out : (k m w : ℕ) → w < 2 ^ 64 → 64 ≤ 145 * 2 ^ k → 300 * 2 ^ k ≤ m + 32 → crcBits m (crcBits 64 w) ≡ crcBits m (folded (2 ^ k) lags w)
+unfolding folded sumOf
 left-out k m w b h g =
     let n = 2 ^ k in
     let d = m + 64 - 300 * n in
@@ -75,15 +75,15 @@ module _ (p i : ℕ) (s : List ℕ) (bs : Bytes s) (u : ℕ) (is : u ≡ leOf (p
   pub word-step : i + 8 ≤ length s → crcFrom (bitXor (p / 2 ^ 64) (crcBits 64 (bitXor u (p % 2 ^ 64)))) (drop (i + 8) s) ≡ crcFrom p (drop i s)
   word-step h = rw (← word-through p u fits, is) (crcFrom-part 8 p i s bs h)
 
-  -- the number p is owed to the bytes from i on: their first word is left out
+  -- the number p is pending for the bytes from i on: their first word is folded
   pub fold-step : (k : ℕ) → 64 ≤ 145 * 2 ^ k → 300 * 2 ^ k + 32 ≤ 8 * (length s - i) →
-      crcFrom (bitXor (p / 2 ^ 64) (spread (2 ^ k) lags (bitXor u (p % 2 ^ 64)))) (drop (i + 8) s) ≡ crcFrom p (drop i s)
+      crcFrom (bitXor (p / 2 ^ 64) (folded (2 ^ k) lags (bitXor u (p % 2 ^ 64)))) (drop (i + 8) s) ≡ crcFrom p (drop i s)
   fold-step k h g =
       let w = bitXor u (p % 2 ^ 64) in
       let t = drop (i + 8) s in
       let bt = bytes-drop (i + 8) s bs in
       let e : 300 * 2 ^ k ≤ 8 * length t + 32 = rw (length-drop (i + 8) s) (omega arith) in
-      crcFrom-xor (p / 2 ^ 64) (spread (2 ^ k) lags w) t bt
+      crcFrom-xor (p / 2 ^ 64) (folded (2 ^ k) lags w) t bt
       ∙ ap (bitXor (crcFrom (p / 2 ^ 64) t)) (sym (left-out k (8 * length t) w (xor-lt 64 u (p % 2 ^ 64) fits (omega arith)) h e))
       ∙ sym (crcFrom-xor (p / 2 ^ 64) (crcBits 64 w) t bt)
       ∙ word-step (omega arith)

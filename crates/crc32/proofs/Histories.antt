@@ -1,4 +1,4 @@
--- What a history of words owes to the words after it. Assumes nothing.
+-- What a history of folded words adds to the words after it. Assumes nothing.
 use mathlib.Core.Path.{_≡_, refl, sym, ap, ap₂, _∙_}
 use Prim.Native.Nat.{ℕ, zero, suc, _+_, _*_, _/_, _%_, _^_, _≤_, _<_}
 use mathlib.Core.List.{List, [], _∷_, _++_}
@@ -14,10 +14,10 @@ use Rattle.base.specs.Lists.{part, Bytes}
 use Rattle.base.proofs.Lists.{to-end}
 use Rattle.crc32.specs.Crc.{crcFrom}
 use Rattle.crc32.specs.Table.{leOf}
-use Rattle.crc32.specs.Fold.{wordsOf, lags, spread, owed, zeros, History}
+use Rattle.crc32.specs.Fold.{wordsOf, lags, folded, pendingAt, zeros, History}
 use Rattle.crc32.proofs.Xor.{xor-assoc, xor-swap}
 use Rattle.crc32.proofs.Folding.{fold-step}
-use Rattle.crc32.proofs.Owed.{words-high, words-low}
+use Rattle.crc32.proofs.Numbers.{words-high, words-low}
 
 -- ---- the words from a place on
 
@@ -49,12 +49,12 @@ no-more [] zero = refl
 no-more [] (suc n) = rw (no-more [] n)
 no-more (x ∷ l) n = rw (no-more l n)
 
--- ---- what is owed
+-- ---- what is pending
 
 module _ (j : ℕ) (b : List ℕ) (h : j + 155 < length b) where
-  pub owed-high : owed j b / 2 ^ 64 ≡ owed (j + 1) b
-  unfolding owed
-  owed-high =
+  pending-high : pendingAt j b / 2 ^ 64 ≡ pendingAt (j + 1) b
+  unfolding pendingAt
+  pending-high =
       rw (
         xor-shr (wordsOf (drop (j + 155) b)) (bitXor (wordsOf (drop (j + 117) b)) (bitXor (wordsOf (drop (j + 89) b)) (wordsOf (drop j b)))) 64,
         xor-shr (wordsOf (drop (j + 117) b)) (bitXor (wordsOf (drop (j + 89) b)) (wordsOf (drop j b))) 64,
@@ -65,10 +65,10 @@ module _ (j : ℕ) (b : List ℕ) (h : j + 155 < length b) where
         from-high j b (omega arith) (j + 1) refl,
       )
 
-  pub owed-low : owed j b % 2 ^ 64
+  pub pending-low : pendingAt j b % 2 ^ 64
       ≡ bitXor (getD b (j + 155) 0 % 2 ^ 64) (bitXor (getD b (j + 117) 0 % 2 ^ 64) (bitXor (getD b (j + 89) 0 % 2 ^ 64) (getD b j 0 % 2 ^ 64)))
-  unfolding owed
-  owed-low =
+  unfolding pendingAt
+  pending-low =
       rw (
         xor-mod (wordsOf (drop (j + 155) b)) (bitXor (wordsOf (drop (j + 117) b)) (bitXor (wordsOf (drop (j + 89) b)) (wordsOf (drop j b)))) 64,
         xor-mod (wordsOf (drop (j + 117) b)) (bitXor (wordsOf (drop (j + 89) b)) (wordsOf (drop j b))) 64,
@@ -79,7 +79,7 @@ module _ (j : ℕ) (b : List ℕ) (h : j + 155 < length b) where
         from-low j b (omega arith),
       )
 
--- a word that is left out now is owed from the next word on
+-- a word that is folded now is pending from the next word on
 regrouped : (a b c d x y z v : ℕ) → bitXor (bitXor a x) (bitXor (bitXor b y) (bitXor (bitXor c z) (bitXor d v)))
     ≡ bitXor (bitXor a (bitXor b (bitXor c d))) (bitXor x (bitXor y (bitXor z (bitXor v 0))))
 regrouped a b c d x y z v =
@@ -91,14 +91,14 @@ module _ (j w : ℕ) (b : List ℕ) (h : 300 + j < length b) (small : w < 2 ^ 64
       rw (e, drop-set-add n b i (bitXor (getD b (n + i) 0) w), ← getD-drop n b i 0)
       (added (drop n b) i w (rw (length-drop n b) (omega arith)) ∙ ap (λ (u : ℕ). bitXor (wordsOf (drop n b)) (u * 2 ^ (64 * i))) (mod-eq-of-lt small))
 
-  pub owed-next : owed (j + 1) (set b (300 + j) (bitXor (getD b (300 + j) 0) w)) ≡ bitXor (owed j b / 2 ^ 64) (spread 64 lags w)
-  unfolding owed spread
-  owed-next =
+  pending-next : pendingAt (j + 1) (set b (300 + j) (bitXor (getD b (300 + j) 0) w)) ≡ bitXor (pendingAt j b / 2 ^ 64) (folded 64 lags w)
+  unfolding pendingAt folded
+  pending-next =
       ap₂ bitXor (with-word (j + 1 + 155) 144 (omega arith))
       (ap₂ bitXor (with-word (j + 1 + 117) 182 (omega arith)) (ap₂ bitXor (with-word (j + 1 + 89) 210 (omega arith)) (with-word (j + 1) 299 (omega arith))))
       ∙ regrouped (wordsOf (drop (j + 1 + 155) b)) (wordsOf (drop (j + 1 + 117) b)) (wordsOf (drop (j + 1 + 89) b)) (wordsOf (drop (j + 1) b))
       (w * 2 ^ (64 * 144)) (w * 2 ^ (64 * 182)) (w * 2 ^ (64 * 210)) (w * 2 ^ (64 * 299))
-      ∙ ap (λ (u : ℕ). bitXor u (spread 64 lags w)) (sym (owed-high j b (omega arith)))
+      ∙ ap (λ (u : ℕ). bitXor u (folded 64 lags w)) (sym (pending-high j b (omega arith)))
 
 -- ---- the first word, the next block, the end
 
@@ -109,18 +109,18 @@ nothing zero (suc k) = refl
 nothing (suc n) zero = rw (nothing n zero)
 nothing (suc n) (suc k) = nothing n k
 
-pub owed-first : (n w : ℕ) → w < 2 ^ 64 → owed 0 (w ∷ replicate n 0) ≡ w
-unfolding owed wordsOf
-owed-first n w h = rw (nothing n 154, nothing n 116, nothing n 88, nothing n 0, mod-eq-of-lt h) (zero-add w)
+pub pending-first : (n w : ℕ) → w < 2 ^ 64 → pendingAt 0 (w ∷ replicate n 0) ≡ w
+unfolding pendingAt wordsOf
+pending-first n w h = rw (nothing n 154, nothing n 116, nothing n 88, nothing n 0, mod-eq-of-lt h) (zero-add w)
 
-pub owed-last : (b : List ℕ) → drop 300 b ≡ zeros 300 → owed 300 b ≡ 0
-unfolding owed zeros
-owed-last b e =
+pub pending-last : (b : List ℕ) → drop 300 b ≡ zeros 300 → pendingAt 300 b ≡ 0
+unfolding pendingAt zeros
+pending-last b e =
     rw (← drop-drop 155 300 b, ← drop-drop 117 300 b, ← drop-drop 89 300 b, e, nothing 300 155, nothing 300 117, nothing 300 89, nothing 300 0)
 
-pub owed-slid : (b : List ℕ) → length b ≡ 600 → owed 0 (drop 300 b ++ zeros 300) ≡ owed 300 b
-unfolding owed zeros
-owed-slid b h =
+pending-slid : (b : List ℕ) → length b ≡ 600 → pendingAt 0 (drop 300 b ++ zeros 300) ≡ pendingAt 300 b
+unfolding pendingAt zeros
+pending-slid b h =
     let n : length (drop 300 b) ≡ 300 = rw (length-drop 300 b) (omega arith) in
     rw (
       drop-append-le 155 (drop 300 b) (replicate 300 0) (omega arith),
@@ -137,22 +137,22 @@ owed-slid b h =
 
 -- ---- a turn of each loop
 
-module _ (s b : List ℕ) (j u o : ℕ) (bs : Bytes s) (long : length b ≡ 600) (below : j < 300) (is : u ≡ leOf (part (8 * j) 8 s)) (fits : u < 2 ^ 64) (owes : o ≡ owed j b % 2 ^ 64) where
-  pub left-out-turn : 4848 ≤ length s →
-      crcFrom (owed (j + 1) (set b (300 + j) (bitXor (getD b (300 + j) 0) (bitXor u o)))) (drop (8 * (j + 1)) s) ≡ crcFrom (owed j b) (drop (8 * j) s)
-  left-out-turn h =
+module _ (s b : List ℕ) (j u o : ℕ) (bs : Bytes s) (long : length b ≡ 600) (below : j < 300) (is : u ≡ leOf (part (8 * j) 8 s)) (fits : u < 2 ^ 64) (adds : o ≡ pendingAt j b % 2 ^ 64) where
+  pub block-turn : 4848 ≤ length s →
+      crcFrom (pendingAt (j + 1) (set b (300 + j) (bitXor (getD b (300 + j) 0) (bitXor u o)))) (drop (8 * (j + 1)) s) ≡ crcFrom (pendingAt j b) (drop (8 * j) s)
+  block-turn h =
       let e : 8 * (j + 1) ≡ 8 * j + 8 = omega arith in
-      let small : bitXor u o < 2 ^ 64 = xor-lt 64 u o fits (rw owes (mod-lt (owed j b) (pow-pos 64))) in
-      ap₂ crcFrom (owed-next j (bitXor u o) b (omega arith) small ∙ ap (λ (n : ℕ). bitXor (owed j b / 2 ^ 64) (spread 64 lags (bitXor u n))) owes) (ap (λ (n : ℕ). drop n s) e)
-      ∙ fold-step (owed j b) (8 * j) s bs u is fits 6 (lit≤ tt) (omega arith)
+      let small : bitXor u o < 2 ^ 64 = xor-lt 64 u o fits (rw adds (mod-lt (pendingAt j b) (pow-pos 64))) in
+      ap₂ crcFrom (pending-next j (bitXor u o) b (omega arith) small ∙ ap (λ (n : ℕ). bitXor (pendingAt j b / 2 ^ 64) (folded 64 lags (bitXor u n))) adds) (ap (λ (n : ℕ). drop n s) e)
+      ∙ fold-step (pendingAt j b) (8 * j) s bs u is fits 6 (lit≤ tt) (omega arith)
 
   -- what is folded is p
-  pub rest-turn : (p q : ℕ) → q ≡ bitXor (p / 2 ^ 64) (spread 1 lags (bitXor (bitXor u o) (p % 2 ^ 64))) → 2448 ≤ length s →
-      crcFrom (bitXor (owed (j + 1) b) q) (drop (8 * (j + 1)) s) ≡ crcFrom (bitXor (owed j b) p) (drop (8 * j) s)
-  rest-turn p q f h =
+  pub fold-last-turn : (p q : ℕ) → q ≡ bitXor (p / 2 ^ 64) (folded 1 lags (bitXor (bitXor u o) (p % 2 ^ 64))) → 2448 ≤ length s →
+      crcFrom (bitXor (pendingAt (j + 1) b) q) (drop (8 * (j + 1)) s) ≡ crcFrom (bitXor (pendingAt j b) p) (drop (8 * j) s)
+  fold-last-turn p q f h =
       let e : 8 * (j + 1) ≡ 8 * j + 8 = omega arith in
-      let step = fold-step (bitXor (owed j b) p) (8 * j) s bs u is fits 0 (lit≤ tt) (omega arith) in
-      rw (f, e, ← xor-assoc (owed (j + 1) b) (p / 2 ^ 64) (spread 1 lags (bitXor (bitXor u o) (p % 2 ^ 64))), xor-assoc u o (p % 2 ^ 64), owes, ← owed-high j b (omega arith), ← xor-shr (owed j b) p 64, ← xor-mod (owed j b) p 64)
+      let step = fold-step (bitXor (pendingAt j b) p) (8 * j) s bs u is fits 0 (lit≤ tt) (omega arith) in
+      rw (f, e, ← xor-assoc (pendingAt (j + 1) b) (p / 2 ^ 64) (folded 1 lags (bitXor (bitXor u o) (p % 2 ^ 64))), xor-assoc u o (p % 2 ^ 64), adds, ← pending-high j b (omega arith), ← xor-shr (pendingAt j b) p 64, ← xor-mod (pendingAt j b) p 64)
       step
 
 module _ (b₀ b : List ℕ) (j : ℕ) (below : j < 300) (long₀ : length b₀ ≡ 600) (long : length b ≡ 600) (rest : drop (300 + j) b ≡ drop (300 + j) b₀) where
@@ -196,5 +196,5 @@ next-history b h =
     record { long = rw (length-append (drop 300 b) (replicate 300 0), n); room = drop-at (drop 300 b) (replicate 300 0) 300 n }
 
 pub block-done : (s b left next : List ℕ) (i : ℕ) → length left ≡ 600 → next ≡ drop 300 left ++ zeros 300 →
-    crcFrom (owed 300 left) (drop 2400 (drop i s)) ≡ crcFrom (owed 0 b) (drop i s) → (History next) × (crcFrom (owed 0 next) (drop (i + 2400) s) ≡ crcFrom (owed 0 b) (drop i s))
-block-done s b left next i long e f = rw e (next-history left long, rw (owed-slid left long, ← drop-drop 2400 i s) f)
+    crcFrom (pendingAt 300 left) (drop 2400 (drop i s)) ≡ crcFrom (pendingAt 0 b) (drop i s) → (History next) × (crcFrom (pendingAt 0 next) (drop (i + 2400) s) ≡ crcFrom (pendingAt 0 b) (drop i s))
+block-done s b left next i long e f = rw e (next-history left long, rw (pending-slid left long, ← drop-drop 2400 i s) f)

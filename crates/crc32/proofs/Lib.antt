@@ -3,5 +3,5 @@ pub mod Laws
 pub mod LookUp
 pub mod Sparse
 pub mod Folding
-pub mod Owed
+pub mod Numbers
 pub mod Histories

@@ -44,8 +44,8 @@ low-bits n m z =
     (xor-comm (crcBits m (z / 2 ^ n)) (crcBits m (crcBits n (z % 2 ^ n))))
 
 -- one half byte more
-pub half-byte-more : (c n z : ℕ) → bitXor (bitXor c (crcBits (4 * (n + 1)) (z % 16))) (crcBits (4 * n) (z / 16)) ≡ bitXor c (crcBits (4 * (n + 1)) z)
-half-byte-more c n z =
+pub nibble-more : (c n z : ℕ) → bitXor (bitXor c (crcBits (4 * (n + 1)) (z % 16))) (crcBits (4 * n) (z / 16)) ≡ bitXor c (crcBits (4 * (n + 1)) z)
+nibble-more c n z =
     let e : 4 * (n + 1) ≡ 4 + 4 * n = omega arith in
     xor-assoc c (crcBits (4 * (n + 1)) (z % 16)) (crcBits (4 * n) (z / 16)) ∙ ap (bitXor c) (rw e (sym (low-bits 4 (4 * n) z)))
 

@@ -23,7 +23,7 @@ crcBits-zero n =
     let e : 0 ≡ 0 * 2 ^ n = omega arith in
     ap (crcBits n) e ∙ crcBits-shift n 0
 
-pub commute : (m n z : ℕ) → crcBits m (crcBits n z) ≡ crcBits n (crcBits m z)
+commute : (m n z : ℕ) → crcBits m (crcBits n z) ≡ crcBits n (crcBits m z)
 commute m n z =
     let e : n + m ≡ m + n = omega arith in
     sym (crcBits-add n m z) ∙ ap (λ (k : ℕ). crcBits k z) e ∙ crcBits-add m n z
@@ -87,13 +87,13 @@ module _ (es : List ℕ) (test : sumOf 1 es (2 ^ 31) ≡ 0) where
       ∙ sumOf-xor 1 es (z / 2 ^ n * 2 ^ n) (z % 2 ^ n)
       ∙ ap₂ bitXor (digit (z / 2 ^ n) n (shr-lt 1 n (rw e k)) (omega arith)) (bits n (z % 2 ^ n) (omega arith) (mod-lt z (pow-pos n)))
 
-  pub vanishes : (k z : ℕ) → z < 2 ^ 32 → sumOf (2 ^ k) es z ≡ 0
+  vanishes : (k z : ℕ) → z < 2 ^ 32 → sumOf (2 ^ k) es z ≡ 0
   vanishes zero z h = bits 32 z (omega arith) h
   vanishes (suc k) z h =
       let e : 2 ^ suc k ≡ 2 ^ k + 2 ^ k = rw pow-suc (omega arith) in
       ap (λ (g : ℕ). sumOf g es z) e ∙ squared (2 ^ k) es z ∙ ap (sumOf (2 ^ k) es) (vanishes k z h) ∙ sumOf-zero (2 ^ k) es
 
--- ---- the multiple of the media format's polynomial
+-- ---- the multiple of IEEE 802.3's polynomial: 300 less each lag
 
 pub sparse : (k z : ℕ) → z < 2 ^ 32 → sumOf (2 ^ k) (300 ∷ 155 ∷ 117 ∷ 89 ∷ 0 ∷ []) z ≡ 0
 unfolding sumOf tap crcBit crcBits

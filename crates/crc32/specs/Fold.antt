@@ -1,4 +1,4 @@
--- What the contracts of the private functions cite: words of 64 bits that are still owed to the bytes that follow. No public promise names them.
+-- What the contracts of the private functions cite: what words that were folded add to those after them. No public promise names them.
 -- Assumes nothing.
 use mathlib.Core.Path.{_≡_}
 use Prim.Native.Nat.{ℕ, _+_, _-_, _*_, _%_, _^_}
@@ -16,21 +16,21 @@ wordsOf (w ∷ ws) = wordsOf ws * 2 ^ 64 + w % 2 ^ 64
 abbrev pub pendingOf : Pending → ℕ
 pendingOf p = wordsOf (p .a ∷ p .b ∷ p .c ∷ p .d ∷ p .e ∷ [])
 
--- 1 + x^145 + x^183 + x^211 + x^300 is a multiple of the polynomial, its bits in reverse order: bits may be left out if they are added to those
--- 145, 183, 211 and 300 places after them; and, for a power of two g, g times as many places after them
+-- 1 + x^89 + x^117 + x^155 + x^300 is a multiple of the polynomial of IEEE 802.3. In the reflected order of bits: a bit may be left out if it is
+-- added to those 145, 183, 211 and 300 places after it; and, for a power of two g, g times as many places after it
 abbrev pub lags : List ℕ
 lags = 145 ∷ 183 ∷ 211 ∷ 300 ∷ []
 
--- what a word that is left out adds to the words after it, by steps of g bits
-unfoldable pub spread : ℕ → List ℕ → ℕ → ℕ
-spread g [] w = 0
-spread g (l ∷ ls) w = bitXor (w * 2 ^ (l * g - 64)) (spread g ls w)
+-- what a word that is folded adds to the words after it, by steps of g bits
+unfoldable pub folded : ℕ → List ℕ → ℕ → ℕ
+folded g [] w = 0
+folded g (l ∷ ls) w = bitXor (w * 2 ^ (l * g - 64)) (folded g ls w)
 
--- what words that were left out add to the words after them, by steps of 64 bits: a history of words has the last of them at 299 + j
-unfoldable pub owed : ℕ → List ℕ → ℕ
-owed j b = bitXor (wordsOf (drop (j + 155) b)) (bitXor (wordsOf (drop (j + 117) b)) (bitXor (wordsOf (drop (j + 89) b)) (wordsOf (drop j b))))
+-- what a history of words that were folded, the last of them at 299 + j, adds to the words after it: each at 300 less a lag, by steps of 64 bits
+unfoldable pub pendingAt : ℕ → List ℕ → ℕ
+pendingAt j b = bitXor (wordsOf (drop (j + 155) b)) (bitXor (wordsOf (drop (j + 117) b)) (bitXor (wordsOf (drop (j + 89) b)) (wordsOf (drop j b))))
 
--- n words of no bits
+-- n zero words
 unfoldable pub zeros : ℕ → List ℕ
 zeros n = replicate n 0
 

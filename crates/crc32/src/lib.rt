@@ -1,5 +1,5 @@
-// CRC-32/JAMCRC of a byte slice. Short slices go through a table, four bits at a look-up. In longer ones most words are left out: a word may be,
-// if it is added to the words that a sparse multiple of the polynomial names, further on.
+// CRC-32/JAMCRC of a byte slice. Short slices go through a table, four bits at a look-up. In longer ones most words are folded: left out, and added to
+// later words, at the distances that a sparse multiple of the polynomial gives. The CRC stays the same.
 ghost use mathlib.Core.Path.{_≡_};
 ghost use Rattle.crc32.specs.Crc.{crcFrom, crcOf};
 
@@ -12,8 +12,8 @@ use fold::by_folding;
 use history::by_history;
 use words::by_table;
 
-// What the words that were left out add to the next five words, the first of them in `a`.
-pub struct Pending {
+// What the words that were folded add to the next five words; `a` is for the first of them.
+struct Pending {
     pub a: u64,
     pub b: u64,
     pub c: u64,

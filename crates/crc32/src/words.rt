@@ -1,4 +1,4 @@
-// The CRC by the table: the register is shifted by four bits at a look-up.
+// The CRC by the table: each half byte of a word has a row of its own.
 ghost use mathlib.Core.Path.{_≡_};
 ghost use Prim.Native.Nat.{_+_, _*_, _%_, _^_, _<_, _≤_};
 ghost use lib.Bits.{bitXor};
@@ -17,23 +17,23 @@ pub fn by_table(state: u32, bytes: &[u8]) -> u32
     by_words(&TABLE, state, bytes)
 }
 
-// The same for what is owed to bytes of which there are at least five words.
-pub fn settle(p: Pending, bytes: &[u8]) -> u32
+// The same with p added to the first five words: no other is left to add to.
+pub fn reduce(p: Pending, bytes: &[u8]) -> u32
     requires { ⌜ 40 ≤ length (now bytes) ⌝ }
     ensures { λ r. ⌜ r ≡ crcFrom (pendingOf p) (now (bytes .entry)) ⌝ }
 {
-    settle_by(&TABLE, p, bytes)
+    reduce_by(&TABLE, p, bytes)
 }
 
-fn settle_by(t: &[u32; 256], p: Pending, bytes: &[u8]) -> u32
+fn reduce_by(t: &[u32; 256], p: Pending, bytes: &[u8]) -> u32
     requires { ⌜ (now t ≡ crcRows) × (40 ≤ length (now bytes)) ⌝ }
     ensures { λ r. ⌜ r ≡ crcFrom (pendingOf p) (now (bytes .entry)) ⌝ }
 {
-    let a = through(t, 0, p.a, bytes, 0);
-    let b = through(t, a, p.b, bytes, 8);
-    let c = through(t, b, p.c, bytes, 16);
-    let d = through(t, c, p.d, bytes, 24);
-    let e = through(t, d, p.e, bytes, 32);
+    let a = shift_in(t, 0, p.a, bytes, 0);
+    let b = shift_in(t, a, p.b, bytes, 8);
+    let c = shift_in(t, b, p.c, bytes, 16);
+    let d = shift_in(t, c, p.d, bytes, 24);
+    let e = shift_in(t, d, p.e, bytes, 32);
     by_words(t, e, &bytes[40..])
 }
 
@@ -45,14 +45,14 @@ fn by_words(t: &[u32; 256], state: u32, bytes: &[u8]) -> u32
     let mut c = state;
     let mut i: usize = 0;
     while 8 <= bytes.len() - i {
-        c = through(t, c, 0, bytes, i);
+        c = shift_in(t, c, 0, bytes, i);
         i += 8;
     }
-    by_half(t, c, &bytes[i..])
+    by_four(t, c, &bytes[i..])
 }
 
 // Four bytes, if there are as many, and the rest.
-fn by_half(t: &[u32; 256], state: u32, bytes: &[u8]) -> u32
+fn by_four(t: &[u32; 256], state: u32, bytes: &[u8]) -> u32
     requires { ⌜ now t ≡ crcRows ⌝ }
     ensures { λ r. ⌜ r ≡ crcFrom state (now (bytes .entry)) ⌝ }
 {
@@ -70,22 +70,22 @@ fn by_bytes(t: &[u32; 256], state: u32, bytes: &[u8]) -> u32
     let mut c = state;
     let mut i: usize = 0;
     while i < bytes.len() {
-        c = half_byte(t, half_byte(t, c ^ at(bytes, i)));
+        c = nibble(t, nibble(t, c ^ byte_at(bytes, i)));
         i += 1;
     }
     c
 }
 
-// The register after four shifts.
-fn half_byte(t: &[u32; 256], c: u32) -> u32
+// The state after four shifts.
+fn nibble(t: &[u32; 256], c: u32) -> u32
     requires { ⌜ now t ≡ crcRows ⌝ }
     ensures { λ r. ⌜ r ≡ crcBits 4 c ⌝ }
 {
     (c >> 4) ^ entry(t, 0, c)
 }
 
-// The state after the word at i, to which the word w is owed.
-fn through(t: &[u32; 256], state: u32, w: u64, bytes: &[u8], i: usize) -> u32
+// The state after the eight bytes from i on, with w and the state added to them.
+fn shift_in(t: &[u32; 256], state: u32, w: u64, bytes: &[u8], i: usize) -> u32
     requires { ⌜ (now t ≡ crcRows) × (i + 8 ≤ length (now bytes)) ⌝ }
     ensures { λ r. ⌜ r ≡ crcBits 64 (bitXor (leOf (part i 8 (now (bytes .entry)))) (bitXor (w % 2 ^ 64) state)) ⌝ }
 {
@@ -137,11 +137,11 @@ fn read_four(s: &[u8], i: usize) -> u32
     requires { ⌜ i + 4 ≤ length (now s) ⌝ }
     ensures { λ r. ⌜ r ≡ leOf (part i 4 (now (s .entry))) ⌝ }
 {
-    at(s, i) + (at(s, i + 1) << 8) + (at(s, i + 2) << 16) + (at(s, i + 3) << 24)
+    byte_at(s, i) + (byte_at(s, i + 1) << 8) + (byte_at(s, i + 2) << 16) + (byte_at(s, i + 3) << 24)
 }
 
 // Byte i as a word.
-fn at(s: &[u8], i: usize) -> u32
+fn byte_at(s: &[u8], i: usize) -> u32
     requires { ⌜ i < length (now s) ⌝ }
     ensures { λ r. ⌜ (r ≡ getD (now (s .entry)) i 0) × (r < 256) ⌝ }
 {

@@ -1,7 +1,7 @@
 -- `crc32::update` meets its contract. Assumes nothing.
 use Rattle.crc32.specs.Crc.{crcFrom}
 use Prim.Native.Nat.{ℕ}
-use Rattle.crc32.proofs.Owed.{words-state}
+use Rattle.crc32.proofs.Numbers.{words-state}
 use native.Mathlib.Omega.{arith}
 use mathlib.Core.Path.{_∙_, ap}
 use borrow.Author.Needs.{needs}

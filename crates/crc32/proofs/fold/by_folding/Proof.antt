@@ -44,20 +44,20 @@ loop-again c =
     let e = fold-step (pendingOf (l .q)) (l .i) (s .before .args .bytes .now) (λ k. s .shared-slice-known .given k .fits) (u .result) (u .ensures) (omega arith) 0 (lit≤ tt) (omega arith) in
     (omega arith, rw (c .fold .ensures) (e ∙ l .inv .1))
 
-sub-settle : tie.Need-sub-settle Inv-loop μ-loop
-sub-settle c = search needs
+sub-reduce : tie.Need-sub-reduce Inv-loop μ-loop
+sub-reduce c = search needs
 
-part-settle-start : tie.Need-part-settle-start Inv-loop μ-loop
-part-settle-start c = search needs
+part-reduce-start : tie.Need-part-reduce-start Inv-loop μ-loop
+part-reduce-start c = search needs
 
-part-settle-end : tie.Need-part-settle-end Inv-loop μ-loop
-part-settle-end c = search needs
+part-reduce-end : tie.Need-part-reduce-end Inv-loop μ-loop
+part-reduce-end c = search needs
 
-settle-requires : tie.Need-settle-requires Inv-loop μ-loop
-settle-requires c κs = search needs
+reduce-requires : tie.Need-reduce-requires Inv-loop μ-loop
+reduce-requires c κs = search needs
 
 returns : tie.Need-returns Inv-loop μ-loop
-returns c = c .settle .ensures ∙ rw to-end (c .before .before .before .loop .inv .1)
+returns c = c .reduce .ensures ∙ rw to-end (c .before .before .before .loop .inv .1)
 
 pub by-folding-spec : {M : Type 1} → statement M
 by-folding-spec =
@@ -72,8 +72,8 @@ by-folding-spec =
     add-i
     loop-less
     loop-again
-    sub-settle
-    part-settle-start
-    part-settle-end
-    settle-requires
+    sub-reduce
+    part-reduce-start
+    part-reduce-end
+    reduce-requires
     returns)

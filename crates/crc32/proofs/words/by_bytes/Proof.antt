@@ -1,7 +1,6 @@
 -- `crc32::words::by_bytes` meets its contract: the rest of the bytes, from the state now, gives the whole. Assumes nothing.
 use Rattle.crc32.proofs.LookUp.{two-halves}
-use mathlib.Core.Path.{_∙_}
-use mathlib.Core.Path.{_≡_}
+use mathlib.Core.Path.{_∙_, _≡_}
 use Prim.Native.Nat.{_≤_, _-_}
 use native.Mathlib.Omega.{arith}
 use lib.ListN.{length, drop}
@@ -21,14 +20,14 @@ abbrev μ-loop : tie.MeasureT-loop
 loop-holds : tie.Need-loop-holds Inv-loop μ-loop
 loop-holds c = search needs
 
-at-requires : tie.Need-at-requires Inv-loop μ-loop
-at-requires c κs = search needs
+byte-at-requires : tie.Need-byte-at-requires Inv-loop μ-loop
+byte-at-requires c κs = search needs
 
-half-byte-requires : tie.Need-half-byte-requires Inv-loop μ-loop
-half-byte-requires c κs = search needs
+nibble-requires : tie.Need-nibble-requires Inv-loop μ-loop
+nibble-requires c κs = search needs
 
-half-byte-requires-2 : tie.Need-half-byte-requires-2 Inv-loop μ-loop
-half-byte-requires-2 c κs = search needs
+nibble-requires-2 : tie.Need-nibble-requires-2 Inv-loop μ-loop
+nibble-requires-2 c κs = search needs
 
 add-i : tie.Need-add-i Inv-loop μ-loop
 add-i c = search needs
@@ -40,8 +39,8 @@ loop-again : tie.Need-loop-again Inv-loop μ-loop
 loop-again c =
     let l = c .before .before .before .before .loop in
     let s = c .before .before .before .before .before .before .args .bytes .now in
-    let b = c .before .before .at in
-    let e = two-halves (l .c) (b .result) (c .before .half-byte .result) (c .half-byte2 .result) (c .before .half-byte .ensures) (c .half-byte2 .ensures) in
+    let b = c .before .before .byte-at in
+    let e = two-halves (l .c) (b .result) (c .before .nibble .result) (c .nibble2 .result) (c .before .nibble .ensures) (c .nibble2 .ensures) in
     (omega arith, rw (e, b .ensures .0) (crcFrom-step s (l .i) (l .c) (omega arith) ∙ l .inv .1))
 
 returns : tie.Need-returns Inv-loop μ-loop
@@ -58,9 +57,9 @@ by-bytes-spec =
     Inv-loop
     μ-loop
     loop-holds
-    at-requires
-    half-byte-requires
-    half-byte-requires-2
+    byte-at-requires
+    nibble-requires
+    nibble-requires-2
     add-i
     loop-less
     loop-again

@@ -1,13 +1,12 @@
 -- `crc32::words::by_words` meets its contract. Assumes nothing.
-use Prim.Native.Nat.{_^_, _<_}
-use Rattle.crc32.proofs.Owed.{through-step}
+use Prim.Native.Nat.{_^_, _<_, _≤_, _-_}
+use Rattle.crc32.proofs.Numbers.{shift-in-step}
 use Rattle.crc32.specs.Fold.{wordsOf}
 use Rattle.crc32.specs.Crc.{crcFrom}
 use Rattle.base.proofs.Lists.{to-end}
 use lib.ListN.{length, drop}
 use lib.Bits.{xor-zero-l}
 use native.Mathlib.Omega.{arith}
-use Prim.Native.Nat.{_≤_, _-_}
 use mathlib.Core.List.{[]}
 use mathlib.Core.Path.{_≡_, _∙_}
 use borrow.Author.Needs.{needs}
@@ -26,8 +25,8 @@ loop-holds c = search needs
 sub-loop : tie.Need-sub-loop Inv-loop μ-loop
 sub-loop c = search needs
 
-through-requires : tie.Need-through-requires Inv-loop μ-loop
-through-requires c κs = search needs
+shift-in-requires : tie.Need-shift-in-requires Inv-loop μ-loop
+shift-in-requires c κs = search needs
 
 add-i : tie.Need-add-i Inv-loop μ-loop
 add-i c = search needs
@@ -40,23 +39,23 @@ unfolding wordsOf
 loop-again c =
     let l = c .before .before .loop in
     let s = c .before .before .before in
-    let e = through-step 0 (l .c) (c .through .result) (l .i) [] (s .before .args .bytes .now) (λ k. s .shared-slice-known .given k .fits) (omega arith) (omega arith) (c .through .ensures) in
-    (omega arith, (omega arith, rw (xor-zero-l (c .through .result), xor-zero-l (l .c)) at e ∙ l .inv .1 .1))
+    let e = shift-in-step 0 (l .c) (c .shift-in .result) (l .i) [] (s .before .args .bytes .now) (λ k. s .shared-slice-known .given k .fits) (omega arith) (omega arith) (c .shift-in .ensures) in
+    (omega arith, (omega arith, rw (xor-zero-l (c .shift-in .result), xor-zero-l (l .c)) at e ∙ l .inv .1 .1))
 
-sub-by-half : tie.Need-sub-by-half Inv-loop μ-loop
-sub-by-half c = search needs
+sub-by-four : tie.Need-sub-by-four Inv-loop μ-loop
+sub-by-four c = search needs
 
-part-by-half-start : tie.Need-part-by-half-start Inv-loop μ-loop
-part-by-half-start c = search needs
+part-by-four-start : tie.Need-part-by-four-start Inv-loop μ-loop
+part-by-four-start c = search needs
 
-part-by-half-end : tie.Need-part-by-half-end Inv-loop μ-loop
-part-by-half-end c = search needs
+part-by-four-end : tie.Need-part-by-four-end Inv-loop μ-loop
+part-by-four-end c = search needs
 
-by-half-requires : tie.Need-by-half-requires Inv-loop μ-loop
-by-half-requires c κs = search needs
+by-four-requires : tie.Need-by-four-requires Inv-loop μ-loop
+by-four-requires c κs = search needs
 
 returns : tie.Need-returns Inv-loop μ-loop
-returns c = c .by-half .ensures ∙ rw to-end (c .before .before .before .loop .inv .1 .1)
+returns c = c .by-four .ensures ∙ rw to-end (c .before .before .before .loop .inv .1 .1)
 
 pub by-words-spec : {M : Type 1} → statement M
 by-words-spec =
@@ -66,12 +65,12 @@ by-words-spec =
     μ-loop
     loop-holds
     sub-loop
-    through-requires
+    shift-in-requires
     add-i
     loop-less
     loop-again
-    sub-by-half
-    part-by-half-start
-    part-by-half-end
-    by-half-requires
+    sub-by-four
+    part-by-four-start
+    part-by-four-end
+    by-four-requires
     returns)

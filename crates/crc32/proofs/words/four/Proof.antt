@@ -1,15 +1,12 @@
 -- `crc32::words::four` meets its contract: what is looked up, with the rest after fewer shifts, gives the whole. Assumes nothing.
 use Rattle.crc32.proofs.Sparse.{crcBits-zero}
 use lib.Pow.{shr-lt}
-use lib.Bits.{xor-zero-l, xor-zero-r}
-use Prim.Native.Nat.{_-_}
-use mathlib.Core.Path.{_∙_}
-use mathlib.Core.Path.{_≡_}
-use Prim.Native.Nat.{_+_, _*_, _^_, _≤_, _<_}
+use lib.Bits.{xor-zero-l, xor-zero-r, bitXor}
+use Prim.Native.Nat.{_-_, _+_, _*_, _^_, _≤_, _<_}
+use mathlib.Core.Path.{_∙_, _≡_}
 use native.Mathlib.Omega.{arith}
-use lib.Bits.{bitXor}
 use Rattle.crc32.specs.Crc.{crcBits}
-use Rattle.crc32.proofs.LookUp.{half-byte-more}
+use Rattle.crc32.proofs.LookUp.{nibble-more}
 use borrow.Author.Needs.{needs}
 use Rattle.crc32.proofs.words.four.Statement.{statement}
 use Rattle.crc32.proofs.words.four.Tie as tie
@@ -42,7 +39,7 @@ loop-again c =
     let n = l .k - 1 in
     let e : 4 * l .k ≡ 4 * n + 4 = omega arith in
     let f : row + l .k ≡ row + n + 1 = omega arith in
-    (omega arith, (shr-lt (4 * n) 4 (rw e at (l .inv .1 .0)), rw (c .entry .ensures) (half-byte-more (l .c) (row + n) (l .rest) ∙ rw f at (l .inv .1 .1))))
+    (omega arith, (shr-lt (4 * n) 4 (rw e at (l .inv .1 .0)), rw (c .entry .ensures) (nibble-more (l .c) (row + n) (l .rest) ∙ rw f at (l .inv .1 .1))))
 
 returns : tie.Need-returns Inv-loop μ-loop
 returns c =

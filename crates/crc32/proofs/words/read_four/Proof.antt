@@ -5,32 +5,32 @@ use borrow.Author.Needs.{needs}
 use Rattle.crc32.proofs.words.read_four.Statement.{statement}
 use Rattle.crc32.proofs.words.read_four.Tie as tie
 
-at-requires : tie.Need-at-requires
-at-requires c κs = search needs
+byte-at-requires : tie.Need-byte-at-requires
+byte-at-requires c κs = search needs
 
-add-at : tie.Need-add-at
-add-at c = search needs
+add-byte-at : tie.Need-add-byte-at
+add-byte-at c = search needs
 
-at-requires-2 : tie.Need-at-requires-2
-at-requires-2 c κs = search needs
+byte-at-requires-2 : tie.Need-byte-at-requires-2
+byte-at-requires-2 c κs = search needs
 
 add-result : tie.Need-add-result
 add-result c = search needs
 
-add-at-2 : tie.Need-add-at-2
-add-at-2 c = search needs
+add-byte-at-2 : tie.Need-add-byte-at-2
+add-byte-at-2 c = search needs
 
-at-requires-3 : tie.Need-at-requires-3
-at-requires-3 c κs = search needs
+byte-at-requires-3 : tie.Need-byte-at-requires-3
+byte-at-requires-3 c κs = search needs
 
 add-result-2 : tie.Need-add-result-2
 add-result-2 c = search needs
 
-add-at-3 : tie.Need-add-at-3
-add-at-3 c = search needs
+add-byte-at-3 : tie.Need-add-byte-at-3
+add-byte-at-3 c = search needs
 
-at-requires-4 : tie.Need-at-requires-4
-at-requires-4 c κs = search needs
+byte-at-requires-4 : tie.Need-byte-at-requires-4
+byte-at-requires-4 c κs = search needs
 
 add-result-3 : tie.Need-add-result-3
 add-result-3 c = search needs
@@ -44,14 +44,14 @@ pub read-four-spec : {M : Type 1} → statement M
 read-four-spec =
     tie.close
     (tie.spec
-    at-requires
-    add-at
-    at-requires-2
+    byte-at-requires
+    add-byte-at
+    byte-at-requires-2
     add-result
-    add-at-2
-    at-requires-3
+    add-byte-at-2
+    byte-at-requires-3
     add-result-2
-    add-at-3
-    at-requires-4
+    add-byte-at-3
+    byte-at-requires-4
     add-result-3
     returns)

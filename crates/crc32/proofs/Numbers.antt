@@ -1,4 +1,4 @@
--- Numbers in words of 64 bits, and a word that is left out in the words after it. Assumes nothing.
+-- Numbers in words of 64 bits, and a folded word in the words after it. Assumes nothing.
 use mathlib.Core.Path.{_≡_, refl, sym, ap, ap₂, _∙_}
 use Prim.Native.Nat.{ℕ, zero, suc, _+_, _*_, _/_, _%_, _^_, _≤_, _<_}
 use mathlib.Core.List.{List, [], _∷_, _++_}
@@ -10,7 +10,7 @@ use lib.ListN.{length, drop, replicate}
 use Rattle.base.specs.Lists.{part, Bytes}
 use Rattle.crc32.specs.Crc.{crcBits, crcFrom}
 use Rattle.crc32.specs.Table.{leOf}
-use Rattle.crc32.specs.Fold.{wordsOf, lags, spread}
+use Rattle.crc32.specs.Fold.{wordsOf, lags, folded}
 use Rattle.crc32.proofs.LookUp.{eight-lt}
 use Rattle.crc32.proofs.Folding.{word-step}
 
@@ -50,9 +50,9 @@ record Given (n : ℕ) (l : List ℕ) : Type 0 where
 both : {m n : ℕ} {xs ys : List ℕ} → Given m xs → Given n ys → Given (bitXor m n) (summed xs ys)
 both {m} {n} {xs} {ys} h g = record { is = ap₂ bitXor (h .is) (g .is) ∙ words-xor xs ys }
 
--- ---- a word that is left out, in the five words after it
+-- ---- a folded word, in the five words after it
 
-pub up : (k : ℕ) (ws : List ℕ) → wordsOf ws * 2 ^ (64 * k) ≡ wordsOf (replicate k 0 ++ ws)
+up : (k : ℕ) (ws : List ℕ) → wordsOf ws * 2 ^ (64 * k) ≡ wordsOf (replicate k 0 ++ ws)
 unfolding wordsOf
 up zero ws = omega arith
 up (suc k) ws =
@@ -71,23 +71,23 @@ placed k r q w e h =
           (ap (λ (n : ℕ). n * 2 ^ (64 * k)) two ∙ up k ((w * 2 ^ r) % 2 ^ 64 ∷ w / 2 ^ q ∷ []));
     }
 
-pub spread-words : (w b c d e : ℕ) → w < 2 ^ 64 →
-    bitXor (wordsOf (b ∷ c ∷ d ∷ e ∷ [])) (spread 1 lags w)
+pub folded-words : (w b c d e : ℕ) → w < 2 ^ 64 →
+    bitXor (wordsOf (b ∷ c ∷ d ∷ e ∷ [])) (folded 1 lags w)
     ≡ wordsOf
     (b ∷ bitXor c (bitXor ((w * 2 ^ 17) % 2 ^ 64) ((w * 2 ^ 55) % 2 ^ 64)) ∷ bitXor d (bitXor (w / 2 ^ 47) (bitXor (w / 2 ^ 9) ((w * 2 ^ 19) % 2 ^ 64)))
     ∷ bitXor e (bitXor (w / 2 ^ 45) ((w * 2 ^ 44) % 2 ^ 64)) ∷ w / 2 ^ 20 ∷ [])
-unfolding spread wordsOf
-spread-words w b c d e h =
+unfolding folded wordsOf
+folded-words w b c d e h =
     let here : Given (wordsOf (b ∷ c ∷ d ∷ e ∷ [])) (b ∷ c ∷ d ∷ e ∷ []) = record { is = refl } in
     let none : Given 0 [] = record { is = refl } in
     let all = both here (both (placed 1 17 47 w refl h) (both (placed 1 55 9 w refl h) (both (placed 2 19 45 w refl h) (both (placed 3 44 20 w refl h) none)))) in
     all .is ∙ simp (xor-zero-l, xor-zero-r)
 
--- ---- a word that goes through the register, with what is owed to it and the state
+-- ---- a word that is shifted in, with what is pending for it and the state
 
-pub through-step : (w c r i : ℕ) (ws s : List ℕ) → Bytes s → i + 8 ≤ length s → c < 2 ^ 64 →
+pub shift-in-step : (w c r i : ℕ) (ws s : List ℕ) → Bytes s → i + 8 ≤ length s → c < 2 ^ 64 →
     r ≡ crcBits 64 (bitXor (leOf (part i 8 s)) (bitXor (w % 2 ^ 64) c)) → crcFrom (bitXor (wordsOf ws) r) (drop (i + 8) s) ≡ crcFrom (bitXor (wordsOf (w ∷ ws)) c) (drop i s)
-through-step w c r i ws s bs inside hc e =
+shift-in-step w c r i ws s bs inside hc e =
     let p = wordsOf (w ∷ ws) in
     let h : bitXor p c / 2 ^ 64 ≡ wordsOf ws = rw (xor-shr p c 64, words-high w ws, div-eq-of-lt hc) (xor-zero-r (wordsOf ws)) in
     let l : bitXor p c % 2 ^ 64 ≡ bitXor (w % 2 ^ 64) c = rw (xor-mod p c 64, words-low w ws, mod-eq-of-lt hc) in

@@ -1,9 +1,9 @@
--- `crc32::words::at` meets its contract. Assumes nothing.
+-- `crc32::words::byte_at` meets its contract. Assumes nothing.
 use mathlib.Core.Path.{refl}
 use native.Mathlib.Omega.{arith}
 use borrow.Author.Needs.{needs}
-use Rattle.crc32.proofs.words.at.Statement.{statement}
-use Rattle.crc32.proofs.words.at.Tie as tie
+use Rattle.crc32.proofs.words.byte_at.Statement.{statement}
+use Rattle.crc32.proofs.words.byte_at.Tie as tie
 
 shared-slice-read-result : tie.Need-shared-slice-read-result
 shared-slice-read-result c = search needs
@@ -14,5 +14,5 @@ cast-result c = omega (arith, c .shared-slice-known .given (c .before .args .i))
 returns : tie.Need-returns
 returns c = (refl, omega (arith, c .shared-slice-known .given (c .before .args .i)))
 
-pub at-spec : {M : Type 1} → statement M
-at-spec = tie.close (tie.spec shared-slice-read-result cast-result returns)
+pub byte-at-spec : {M : Type 1} → statement M
+byte-at-spec = tie.close (tie.spec shared-slice-read-result cast-result returns)

@@ -1,9 +1,9 @@
--- `crc32::words::half_byte` meets its contract. Assumes nothing.
+-- `crc32::words::nibble` meets its contract. Assumes nothing.
 use mathlib.Core.Path.{sym, _∙_}
 use Rattle.crc32.proofs.Laws.{crcBits-split}
 use borrow.Author.Needs.{needs}
-use Rattle.crc32.proofs.words.half_byte.Statement.{statement}
-use Rattle.crc32.proofs.words.half_byte.Tie as tie
+use Rattle.crc32.proofs.words.nibble.Statement.{statement}
+use Rattle.crc32.proofs.words.nibble.Tie as tie
 
 entry-requires : tie.Need-entry-requires
 entry-requires c κs = search needs
@@ -13,5 +13,5 @@ returns c =
     let x = c .before .args .c in
     sym (crcBits-split 4 x ∙ cc)
 
-pub half-byte-spec : {M : Type 1} → statement M
-half-byte-spec = tie.close (tie.spec entry-requires returns)
+pub nibble-spec : {M : Type 1} → statement M
+nibble-spec = tie.close (tie.spec entry-requires returns)

@@ -1,10 +1,10 @@
--- `crc32::words::through` meets its contract. Assumes nothing.
+-- `crc32::words::shift_in` meets its contract. Assumes nothing.
 use native.Mathlib.Omega.{arith}
 use Prim.Native.Nat.{_^_, _<_}
 use native.Mathlib.Nat.{mod-eq-of-lt}
 use borrow.Author.Needs.{needs}
-use Rattle.crc32.proofs.words.through.Statement.{statement}
-use Rattle.crc32.proofs.words.through.Tie as tie
+use Rattle.crc32.proofs.words.shift_in.Statement.{statement}
+use Rattle.crc32.proofs.words.shift_in.Tie as tie
 
 read-eight-requires : tie.Need-read-eight-requires
 read-eight-requires c κs = search needs
@@ -18,5 +18,5 @@ returns c =
     let h : a .w < 2 ^ 64 = omega arith in
     cc (mod-eq-of-lt h)
 
-pub through-spec : {M : Type 1} → statement M
-through-spec = tie.close (tie.spec read-eight-requires eight-requires returns)
+pub shift-in-spec : {M : Type 1} → statement M
+shift-in-spec = tie.close (tie.spec read-eight-requires eight-requires returns)

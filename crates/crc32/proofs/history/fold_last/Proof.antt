@@ -1,21 +1,18 @@
--- `crc32::history::rest` meets its contract: what is owed now, to the rest of the bytes, gives the whole. Assumes nothing.
-use Rattle.crc32.specs.Fold.{wordsOf}
-use lib.Bits.{xor-zero-l, xor-zero-r}
-use Rattle.crc32.proofs.Histories.{rest-turn, owed-last}
-use mathlib.Core.Path.{_∙_}
-use mathlib.Core.Path.{_≡_}
+-- `crc32::history::fold_last` meets its contract: what is pending now, with the rest of the bytes, gives the whole. Assumes nothing.
+use Rattle.crc32.specs.Fold.{wordsOf, pendingAt, pendingOf}
+use lib.Bits.{xor-zero-l, xor-zero-r, bitXor}
+use Rattle.crc32.proofs.Histories.{fold-last-turn, pending-last}
+use mathlib.Core.Path.{_∙_, _≡_}
 use Prim.Native.Nat.{_*_, _≤_, _-_}
 use native.Mathlib.Omega.{arith}
-use lib.Bits.{bitXor}
 use lib.ListN.{drop}
 use Rattle.crc32.specs.Crc.{crcFrom}
-use Rattle.crc32.specs.Fold.{owed, pendingOf}
 use borrow.Author.Needs.{needs}
-use Rattle.crc32.proofs.history.rest.Statement.{statement}
-use Rattle.crc32.proofs.history.rest.Tie as tie
+use Rattle.crc32.proofs.history.fold_last.Statement.{statement}
+use Rattle.crc32.proofs.history.fold_last.Tie as tie
 
 abbrev Inv-loop : tie.InvT-loop
-Inv-loop b bytes p₀ j₀ p j = (j ≤ 300) × (crcFrom (bitXor (owed j b) (pendingOf p)) (drop (8 * j) bytes) ≡ crcFrom (owed 0 b) bytes)
+Inv-loop b bytes p₀ j₀ p j = (j ≤ 300) × (crcFrom (bitXor (pendingAt j b) (pendingOf p)) (drop (8 * j) bytes) ≡ crcFrom (pendingAt 0 b) bytes)
 
 abbrev μ-loop : tie.MeasureT-loop
 μ-loop b bytes p₀ j₀ p j = 300 - j
@@ -30,8 +27,8 @@ mul-read-eight c = search needs
 read-eight-requires : tie.Need-read-eight-requires Inv-loop μ-loop
 read-eight-requires c κs = search needs
 
-owed-word-requires : tie.Need-owed-word-requires Inv-loop μ-loop
-owed-word-requires c κs = search needs
+pending-word-requires : tie.Need-pending-word-requires Inv-loop μ-loop
+pending-word-requires c κs = search needs
 
 fold-requires : tie.Need-fold-requires Inv-loop μ-loop
 fold-requires c κs = search needs
@@ -49,19 +46,19 @@ loop-again c =
     let u = c .before .before .read-eight in
     let pre = s .before .pre in (
       omega arith,
-      rest-turn (s .before .args .bytes .now) (s .before .args .b .now) (l .j) (u .result) (c .before .owed-word .result) (λ k. s .shared-slice-known .given k .fits) (pre .0 .long) (omega arith) (u .ensures) (omega arith)
-          (c .before .owed-word .ensures) (pendingOf (l .p)) (pendingOf (c .fold .result)) (c .fold .ensures) (pre .1) ∙ l .inv .1,
+      fold-last-turn (s .before .args .bytes .now) (s .before .args .kept .now) (l .j) (u .result) (c .before .pending-word .result) (λ k. s .shared-slice-known .given k .fits) (pre .0 .long) (omega arith) (u .ensures) (omega arith)
+          (c .before .pending-word .ensures) (pendingOf (l .p)) (pendingOf (c .fold .result)) (c .fold .ensures) (pre .1) ∙ l .inv .1,
     )
 
 returns : tie.Need-returns Inv-loop μ-loop
 returns c =
     let l = c .before .loop in
     let e : l .j ≡ 300 = omega arith in
-    let b = c .before .before .before .args .b .now in
-    rw (e, owed-last b (c .before .before .before .pre .0 .room), xor-zero-l) at (l .inv .1)
+    let b = c .before .before .before .args .kept .now in
+    rw (e, pending-last b (c .before .before .before .pre .0 .room), xor-zero-l) at (l .inv .1)
 
-pub rest-spec : {M : Type 1} → statement M
-rest-spec =
+pub fold-last-spec : {M : Type 1} → statement M
+fold-last-spec =
     tie.close
     (tie.spec
     Inv-loop
@@ -69,7 +66,7 @@ rest-spec =
     loop-holds
     mul-read-eight
     read-eight-requires
-    owed-word-requires
+    pending-word-requires
     fold-requires
     add-j
     loop-less

@@ -1,11 +1,11 @@
--- `crc32::words::by_half` meets its contract. Assumes nothing.
+-- `crc32::words::by_four` meets its contract. Assumes nothing.
 use Rattle.crc32.proofs.LookUp.{crcFrom-part}
 use Rattle.base.proofs.Lists.{to-end}
 use native.Mathlib.Omega.{arith}
 use mathlib.Core.Path.{_∙_}
 use borrow.Author.Needs.{needs}
-use Rattle.crc32.proofs.words.by_half.Statement.{statement}
-use Rattle.crc32.proofs.words.by_half.Tie as tie
+use Rattle.crc32.proofs.words.by_four.Statement.{statement}
+use Rattle.crc32.proofs.words.by_four.Tie as tie
 
 by-bytes-requires : tie.Need-by-bytes-requires
 by-bytes-requires c κs = search needs
@@ -38,8 +38,8 @@ returns-2 c =
     let e = crcFrom-part 4 (a .state) 0 (a .bytes .now) (λ k. s .shared-slice-known .given k .fits) (omega arith) in
     c .by-bytes2 .ensures ∙ rw (to-end, c .before .before .four .ensures, c .before .before .before .read-four .ensures) e
 
-pub by-half-spec : {M : Type 1} → statement M
-by-half-spec =
+pub by-four-spec : {M : Type 1} → statement M
+by-four-spec =
     tie.close
     (tie.spec
     by-bytes-requires

@@ -1,11 +1,11 @@
--- `attach::attach_linked` meets its contract. Assumes nothing.
+-- `attach::attach_with_heads` meets its contract. Assumes nothing.
 use Rattle.attach.proofs.Stages.{keyed, refused-linked, repeat-refusal, unused-refusal, linking, marked-tail, past-ten, ended-from}
 use mathlib.Core.Path.{refl}
 use borrow.Author.Needs.{needs}
-use Rattle.attach.proofs.attach_linked.Statement.{statement}
-use Rattle.attach.proofs.attach_linked.Tie as tie
-use Rattle.attach.proofs.attach_linked.Reads as reads
-use Rattle.attach.proofs.attach_linked.Lts as lts
+use Rattle.attach.proofs.attach_with_heads.Statement.{statement}
+use Rattle.attach.proofs.attach_with_heads.Tie as tie
+use Rattle.attach.proofs.attach_with_heads.Reads as reads
+use Rattle.attach.proofs.attach_with_heads.Lts as lts
 use Rattle.attach.proofs.attach_chosen.Reads as attach-chosen-reads
 use Rattle.attach.proofs.lent.refuse.Reads as refuse-reads
 use Rattle.attach.proofs.marking.link_copies.Reads as link-copies-reads
@@ -123,8 +123,8 @@ returns-3 c =
     (marked-tail p o (r .result) (r .ensures .0) (c .before .before .before .before .before .before .before .before .before .before .before .before .before .before .before .before .before .if1 .left) (m .before .mark-chosen .ensures) (search (needs, m .pebs3 .given)))
     (o .relinked .tail) refl (c .before .before .before .before .before .before .attach-chosen .ensures)
 
-pub attach-linked-spec : {M : Type 1} → statement M
-attach-linked-spec =
+pub attach-with-heads-spec : {M : Type 1} → statement M
+attach-with-heads-spec =
     tie.close
     (tie.spec
     link-copies-requires
