@@ -32,9 +32,11 @@ pub fn crc32(bytes: &[u8]) -> u32
 pub fn update(state: u32, bytes: &[u8]) -> u32
     ensures { λ r. ⌜ r ≡ crcFrom state (now (bytes .entry)) ⌝ }
 {
+    // Folding needs five words after the one that it leaves out.
     if bytes.len() < 48 {
         return by_table(state, bytes);
     }
+    // A block needs 300 words after it, and 48 bytes after these.
     if bytes.len() < 4848 {
         return by_folding(
             Pending {
