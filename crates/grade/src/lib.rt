@@ -8,6 +8,9 @@ ghost use Rattle.report.specs.View.{Views};
 ghost use Rattle.report.specs.Report.{entries, gradeOf};
 ghost use Rattle.report.specs.Attach.{mapWords};
 ghost use Rattle.grade.specs.Words.{soundPeb, soundState, Read};
+use report::NO_WORD;
+use report::class;
+use report::state;
 
 // How many entries the sorted map has: no entry's volume is the unused word, and unused words come last.
 pub fn count_entries(map: &[u32], n: usize) -> usize
@@ -17,7 +20,7 @@ pub fn count_entries(map: &[u32], n: usize) -> usize
 {
     let mut k: usize = 0;
     while k < n {
-        if map[k * 3] == 0xFFFFFFFF {
+        if map[k * 3] == NO_WORD {
             return k;
         }
         k += 1;
@@ -30,13 +33,13 @@ fn peb_sound(pebs: &[u32], i: usize) -> bool
     requires { ⌜ (i < 4096) × (i * 2 + 2 ≤ length (now pebs)) ⌝ }
     ensures { λ r. ⌜ r ≡ soundPeb (now (pebs .entry)) i ⌝ }
 {
-    if pebs[i * 2] == 4 {
+    if pebs[i * 2] == class::UNREADABLE {
         return false;
     }
-    if pebs[i * 2] == 3 {
+    if pebs[i * 2] == class::BLANK {
         return true;
     }
-    pebs[i * 2 + 1] != 0xFFFFFFFF
+    pebs[i * 2 + 1] != NO_WORD
 }
 
 // Are all n PEBs sound? One that is not decides it.
@@ -61,10 +64,10 @@ fn states_sound(states: &[u32]) -> bool
 {
     let mut v: usize = 0;
     while v < 128 {
-        if states[v] == 2 {
+        if states[v] == state::UPDATING {
             return false;
         }
-        if states[v] == 3 {
+        if states[v] == state::DAMAGED {
             return false;
         }
         v += 1;

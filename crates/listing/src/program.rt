@@ -9,6 +9,7 @@ use crate::Rendered;
 use crate::text::render;
 use geometry::GeometryRead;
 use report::Attached;
+use report::refusal;
 
 // Where the slip ends: after 20 bytes, or with the input.
 fn slip_end(input: &[u8]) -> usize
@@ -37,15 +38,15 @@ fn refuse_long(slip: &[u8]) -> Attached
     let r = geometry::read_slip(slip);
     match r {
         GeometryRead::Good(g) => return Attached::Refused {
-            number: 3,
+            number: refusal::BAD_IMAGE_SIZE,
             place: 0,
         },
         GeometryRead::Malformed => return Attached::Refused {
-            number: 1,
+            number: refusal::MALFORMED_SLIP,
             place: 0,
         },
         GeometryRead::Outside => return Attached::Refused {
-            number: 2,
+            number: refusal::BAD_GEOMETRY,
             place: 0,
         },
     }

@@ -20,7 +20,14 @@ use plan::Begun;
 use plan::Plan;
 use report::Attached;
 use report::Report;
+use report::refusal;
 use scan::VidSeen;
+
+// No sequence comes after it.
+const LAST_SEQUENCE: u64 = 0xFFFFFFFFFFFFFFFF;
+
+// A block with this counter is not erased again: a higher one would be read as lost.
+const LAST_COUNTER: u32 = 0x7FFFFFFF;
 
 // The plan, once nothing refuses the move.
 fn make_plan(
@@ -73,18 +80,18 @@ fn plan_copy(
 {
     let found = moving::examine(p, g, h);
     if found.damaged {
-        return refuse(15);
+        return refuse(refusal::DAMAGED_COPY);
     }
     let n = report.peb_count as usize;
     if moving::is_no_target(image, g, n, pebs, target) {
-        return refuse(16);
+        return refuse(refusal::BAD_TARGET);
     }
-    if report.highest == 0xFFFFFFFFFFFFFFFF {
-        return refuse(17);
+    if report.highest == LAST_SEQUENCE {
+        return refuse(refusal::NUMBERS_USED_UP);
     }
     let counter = moving::old_counter(image, g, n, pebs, report.mean, old as usize);
-    if counter == 0x7FFFFFFF {
-        return refuse(17);
+    if counter == LAST_COUNTER {
+        return refuse(refusal::NUMBERS_USED_UP);
     }
     make_plan(image, g, report, old, h, found, target, counter)
 }
@@ -102,15 +109,15 @@ fn plan_peb(image: &[u8], g: Geometry, report: Report, pebs: &[u32], old: u32, t
     match v {
         VidSeen::Good(h) => return plan_copy(image, p, g, report, pebs, old, h, target),
         VidSeen::Newer => return Begun::Refused {
-            number: 14,
+            number: refusal::LEB_NOT_MAPPED,
             place: 0,
         },
         VidSeen::Blank => return Begun::Refused {
-            number: 14,
+            number: refusal::LEB_NOT_MAPPED,
             place: 0,
         },
         VidSeen::Bad => return Begun::Refused {
-            number: 14,
+            number: refusal::LEB_NOT_MAPPED,
             place: 0,
         },
     }
@@ -132,13 +139,13 @@ fn plan_move(
 {
     if report.read_only {
         return Begun::Refused {
-            number: 13,
+            number: refusal::NOT_WRITABLE,
             place: 0,
         };
     }
     if moving::any_to_delete(image, g, report.peb_count as usize, pebs) {
         return Begun::Refused {
-            number: 13,
+            number: refusal::NOT_WRITABLE,
             place: 0,
         };
     }
@@ -146,7 +153,7 @@ fn plan_move(
     match place {
         LebPlace::At(old) => return plan_peb(image, g, report, pebs, old, target),
         LebPlace::Absent => return Begun::Refused {
-            number: 14,
+            number: refusal::LEB_NOT_MAPPED,
             place: 0,
         },
     }
@@ -208,11 +215,11 @@ pub fn begin(
             return begin_image(slip, image, g, pebs, map, states, volume, leb, target);
         }
         GeometryRead::Malformed => return Begun::Refused {
-            number: 1,
+            number: refusal::MALFORMED_SLIP,
             place: 0,
         },
         GeometryRead::Outside => return Begun::Refused {
-            number: 2,
+            number: refusal::BAD_GEOMETRY,
             place: 0,
         },
     }

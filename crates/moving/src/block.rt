@@ -17,6 +17,8 @@ use crate::copy::data_end;
 use geometry::Geometry;
 use header::EcHeader;
 use header::VidHeader;
+use report::NO_WORD;
+use report::class;
 use scan::EcSeen;
 use scan::VidSeen;
 
@@ -52,7 +54,7 @@ fn to_delete_at(image: &[u8], g: Geometry, n: usize, pebs: &[u32], i: usize) -> 
     requires { ⌜ (Reported g (now image) n (now pebs)) × (i < n) ⌝ }
     ensures { λ r. ⌜ r ≡ isInternal 1 (copies (viewsOf g (now (image .entry))) i) ⌝ }
 {
-    if pebs[i * 2] != 5 {
+    if pebs[i * 2] != class::TO_DELETE {
         return false;
     }
     let size = g.peb_size as usize;
@@ -84,7 +86,7 @@ pub fn is_no_target(image: &[u8], g: Geometry, n: usize, pebs: &[u32], target: u
     if n <= i {
         return true;
     }
-    if pebs[i * 2] != 0 {
+    if pebs[i * 2] != class::FREE {
         return true;
     }
     let size = g.peb_size as usize;
@@ -98,7 +100,7 @@ pub fn old_counter(image: &[u8], g: Geometry, n: usize, pebs: &[u32], mean: u32,
     ensures { λ r. ⌜ r ≡ oldCounter n (viewsOf g (now (image .entry))) old ⌝ }
 {
     let counter = pebs[old * 2 + 1];
-    if counter == 0xFFFFFFFF {
+    if counter == NO_WORD {
         return mean;
     }
     counter

@@ -1,4 +1,10 @@
 // The report on an image: what attaching answers. The definitions and laws that attaching and moving cite stand in specs/ and proofs/.
+pub mod class;
+pub mod refusal;
+pub mod state;
+
+// An unused word of a lent table, and the counter of an EC header that is lost.
+pub const NO_WORD: u32 = 0xFFFFFFFF;
 
 // The report's numbers, and the PEB count, which a listing shows; the classes, counters, map and volume states are in the lent tables.
 pub struct Report {

@@ -16,6 +16,7 @@ use crate::VidSeen;
 use geometry::Geometry;
 use header::EcHeader;
 use header::VidHeader;
+use report::refusal;
 
 // Is the volume a user volume or the layout volume?
 pub fn is_mappable(volume: u32) -> bool
@@ -67,7 +68,7 @@ pub fn ec_refusal(e: EcSeen, g: Geometry, s: Sums) -> u32
     ensures { λ r. ⌜ r ≡ orZero (ecRefusal g (seqIn s) (ecSeen e)) ⌝ }
 {
     match e {
-        EcSeen::Newer => return 5,
+        EcSeen::Newer => return refusal::NEWER_HEADER,
         EcSeen::Blank => return 0,
         EcSeen::Lost => return 0,
         EcSeen::Good(h) => return good_ec_refusal(h, g, s),
@@ -78,16 +79,16 @@ fn good_ec_refusal(h: EcHeader, g: Geometry, s: Sums) -> u32
     ensures { λ r. ⌜ r ≡ orZero (ecRefusal g (seqIn s) (ecGood h)) ⌝ }
 {
     if h.vid_start != g.vid_start {
-        return 6;
+        return refusal::OTHER_STARTS;
     }
     if h.data_start != g.data_start {
-        return 6;
+        return refusal::OTHER_STARTS;
     }
     if !s.has_seq {
         return 0;
     }
     if h.image_seq != s.image_seq {
-        return 7;
+        return refusal::OTHER_IMAGE_SEQ;
     }
     0
 }
@@ -97,7 +98,7 @@ pub fn vid_refusal(v: VidSeen) -> u32
     ensures { λ r. ⌜ r ≡ seenRefusal v ⌝ }
 {
     match v {
-        VidSeen::Newer => return 5,
+        VidSeen::Newer => return refusal::NEWER_HEADER,
         VidSeen::Blank => return 0,
         VidSeen::Bad => return 0,
         VidSeen::Good(h) => return good_vid_refusal(h),
@@ -111,7 +112,7 @@ fn good_vid_refusal(h: VidHeader) -> u32
         return 0;
     }
     if h.compat == 5 {
-        return 8;
+        return refusal::UNKNOWN_INTERNAL;
     }
     0
 }

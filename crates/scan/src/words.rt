@@ -16,6 +16,8 @@ use crate::EcSeen;
 use crate::VidSeen;
 use crate::totals::is_mappable;
 use header::VidHeader;
+use report::NO_WORD;
+use report::class;
 
 // The class before any copy is chosen.
 pub fn first_class(e: EcSeen, v: VidSeen) -> u32
@@ -23,8 +25,8 @@ pub fn first_class(e: EcSeen, v: VidSeen) -> u32
 {
     match v {
         VidSeen::Good(h) => return good_class(h),
-        VidSeen::Newer => return 4,
-        VidSeen::Bad => return 4,
+        VidSeen::Newer => return class::UNREADABLE,
+        VidSeen::Bad => return class::UNREADABLE,
         VidSeen::Blank => return blank_class(e),
     }
 }
@@ -34,12 +36,12 @@ fn good_class(h: VidHeader) -> u32
     ensures { λ r. ⌜ r ≡ headerClass h ⌝ }
 {
     if is_mappable(h.volume) {
-        return 2;
+        return class::PASSED_OVER;
     }
     if h.compat == 1 {
-        return 5;
+        return class::TO_DELETE;
     }
-    6
+    class::KEPT_ASIDE
 }
 
 // The class of a block whose VID header is blank.
@@ -47,18 +49,18 @@ fn blank_class(e: EcSeen) -> u32
     ensures { λ r. ⌜ r ≡ firstClass (ecSeen e) vidBlank ⌝ }
 {
     match e {
-        EcSeen::Good(_) => return 0,
-        EcSeen::Blank => return 3,
-        EcSeen::Newer => return 4,
-        EcSeen::Lost => return 4,
+        EcSeen::Good(_) => return class::FREE,
+        EcSeen::Blank => return class::BLANK,
+        EcSeen::Newer => return class::UNREADABLE,
+        EcSeen::Lost => return class::UNREADABLE,
     }
 }
 
 // Is a block of this class free or blank?
-pub fn is_idle(class: u32) -> bool
-    ensures { λ r. ⌜ r ≡ (eqb class 0 || eqb class 3) ⌝ }
+pub fn is_idle(peb_class: u32) -> bool
+    ensures { λ r. ⌜ r ≡ (eqb «peb_class» 0 || eqb «peb_class» 3) ⌝ }
 {
-    class == 0 || class == 3
+    peb_class == class::FREE || peb_class == class::BLANK
 }
 
 // The counter's word.
@@ -68,9 +70,9 @@ pub fn counter_word(e: EcSeen) -> u32
 {
     match e {
         EcSeen::Good(h) => return h.counter as u32,
-        EcSeen::Newer => return 0xFFFFFFFF,
-        EcSeen::Blank => return 0xFFFFFFFF,
-        EcSeen::Lost => return 0xFFFFFFFF,
+        EcSeen::Newer => return NO_WORD,
+        EcSeen::Blank => return NO_WORD,
+        EcSeen::Lost => return NO_WORD,
     }
 }
 
@@ -81,7 +83,7 @@ pub fn fill_words(words: &mut [u32], n: usize)
 {
     let mut i: usize = 0;
     while i < n {
-        words[i] = 0xFFFFFFFF;
+        words[i] = NO_WORD;
         i += 1;
     }
 }
@@ -112,9 +114,9 @@ pub fn store_key(map: &mut [u32], i: usize, v: VidSeen)
 {
     match v {
         VidSeen::Good(h) => store_header(map, i, h),
-        VidSeen::Newer => store_triple(map, i, 0xFFFFFFFF, 0xFFFFFFFF, 0xFFFFFFFF),
-        VidSeen::Blank => store_triple(map, i, 0xFFFFFFFF, 0xFFFFFFFF, 0xFFFFFFFF),
-        VidSeen::Bad => store_triple(map, i, 0xFFFFFFFF, 0xFFFFFFFF, 0xFFFFFFFF),
+        VidSeen::Newer => store_triple(map, i, NO_WORD, NO_WORD, NO_WORD),
+        VidSeen::Blank => store_triple(map, i, NO_WORD, NO_WORD, NO_WORD),
+        VidSeen::Bad => store_triple(map, i, NO_WORD, NO_WORD, NO_WORD),
     }
 }
 
@@ -126,5 +128,5 @@ fn store_header(map: &mut [u32], i: usize, h: VidHeader)
         store_triple(map, i, h.volume, h.lnum, i as u32);
         return;
     }
-    store_triple(map, i, 0xFFFFFFFF, 0xFFFFFFFF, 0xFFFFFFFF);
+    store_triple(map, i, NO_WORD, NO_WORD, NO_WORD);
 }
