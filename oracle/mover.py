@@ -266,26 +266,33 @@ def new_copy_whole(plan, began, stopped):
             and found.new_data == data_run(plan, began))
 
 
-def premise_holds(plan, began, stopped):
-    """Demand 3's premise, of one stopped image by itself.
+# The premise's parts, true where they hold: one for each of the places.
+Premise = namedtuple("Premise", Places._fields)
 
-    Each of the move's headers and data runs that is not whole has a checksum
-    field unlike the checksum of its bytes. Decided: magics are not asked,
-    nor the old block's data run; a header of 0xFF alone is erased whole. A
-    data run's checksum field is one once its header is whole.
+
+def premise_holds(plan, began, stopped):
+    """Demand 3's premise, of one stopped image by itself."""
+    return all(premise_parts(plan, began, stopped))
+
+
+def premise_parts(plan, began, stopped):
+    """Each of the move's headers and data runs that is not whole has a
+    checksum field unlike the checksum of its bytes.
+
+    Decided: magics are not asked, nor the old block's data run. A data run's
+    checksum field is one once its header is whole. Of a header of 0xFF alone
+    nothing need be asked: its checksum field is never right.
     """
     found, before = move_places(plan, stopped), move_places(plan, began)
     new_vid = ubi.vid_header_bytes(plan.vid)
     new_ec = ubi.ec_header_bytes(plan.ec)
-    for header, wholes in ((found.new_vid, [new_vid]),
-                           (found.old_ec, [before.old_ec, new_ec]),
-                           (found.old_vid, [before.old_vid])):
-        if header not in wholes and not attach.is_erased(header):
-            if not has_wrong_checksum(header):
-                return False
-    if found.new_vid == new_vid and found.new_data != data_run(plan, began):
-        return ubi.jamcrc(found.new_data) != plan.vid.data_crc
-    return True
+    return Premise(
+        found.new_vid == new_vid or has_wrong_checksum(found.new_vid),
+        found.new_vid != new_vid or found.new_data == data_run(plan, began)
+        or ubi.jamcrc(found.new_data) != plan.vid.data_crc,
+        found.old_ec in (before.old_ec, new_ec)
+        or has_wrong_checksum(found.old_ec),
+        found.old_vid == before.old_vid or has_wrong_checksum(found.old_vid))
 
 
 def has_wrong_checksum(header):
