@@ -1,19 +1,23 @@
 -- A word of a message may be folded: left out, and added to what follows. Assumes nothing.
-use mathlib.Core.Path.{_≡_, sym, ap, _∙_}
+use mathlib.Core.Path.{_≡_, sym, ap, ap₂, _∙_}
 use Prim.Native.Nat.{ℕ, _+_, _*_, _-_, _/_, _%_, _^_, _≤_, _<_}
-use mathlib.Core.List.{List}
+use mathlib.Core.List.{List, [], _∷_, _++_}
+use native.Mathlib.Nat.{mod-lt, mod-eq-of-lt}
 use native.Mathlib.Omega.{arith}
-use lib.Bits.{bitXor, xor-zero-l, xor-zero-r, xor-self, xor-comm, xor-lt, xor-shr, xor-mod}
-use lib.ListN.{length, drop, length-drop}
+use lib.Bits.{bitXor, xor-zero-l, xor-zero-r, xor-self, xor-comm, xor-lt}
+use lib.Pow.{pow-pos}
+use lib.ListN.{length, take, drop, set, length-drop}
+use lib.Seq.{drop-drop}
 use Rattle.base.specs.Lists.{part, Bytes}
-use Rattle.base.proofs.Lists.{bytes-drop}
+use Rattle.base.proofs.Lists.{bytes-drop, length-part}
 use Rattle.crc32.specs.Crc.{crcBits, crcFrom}
 use Rattle.crc32.specs.Table.{leOf}
-use Rattle.crc32.specs.Fold.{lags, folded}
+use Rattle.crc32.specs.Fold.{exponents, pending}
 use Rattle.crc32.proofs.Xor.{xor-assoc}
 use Rattle.crc32.proofs.Laws.{crcBits-xor, crcBits-add, crcBits-shift, crcBits-split, crcBits-lt, crcFrom-word}
-use Rattle.crc32.proofs.LookUp.{crcFrom-part}
+use Rattle.crc32.proofs.LookUp.{four-lt, crcFrom-part}
 use Rattle.crc32.proofs.Sparse.{sumOf, crcBits-zero, sparse}
+use Rattle.crc32.proofs.Pending.{Below, folded, pending-high, low-take, pending-next, window}
 
 -- ---- a folded word
 
@@ -21,40 +25,27 @@ equal : (a b : ℕ) → bitXor a b ≡ 0 → a ≡ b
 equal a b h =
     sym (xor-zero-r a) ∙ ap (bitXor a) (sym (xor-self b)) ∙ sym (xor-assoc a b b) ∙ ap (λ (x : ℕ). bitXor x b) h ∙ xor-zero-l b
 
--- the state is of 32 bits from 32 shifts on
-narrow : (d w : ℕ) → 32 ≤ d → w < 2 ^ 64 → crcBits d w < 2 ^ 32
-narrow d w h g =
-    let e : d ≡ 32 + (d - 32) = omega arith in
-    rw (e, crcBits-add 32 (d - 32) w, crcBits-split 32 w)
-    (crcBits-lt (d - 32) (bitXor (w / 2 ^ 32) (crcBits 32 (w % 2 ^ 32))) (xor-lt 32 (w / 2 ^ 32) (crcBits 32 (w % 2 ^ 32)) (omega arith) (crcBits-lt 32 (w % 2 ^ 32) (omega arith))))
-
 -- k bits later, k shifts fewer
 later : (k e m d w : ℕ) → m ≡ k + (d + e) → crcBits m (w * 2 ^ k) ≡ crcBits e (crcBits d w)
 later k e m d w h = rw (h, crcBits-add k (d + e) (w * 2 ^ k), crcBits-shift k w) (crcBits-add d e w)
 
-left-out : (k m w : ℕ) → w < 2 ^ 64 → 64 ≤ 145 * 2 ^ k → 300 * 2 ^ k ≤ m + 32 → crcBits m (crcBits 64 w) ≡ crcBits m (folded (2 ^ k) lags w)
-unfolding folded sumOf
-left-out k m w b h g =
-    let n = 2 ^ k in
-    let d = m + 64 - 300 * n in
-    let z = crcBits d w in
-    let all : 64 + m ≡ d + 300 * n = omega arith in
-    sym (crcBits-add 64 m w)
-    ∙ ap (λ (x : ℕ). crcBits x w) all
-    ∙ crcBits-add d (300 * n) w
-    ∙ equal _ _ (sparse k z (narrow d w (omega arith) b))
-    ∙ sym
-    (rw (
-      crcBits-xor m (w * 2 ^ (145 * n - 64)),
-      crcBits-xor m (w * 2 ^ (183 * n - 64)),
-      crcBits-xor m (w * 2 ^ (211 * n - 64)),
-      crcBits-xor m (w * 2 ^ (300 * n - 64)),
-      later (145 * n - 64) (155 * n) m d w (omega arith),
-      later (183 * n - 64) (117 * n) m d w (omega arith),
-      later (211 * n - 64) (89 * n) m d w (omega arith),
-      later (300 * n - 64) (0 * n) m d w (omega arith),
-      crcBits-zero m,
-    ))
+module _ (m d w : ℕ) (all : m ≡ d + 4352) where
+  folded-sum : (es : List ℕ) → Below 137 es → crcBits m (folded 137 es w) ≡ sumOf 32 es (crcBits d (w % 2 ^ 32))
+  unfolding folded sumOf
+  folded-sum [] l = crcBits-zero m
+  folded-sum (e ∷ es) l =
+      let k = 32 * (137 - (1 + e)) in
+      let h : m ≡ k + (d + e * 32) = omega (arith, l .0) in
+      crcBits-xor m (w % 2 ^ 32 * 2 ^ k) (folded 137 es w) ∙ ap₂ bitXor (later k (e * 32) m d (w % 2 ^ 32) h) (folded-sum es (l .1))
+
+  left-out : crcBits m (crcBits 32 (w % 2 ^ 32)) ≡ crcBits m (folded 137 exponents w)
+  unfolding sumOf
+  left-out =
+      let x = w % 2 ^ 32 in
+      let n : 32 + m ≡ d + 4384 = omega arith in
+      sym (crcBits-add 32 m x) ∙ ap (λ (k : ℕ). crcBits k x) n ∙ crcBits-add d 4384 x
+      ∙ equal _ _ (sparse (crcBits d x) (crcBits-lt d x (mod-lt w (pow-pos 32))))
+      ∙ sym (folded-sum exponents (omega arith))
 
 -- ---- in a list of bytes
 
@@ -65,25 +56,59 @@ crcFrom-xor a b t h =
     (crcBits-xor (8 * length t) (bitXor a (leOf t)) b)
 
 -- the lowest word of a number goes through the register, the others move down
-word-through : (p u : ℕ) → u < 2 ^ 64 → crcBits 64 (bitXor p u) ≡ bitXor (p / 2 ^ 64) (crcBits 64 (bitXor u (p % 2 ^ 64)))
-word-through p u h =
-    let e : u / 2 ^ 64 ≡ 0 = omega arith in
-    let f : u % 2 ^ 64 ≡ u = omega arith in
-    crcBits-split 64 (bitXor p u) ∙ rw (xor-shr p u 64, xor-mod p u 64, e, f, xor-zero-r (p / 2 ^ 64), xor-comm (p % 2 ^ 64) u)
+through : (p x : ℕ) → crcBits 32 (bitXor p x) ≡ bitXor (p / 2 ^ 32) (crcBits 32 (bitXor (p % 2 ^ 32) x))
+through p x =
+    rw (crcBits-xor 32 p x, crcBits-split 32 p, crcBits-xor 32 (p % 2 ^ 32) x) (xor-assoc (p / 2 ^ 32) (crcBits 32 (p % 2 ^ 32)) (crcBits 32 x))
 
-module _ (p i : ℕ) (s : List ℕ) (bs : Bytes s) (u : ℕ) (is : u ≡ leOf (part i 8 s)) (fits : u < 2 ^ 64) where
-  pub word-step : i + 8 ≤ length s → crcFrom (bitXor (p / 2 ^ 64) (crcBits 64 (bitXor u (p % 2 ^ 64)))) (drop (i + 8) s) ≡ crcFrom p (drop i s)
-  word-step h = rw (← word-through p u fits, is) (crcFrom-part 8 p i s bs h)
+-- the number p is pending for the bytes from i on: w is their first word, with what is pending for it
+module _ (p w i : ℕ) (s : List ℕ) (bs : Bytes s) (is : w ≡ bitXor (p % 2 ^ 32) (leOf (part i 4 s))) where
+  -- the word goes through the register, with the state
+  word-step : (c : ℕ) → i + 4 ≤ length s → crcFrom (bitXor (p / 2 ^ 32) (crcBits 32 (bitXor c w))) (drop (i + 4) s) ≡ crcFrom (bitXor p c) (drop i s)
+  word-step c h =
+      let u = leOf (part i 4 s) in
+      let q = p % 2 ^ 32 in
+      let e : bitXor c w ≡ bitXor q (bitXor c u) =
+      ap (bitXor c) is ∙ sym (xor-assoc c q u) ∙ ap (λ (x : ℕ). bitXor x u) (xor-comm c q) ∙ xor-assoc q c u in
+      rw (e, ← through p (bitXor c u), ← xor-assoc p c u) (crcFrom-part 4 (bitXor p c) i s bs h)
 
-  -- the number p is pending for the bytes from i on: their first word is folded
-  pub fold-step : (k : ℕ) → 64 ≤ 145 * 2 ^ k → 300 * 2 ^ k + 32 ≤ 8 * (length s - i) →
-      crcFrom (bitXor (p / 2 ^ 64) (folded (2 ^ k) lags (bitXor u (p % 2 ^ 64)))) (drop (i + 8) s) ≡ crcFrom p (drop i s)
-  fold-step k h g =
-      let w = bitXor u (p % 2 ^ 64) in
-      let t = drop (i + 8) s in
-      let bt = bytes-drop (i + 8) s bs in
-      let e : 300 * 2 ^ k ≤ 8 * length t + 32 = rw (length-drop (i + 8) s) (omega arith) in
-      crcFrom-xor (p / 2 ^ 64) (folded (2 ^ k) lags w) t bt
-      ∙ ap (bitXor (crcFrom (p / 2 ^ 64) t)) (sym (left-out k (8 * length t) w (xor-lt 64 u (p % 2 ^ 64) fits (omega arith)) h e))
-      ∙ sym (crcFrom-xor (p / 2 ^ 64) (crcBits 64 w) t bt)
-      ∙ word-step (omega arith)
+  -- the word is folded
+  fold-step : i + 556 ≤ length s → crcFrom (bitXor (p / 2 ^ 32) (folded 137 exponents w)) (drop (i + 4) s) ≡ crcFrom p (drop i s)
+  fold-step h =
+      let t = drop (i + 4) s in
+      let bt = bytes-drop (i + 4) s bs in
+      let m = 8 * length t in
+      let g : m ≡ m - 4352 + 4352 = rw (length-drop (i + 4) s) (omega arith) in
+      let fits : w < 2 ^ 32 = rw is (xor-lt 32 (p % 2 ^ 32) (leOf (part i 4 s)) (mod-lt p (pow-pos 32)) (four-lt i s bs (omega arith))) in
+      crcFrom-xor (p / 2 ^ 32) (folded 137 exponents w) t bt
+      ∙ ap (bitXor (crcFrom (p / 2 ^ 32) t)) (sym (left-out m (m - 4352) w g))
+      ∙ sym (crcFrom-xor (p / 2 ^ 32) (crcBits 32 (w % 2 ^ 32)) t bt)
+      ∙ rw (mod-eq-of-lt fits, ← xor-zero-l w) (rw (xor-zero-r p) at (word-step 0 (omega arith)))
+
+-- ---- a turn of each loop
+
+module _ (b s : List ℕ) (j w : ℕ) (bs : Bytes s) (long : length b ≡ 649) (is : w ≡ bitXor (pending exponents (drop j b) % 2 ^ 32) (leOf (part (4 * j) 4 s))) where
+  pub fold-turn : j < 512 → 4 * (j + 1) + 552 ≤ length s →
+      crcFrom (pending exponents (part (j + 1) 137 (set b (j + 137) w))) (drop (4 * (j + 1)) s) ≡ crcFrom (pending exponents (part j 137 b)) (drop (4 * j) s)
+  fold-turn below h =
+      let l = part j 137 b in
+      let n : length l ≡ 137 = length-part j 137 b (omega arith) in
+      let e : 4 * (j + 1) ≡ 4 * j + 4 = omega arith in
+      let f : w ≡ bitXor (pending exponents l % 2 ^ 32) (leOf (part (4 * j) 4 s)) =
+      is ∙ ap (λ (x : ℕ). bitXor x (leOf (part (4 * j) 4 s))) (sym (low-take 137 0 85 exponents (drop j b) (omega arith) (omega arith))) in
+      rw (window j 137 b w (omega arith), pending-next l w exponents (rw n (omega arith)), n, e) (fold-step (pending exponents l) w (4 * j) s bs f (omega arith))
+
+  -- no word is folded any more
+  pub reduce-turn : (c : ℕ) → j < 138 → 4 * (j + 1) ≤ length s →
+      crcFrom (bitXor (pending exponents (drop (j + 1) (take 222 b))) (crcBits 32 (bitXor c w))) (drop (4 * (j + 1)) s)
+      ≡ crcFrom (bitXor (pending exponents (drop j (take 222 b))) c) (drop (4 * j) s)
+  reduce-turn c below h =
+      let z = take 222 b in
+      let e : 4 * (j + 1) ≡ 4 * j + 4 = omega arith in
+      let f : w ≡ bitXor (pending exponents (drop j z) % 2 ^ 32) (leOf (part (4 * j) 4 s)) =
+      is ∙ ap (λ (x : ℕ). bitXor x (leOf (part (4 * j) 4 s))) (sym (low-take 222 j 85 exponents b (omega arith) (omega arith))) in
+      rw (← drop-drop 1 j z, ← pending-high exponents (drop j z), e) (word-step (pending exponents (drop j z)) w (4 * j) s bs f c (omega arith))
+
+pub block-done : (s b b₁ b₂ : List ℕ) (i n : ℕ) → take 137 b₂ ≡ part n 137 b₁ →
+    crcFrom (pending exponents (part n 137 b₁)) (drop (4 * n) (drop i s)) ≡ crcFrom (pending exponents (take 137 b)) (drop i s) →
+    crcFrom (pending exponents (take 137 b₂)) (drop (i + 4 * n) s) ≡ crcFrom (pending exponents (take 137 b)) (drop i s)
+block-done s b b₁ b₂ i n e h = rw (e, ← drop-drop (4 * n) i s) h

@@ -2,6 +2,5 @@ pub mod Xor
 pub mod Laws
 pub mod LookUp
 pub mod Sparse
+pub mod Pending
 pub mod Folding
-pub mod Numbers
-pub mod Histories

@@ -24,11 +24,11 @@ times-bits (suc j) x =
     let e : 4 * suc j ≡ 4 + 4 * j = omega arith in
     times-bits j (crcBits 4 x) ∙ rw (e, crcBits-add 4)
 
-pub table-rule : (j k : ℕ) → j < 16 → k < 16 → getD crcRows (j * 16 + k) 0 ≡ crcBits (4 * (j + 1)) k
+pub table-rule : (j k : ℕ) → j < 24 → k < 16 → getD crcRows (j * 16 + k) 0 ≡ crcBits (4 * (j + 1)) k
 unfolding crcRows
 table-rule j k h g =
     let e : 4 * (j + 1) ≡ 4 + 4 * j = omega arith in
-    row-at (crcBits 4) 16 (table (crcBits 4) 0 16) j k h g
+    row-at (crcBits 4) 24 (table (crcBits 4) 0 16) j k h g
     ∙ ap (times (crcBits 4) j) (table-at (crcBits 4) 0 16 k g)
     ∙ times-bits j (crcBits 4 k)
     ∙ rw (e, crcBits-add 4 (4 * j) k)
@@ -54,6 +54,13 @@ pub two-halves : (c b p q : ℕ) → p ≡ crcBits 4 (bitXor c b) → q ≡ crcB
 unfolding crcByte
 two-halves c b p q e f = rw (f, e) (sym (crcBits-add 4 4 (bitXor c b)))
 
+-- a word that comes n words later is shifted n words less
+pub three-words : (a b c : ℕ) → bitXor (bitXor (crcBits 32 c) (crcBits 64 b)) (crcBits 96 a) ≡ crcBits 32 (bitXor (crcBits 32 (bitXor (crcBits 32 a) b)) c)
+three-words a b c =
+    rw (crcBits-xor 32 (crcBits 32 a) b, ← crcBits-add 32 32 a, crcBits-xor 32 (bitXor (crcBits 64 a) (crcBits 32 b)) c, crcBits-xor 32 (crcBits 64 a) (crcBits 32 b), ← crcBits-add 64 32 a, ← crcBits-add 32 32 b)
+    (xor-comm (bitXor (crcBits 32 c) (crcBits 64 b)) (crcBits 96 a) ∙ ap (bitXor (crcBits 96 a)) (xor-comm (crcBits 32 c) (crcBits 64 b))
+    ∙ sym (xor-assoc (crcBits 96 a) (crcBits 64 b) (crcBits 32 c)))
+
 -- ---- words in a list
 
 leOf-part : (n i j : ℕ) (s : List ℕ) → j ≡ i + 1 → i < length s → leOf (part i (suc n) s) ≡ leOf (part j n s) * 256 + getD s i 0
@@ -73,23 +80,8 @@ four-at i s h =
       leOf-part 0 (i + 3) (i + 4) s (omega arith) (omega arith),
     )
 
--- the two halves of a word
-pub eight-at : (i : ℕ) (s : List ℕ) → i + 8 ≤ length s → leOf (part i 8 s) ≡ leOf (part i 4 s) + 2 ^ 32 * leOf (part (i + 4) 4 s)
-eight-at i s h =
-    omega (
-      arith,
-      four-at i s (omega arith),
-      leOf-part 7 i (i + 1) s refl (omega arith),
-      leOf-part 6 (i + 1) (i + 2) s (omega arith) (omega arith),
-      leOf-part 5 (i + 2) (i + 3) s (omega arith) (omega arith),
-      leOf-part 4 (i + 3) (i + 4) s (omega arith) (omega arith),
-    )
-
-four-lt : (i : ℕ) (s : List ℕ) → Bytes s → i + 4 ≤ length s → leOf (part i 4 s) < 2 ^ 32
+pub four-lt : (i : ℕ) (s : List ℕ) → Bytes s → i + 4 ≤ length s → leOf (part i 4 s) < 2 ^ 32
 four-lt i s b h = omega (arith, four-at i s h, b i, b (i + 1), b (i + 2), b (i + 3))
-
-pub eight-lt : (i : ℕ) (s : List ℕ) → Bytes s → i + 8 ≤ length s → leOf (part i 8 s) < 2 ^ 64
-eight-lt i s b h = omega (arith, eight-at i s h, four-lt i s b (omega arith), four-lt (i + 4) s b (omega arith))
 
 -- n bytes of a list at once
 pub crcFrom-part : (n c i : ℕ) (s : List ℕ) → Bytes s → i + n ≤ length s →
@@ -97,3 +89,16 @@ pub crcFrom-part : (n c i : ℕ) (s : List ℕ) → Bytes s → i + n ≤ length
 crcFrom-part n c i s b h =
     sym (ap (crcFrom c) (sym (take-append-drop n (drop i s))) ∙ crcFrom-append c (part i n s) (drop n (drop i s))
     ∙ rw (crcFrom-word c (part i n s) (bytes-part i n s b), length-part i n s h, drop-drop n i s))
+
+-- three words of it, one after the other
+module _ (c i : ℕ) (s : List ℕ) where
+  abbrev shifted : ℕ → ℕ → ℕ
+  shifted c i = crcBits 32 (bitXor c (leOf (part i 4 s)))
+
+  pub crcFrom-three : Bytes s → i + 12 ≤ length s → crcFrom (shifted (shifted (shifted c i) (i + 4)) (i + 8)) (drop (i + 12) s) ≡ crcFrom c (drop i s)
+  crcFrom-three b h =
+      let e : i + 4 + 4 ≡ i + 8 = omega arith in
+      let f : i + 8 + 4 ≡ i + 12 = omega arith in
+      rw f at (crcFrom-part 4 (shifted (shifted c i) (i + 4)) (i + 8) s b (omega arith))
+      ∙ rw e at (crcFrom-part 4 (shifted c i) (i + 4) s b (omega arith))
+      ∙ crcFrom-part 4 c i s b (omega arith)

@@ -8,6 +8,7 @@ use native.Mathlib.Omega.{arith}
 use lib.Bits.{bitXor, xor-shifted, xor-self}
 use lib.Pow.{pow-pos, pow-add, split, shr-lt}
 use Rattle.crc32.specs.Crc.{tap, crcBit, crcBits}
+use Rattle.crc32.specs.Fold.{exponents}
 use Rattle.crc32.proofs.Xor.{xor-assoc, xor-swap}
 use Rattle.crc32.proofs.Laws.{crcBits-xor, crcBits-add, crcBits-shift}
 
@@ -93,8 +94,8 @@ module _ (es : List ℕ) (test : sumOf 1 es (2 ^ 31) ≡ 0) where
       let e : 2 ^ suc k ≡ 2 ^ k + 2 ^ k = rw pow-suc (omega arith) in
       ap (λ (g : ℕ). sumOf g es z) e ∙ squared (2 ^ k) es z ∙ ap (sumOf (2 ^ k) es) (vanishes k z h) ∙ sumOf-zero (2 ^ k) es
 
--- ---- the multiple of IEEE 802.3's polynomial: 300 less each lag
+-- ---- the multiple of IEEE 802.3's polynomial, every exponent times 32
 
-pub sparse : (k z : ℕ) → z < 2 ^ 32 → sumOf (2 ^ k) (300 ∷ 155 ∷ 117 ∷ 89 ∷ 0 ∷ []) z ≡ 0
+pub sparse : (z : ℕ) → z < 2 ^ 32 → sumOf 32 (137 ∷ exponents) z ≡ 0
 unfolding sumOf tap crcBit crcBits
-sparse = vanishes (300 ∷ 155 ∷ 117 ∷ 89 ∷ 0 ∷ []) refl
+sparse = vanishes (137 ∷ exponents) refl 5

@@ -9,6 +9,6 @@ unfoldable pub leOf : List ℕ → ℕ
 leOf [] = 0
 leOf (b ∷ bs) = leOf bs * 256 + b
 
--- sixteen rows of sixteen entries: entry k of row j is k after 4 (j + 1) shifts
+-- 24 rows of sixteen entries: entry k of row j is k after 4 (j + 1) shifts
 unfoldable pub crcRows : List ℕ
-crcRows = rows (crcBits 4) 16 (table (crcBits 4) 0 16)
+crcRows = rows (crcBits 4) 24 (table (crcBits 4) 0 16)

@@ -1,53 +1,76 @@
 -- `crc32::words::by_four` meets its contract. Assumes nothing.
 use Rattle.crc32.proofs.LookUp.{crcFrom-part}
+use Rattle.crc32.specs.Crc.{crcFrom}
 use Rattle.base.proofs.Lists.{to-end}
+use lib.ListN.{length, drop}
 use native.Mathlib.Omega.{arith}
-use mathlib.Core.Path.{_∙_}
+use Prim.Native.Nat.{_≤_, _-_}
+use mathlib.Core.Path.{_≡_, _∙_}
 use borrow.Author.Needs.{needs}
 use Rattle.crc32.proofs.words.by_four.Statement.{statement}
 use Rattle.crc32.proofs.words.by_four.Tie as tie
 
-by-bytes-requires : tie.Need-by-bytes-requires
-by-bytes-requires c κs = search needs
+abbrev Inv-loop : tie.InvT-loop
+Inv-loop t state bytes c₀ i₀ c i = (i ≤ length bytes) × (crcFrom c (drop i bytes) ≡ crcFrom state bytes)
 
-returns : tie.Need-returns
-returns c = search needs
+abbrev μ-loop : tie.MeasureT-loop
+μ-loop t state bytes c₀ i₀ c i = length bytes - i
 
-read-four-requires : tie.Need-read-four-requires
+loop-holds : tie.Need-loop-holds Inv-loop μ-loop
+loop-holds c = search needs
+
+sub-loop : tie.Need-sub-loop Inv-loop μ-loop
+sub-loop c = search needs
+
+read-four-requires : tie.Need-read-four-requires Inv-loop μ-loop
 read-four-requires c κs = search needs
 
-four-requires : tie.Need-four-requires
+four-requires : tie.Need-four-requires Inv-loop μ-loop
 four-requires c κs = search needs
 
-sub-by-bytes : tie.Need-sub-by-bytes
+add-i : tie.Need-add-i Inv-loop μ-loop
+add-i c = search needs
+
+loop-less : tie.Need-loop-less Inv-loop μ-loop
+loop-less c = search needs
+
+loop-again : tie.Need-loop-again Inv-loop μ-loop
+loop-again c =
+    let l = c .before .before .before .loop in
+    let s = c .before .before .before .before in
+    let e = crcFrom-part 4 (l .c) (l .i) (s .before .args .bytes .now) (λ k. s .shared-slice-known .given k .fits) (omega arith) in
+    (omega arith, rw (c .four .ensures, c .before .read-four .ensures) (e ∙ l .inv .1))
+
+sub-by-bytes : tie.Need-sub-by-bytes Inv-loop μ-loop
 sub-by-bytes c = search needs
 
-part-by-bytes-start : tie.Need-part-by-bytes-start
+part-by-bytes-start : tie.Need-part-by-bytes-start Inv-loop μ-loop
 part-by-bytes-start c = search needs
 
-part-by-bytes-end : tie.Need-part-by-bytes-end
+part-by-bytes-end : tie.Need-part-by-bytes-end Inv-loop μ-loop
 part-by-bytes-end c = search needs
 
-by-bytes-requires-2 : tie.Need-by-bytes-requires-2
-by-bytes-requires-2 c κs = search needs
+by-bytes-requires : tie.Need-by-bytes-requires Inv-loop μ-loop
+by-bytes-requires c κs = search needs
 
-returns-2 : tie.Need-returns-2
-returns-2 c =
-    let s = c .before .before .before .before .before in
-    let a = s .before .args in
-    let e = crcFrom-part 4 (a .state) 0 (a .bytes .now) (λ k. s .shared-slice-known .given k .fits) (omega arith) in
-    c .by-bytes2 .ensures ∙ rw (to-end, c .before .before .four .ensures, c .before .before .before .read-four .ensures) e
+returns : tie.Need-returns Inv-loop μ-loop
+returns c = c .by-bytes .ensures ∙ rw to-end (c .before .before .before .loop .inv .1)
 
 pub by-four-spec : {M : Type 1} → statement M
 by-four-spec =
     tie.close
     (tie.spec
-    by-bytes-requires
-    returns
+    Inv-loop
+    μ-loop
+    loop-holds
+    sub-loop
     read-four-requires
     four-requires
+    add-i
+    loop-less
+    loop-again
     sub-by-bytes
     part-by-bytes-start
     part-by-bytes-end
-    by-bytes-requires-2
-    returns-2)
+    by-bytes-requires
+    returns)

@@ -1,0 +1,117 @@
+-- `crc32::fold::in_blocks` meets its contract. Assumes nothing.
+use Rattle.crc32.proofs.Folding.{block-done}
+use Rattle.crc32.proofs.Pending.{cleared}
+use Rattle.crc32.specs.Fold.{exponents, pending}
+use lib.ListN.{length, drop, take, length-drop}
+use lib.Seq.{length-take-le}
+use Rattle.base.proofs.Lists.{to-end}
+use Rattle.crc32.specs.Crc.{crcFrom}
+use native.Mathlib.Omega.{arith}
+use Prim.Native.Nat.{_+_, _-_, _≤_}
+use mathlib.Core.Path.{_≡_, refl, ap₂, _∙_}
+use borrow.Author.Needs.{needs}
+use Rattle.crc32.proofs.fold.in_blocks.Statement.{statement}
+use Rattle.crc32.proofs.fold.in_blocks.Tie as tie
+
+abbrev Inv-loop : tie.InvT-loop
+Inv-loop t kept₀ bytes i₀ kept i = (i + 552 ≤ length bytes) × ((length kept ≡ 649) × (crcFrom (pending exponents (take 137 kept)) (drop i bytes) ≡ crcFrom (pending exponents (take 137 kept₀)) bytes))
+
+abbrev μ-loop : tie.MeasureT-loop
+μ-loop t kept₀ bytes i₀ kept i = length bytes - i
+
+loop-holds : tie.Need-loop-holds Inv-loop μ-loop
+loop-holds c = (c .before .pre .1 .1, (c .before .pre .1 .0, refl))
+
+sub-loop : tie.Need-sub-loop Inv-loop μ-loop
+sub-loop c = search needs
+
+sub-block-length : tie.Need-sub-block-length Inv-loop μ-loop
+sub-block-length c = search needs
+
+block-length-requires : tie.Need-block-length-requires Inv-loop μ-loop
+block-length-requires c κs = search needs
+
+sub-fold-block : tie.Need-sub-fold-block Inv-loop μ-loop
+sub-fold-block c = search needs
+
+part-fold-block-start : tie.Need-part-fold-block-start Inv-loop μ-loop
+part-fold-block-start c = search needs
+
+part-fold-block-end : tie.Need-part-fold-block-end Inv-loop μ-loop
+part-fold-block-end c = search needs
+
+fold-block-requires : tie.Need-fold-block-requires Inv-loop μ-loop
+fold-block-requires c κs = search needs
+
+slide-requires : tie.Need-slide-requires Inv-loop μ-loop
+slide-requires c κs = search needs
+
+mul-i : tie.Need-mul-i Inv-loop μ-loop
+mul-i c = search needs
+
+add-i : tie.Need-add-i Inv-loop μ-loop
+add-i c = search needs
+
+loop-less : tie.Need-loop-less Inv-loop μ-loop
+loop-less c = search needs
+
+loop-again : tie.Need-loop-again Inv-loop μ-loop
+loop-again c =
+    let l = c .before .before .before .before .before .before .before .loop in
+    let s = c .before .before .before .before .before .before .before .before .before .args .bytes .now in
+    let n = c .before .before .before .before .before .block-length .result in
+    let f = c .before .before .fold-block in
+    (omega arith, (c .slide .ensures .0, block-done s (l .kept) (f .last .0) (c .slide .last .0) (l .i) n (c .slide .ensures .1) (rw to-end at (f .ensures .1)) ∙ l .inv .1 .1))
+
+clear-requires : tie.Need-clear-requires Inv-loop μ-loop
+clear-requires c κs = search needs
+
+sub-reduce : tie.Need-sub-reduce Inv-loop μ-loop
+sub-reduce c = search needs
+
+part-reduce-start : tie.Need-part-reduce-start Inv-loop μ-loop
+part-reduce-start c = search needs
+
+part-reduce-end : tie.Need-part-reduce-end Inv-loop μ-loop
+part-reduce-end c = search needs
+
+reduce-requires : tie.Need-reduce-requires Inv-loop μ-loop
+reduce-requires c κs =
+    let b = c .before .before .before .before .before .loop .kept in
+    let d = c .before .before .clear in
+    let h : length (take 137 b) ≡ 137 = length-take-le 137 b (omega arith) in
+    (c .before .before .before .before .before .before .before .pre .0, (d .ensures .0, (cleared (take 137 b) (take 222 (d .last .0)) h (d .ensures .1) .0, rw (to-end, length-drop) (omega arith))))
+
+returns : tie.Need-returns Inv-loop μ-loop
+returns c =
+    let l = c .before .before .before .before .before .before .loop in
+    let s = c .before .before .before .before .before .before .before .before .args .bytes .now in
+    let d = c .before .before .before .clear in
+    let h : length (take 137 (l .kept)) ≡ 137 = length-take-le 137 (l .kept) (omega arith) in
+    c .reduce .ensures ∙ ap₂ crcFrom (cleared (take 137 (l .kept)) (take 222 (d .last .0)) h (d .ensures .1) .1) (to-end (l .i) s) ∙ l .inv .1 .1
+
+pub in-blocks-spec : {M : Type 1} → statement M
+in-blocks-spec =
+    tie.close
+    (tie.spec
+    Inv-loop
+    μ-loop
+    loop-holds
+    sub-loop
+    sub-block-length
+    block-length-requires
+    sub-fold-block
+    part-fold-block-start
+    part-fold-block-end
+    fold-block-requires
+    slide-requires
+    mul-i
+    add-i
+    loop-less
+    loop-again
+    clear-requires
+    sub-reduce
+    part-reduce-start
+    part-reduce-end
+    reduce-requires
+    returns)

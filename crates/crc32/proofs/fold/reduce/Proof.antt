@@ -1,0 +1,109 @@
+-- `crc32::fold::reduce` meets its contract: what is pending now, with the rest of the bytes, gives the whole. Assumes nothing.
+use Rattle.crc32.proofs.Folding.{reduce-turn}
+use Rattle.crc32.proofs.Pending.{pending-end}
+use Rattle.base.specs.Lists.{Bytes}
+use Rattle.base.proofs.Lists.{to-end}
+use mathlib.Core.Path.{_≡_, refl, _∙_}
+use Prim.Native.Nat.{_+_, _*_, _%_, _-_, _≤_}
+use native.Mathlib.Omega.{arith}
+use lib.ListN.{length, drop, take}
+use lib.Bits.{bitXor, xor-zero-l, xor-zero-r}
+use Rattle.crc32.specs.Crc.{crcBits, crcFrom}
+use Rattle.crc32.specs.Fold.{exponents, pending}
+use borrow.Author.Needs.{needs}
+use Rattle.crc32.proofs.fold.reduce.Statement.{statement}
+use Rattle.crc32.proofs.fold.reduce.Tie as tie
+
+abbrev Inv-loop : tie.InvT-loop
+Inv-loop t kept bytes c₀ j₀ c j = (j ≤ 138) × ((j % 3 ≡ 0) × (crcFrom (bitXor (pending exponents (drop j (take 222 kept))) c) (drop (4 * j) bytes) ≡ crcFrom (pending exponents (take 222 kept)) bytes))
+
+abbrev μ-loop : tie.MeasureT-loop
+μ-loop t kept bytes c₀ j₀ c j = 138 - j
+
+loop-holds : tie.Need-loop-holds Inv-loop μ-loop
+loop-holds c = (omega arith, (refl, rw xor-zero-r))
+
+sum-at-requires : tie.Need-sum-at-requires Inv-loop μ-loop
+sum-at-requires c κs = search needs
+
+add-sum-at : tie.Need-add-sum-at Inv-loop μ-loop
+add-sum-at c = search needs
+
+sum-at-requires-2 : tie.Need-sum-at-requires-2 Inv-loop μ-loop
+sum-at-requires-2 c κs = search needs
+
+add-sum-at-2 : tie.Need-add-sum-at-2 Inv-loop μ-loop
+add-sum-at-2 c = search needs
+
+sum-at-requires-3 : tie.Need-sum-at-requires-3 Inv-loop μ-loop
+sum-at-requires-3 c κs = search needs
+
+three-requires : tie.Need-three-requires Inv-loop μ-loop
+three-requires c κs = search needs
+
+add-j : tie.Need-add-j Inv-loop μ-loop
+add-j c = search needs
+
+loop-less : tie.Need-loop-less Inv-loop μ-loop
+loop-less c = search needs
+
+loop-again : tie.Need-loop-again Inv-loop μ-loop
+loop-again c =
+    let s = c .before .before .before .before .before .before in
+    let l = c .before .before .before .before .before .loop in
+    let a = s .before .args in
+    let long = s .before .pre .1 .0 in
+    let bs : Bytes (a .bytes .now) = λ k. s .shared-slice-known .given k .fits in
+    let k1 = c .before .before .before .sum-at in
+    let k2 = c .before .before .sum-at2 in
+    let k3 = c .before .sum-at3 in
+    let c1 = crcBits 32 (bitXor (l .c) (k1 .result)) in
+    let c2 = crcBits 32 (bitXor c1 (k2 .result)) in
+    let e2 : l .j + 1 + 1 ≡ l .j + 2 = omega arith in
+    let e3 : l .j + 2 + 1 ≡ l .j + 3 = omega arith in
+    let r1 = reduce-turn (a .kept .now) (a .bytes .now) (l .j) (k1 .result) bs long (k1 .ensures) (l .c) (omega arith) (omega arith) in
+    let r2 = reduce-turn (a .kept .now) (a .bytes .now) (l .j + 1) (k2 .result) bs long (k2 .ensures) c1 (omega arith) (omega arith) in
+    let r3 = reduce-turn (a .kept .now) (a .bytes .now) (l .j + 2) (k3 .result) bs long (k3 .ensures) c2 (omega arith) (omega arith) in
+    (omega arith, (omega arith, rw (c .three .ensures) (rw e3 at r3 ∙ rw e2 at r2 ∙ r1 ∙ l .inv .1 .1)))
+
+sub-by-words : tie.Need-sub-by-words Inv-loop μ-loop
+sub-by-words c = search needs
+
+part-by-words-start : tie.Need-part-by-words-start Inv-loop μ-loop
+part-by-words-start c = search needs
+
+part-by-words-end : tie.Need-part-by-words-end Inv-loop μ-loop
+part-by-words-end c = search needs
+
+by-words-requires : tie.Need-by-words-requires Inv-loop μ-loop
+by-words-requires c κs = search needs
+
+returns : tie.Need-returns Inv-loop μ-loop
+returns c =
+    let l = c .before .before .before .loop in
+    let a = c .before .before .before .before .before in
+    let e : l .j ≡ 138 = omega arith in
+    let z = take 222 (a .args .kept .now) in
+    c .by-words .ensures ∙ rw to-end (rw (e, pending-end z (a .pre .1 .1 .0), xor-zero-l) at (l .inv .1 .1))
+
+pub reduce-spec : {M : Type 1} → statement M
+reduce-spec =
+    tie.close
+    (tie.spec
+    Inv-loop
+    μ-loop
+    loop-holds
+    sum-at-requires
+    add-sum-at
+    sum-at-requires-2
+    add-sum-at-2
+    sum-at-requires-3
+    three-requires
+    add-j
+    loop-less
+    loop-again
+    sub-by-words
+    part-by-words-start
+    part-by-words-end
+    by-words-requires
+    returns)

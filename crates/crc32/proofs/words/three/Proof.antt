@@ -1,0 +1,28 @@
+-- `crc32::words::three` meets its contract. Assumes nothing.
+use Rattle.crc32.proofs.LookUp.{three-words}
+use borrow.Author.Needs.{needs}
+use Rattle.crc32.proofs.words.three.Statement.{statement}
+use Rattle.crc32.proofs.words.three.Tie as tie
+
+four-requires : tie.Need-four-requires
+four-requires c κs = search needs
+
+four-requires-2 : tie.Need-four-requires-2
+four-requires-2 c κs = search needs
+
+four-requires-3 : tie.Need-four-requires-3
+four-requires-3 c κs = search needs
+
+returns : tie.Need-returns
+returns c =
+    let a = c .before .before .before .args in
+    cc (three-words (a .a) (a .b) (a .c))
+
+pub three-spec : {M : Type 1} → statement M
+three-spec =
+    tie.close
+    (tie.spec
+    four-requires
+    four-requires-2
+    four-requires-3
+    returns)
