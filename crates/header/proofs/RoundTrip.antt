@@ -4,10 +4,10 @@ use mathlib.Core.Bool.{Bool, true, false, _&&_, cond, false≢true}
 use mathlib.Core.List.{List, _++_}
 use Prim.Native.Nat.{ℕ, _+_, _≤_}
 use native.Mathlib.Omega.{arith}
-use borrow.Author.Tests.{eq-eqb, eqb-true, le-ltb}
+use borrow.Author.Tests.{eq-eqb, eqb-true, le-ltb, ltb-false}
 use lib.Dec.{eqb, ltb}
-use lib.ListN.{length, take, drop}
-use lib.Seq.{take-add}
+use lib.ListN.{length, take, drop, take-append-drop}
+use lib.Seq.{take-add, take-append-seam}
 use Rattle.base.specs.Answers.{Answer, given, refused, allOf}
 use Rattle.base.specs.Lists.{part, eqs, Bytes}
 use Rattle.base.proofs.Answers.{and-left, and-right, cond-yes, cond-no}
@@ -18,9 +18,10 @@ use Rattle.crc32.specs.Crc.{crcOf}
 use Rattle.crc32.proofs.Laws.{crcOf-lt}
 use Rattle.header.specs.declared.EcHeader.{EcHeader}
 use Rattle.header.specs.declared.VidHeader.{VidHeader}
-use Rattle.header.specs.Fields.{fieldOf, fieldAt, crcMatches, Verdict, good, bad, newer, byVersion, isGood, headerBytes, headerWritten}
+use Rattle.header.specs.Fields.{fieldOf, fieldAt, crcMatches, Verdict, good, bad, newer, byVersion, isGood, lentHeader, headerBytes, headerWritten, headerOut}
 use Rattle.header.specs.Ec.{ecMagic, ecFields, ecRules, judgeEc, readEc, ecRead, ecHead, ecBytes, ecWritten, ecOut, EcFits, EcPadded}
 use Rattle.header.specs.Vid.{vidMagic, vidFields, vidRules, judgeVid, readVid, vidRead, vidHead, vidBytes, vidWritten, vidOut, VidFits, VidPadded}
+use Rattle.header.proofs.Writes.{ec-64, vid-64}
 
 -- ---- what both headers share
 
@@ -48,14 +49,34 @@ module _ {A : Type 0} where
   good-is false true b e = absurd (false≢true e)
   good-is false false b e = absurd (false≢true e)
 
-refused-not : {n : ℕ} → _≡_ {A = Answer (Unit {0})} (refused n 0) (given tt) → ⊥
+refused-not : {A : Type 0} {n : ℕ} {x : A} → refused n 0 ≡ given x → ⊥
 refused-not e = let z : _≡_ {A = ℕ} 0 1 = cc in omega arith
 
--- a write that was not refused
-accepted : {A : Type 0} (v : Verdict A) (out : List ℕ) → headerWritten v out ≡ given tt → (ltb (length out) 64 ≡ false) × (isGood v ≡ true)
-accepted v out e =
-    let p = cond-no (ltb (length out) 64) refused-not e in
-    (p .0, cond-yes (isGood v) refused-not (p .1) .0)
+module _ {A : Type 0} where
+  -- a header that was read as good
+  lent-good : (v : Verdict A) (l : List ℕ) {h : A} → lentHeader v l ≡ given (good h) → (64 ≤ length l) × (v ≡ good h)
+  lent-good v l e =
+      let p = cond-no (ltb (length l) 64) refused-not e in
+      (ltb-false (length l) 64 (p .0), let q = p .1 in cc)
+
+  module _ (v : Verdict A) (bytes out : List ℕ) where
+    -- a good header is written to 64 bytes or more, and the others stay
+    writes : 64 ≤ length out → isGood v ≡ true → (headerWritten v out ≡ given tt) × (headerOut v bytes out ≡ bytes ++ drop 64 out)
+    writes long g = (rw (le-ltb _ _ long, g), rw (le-ltb _ _ long, g))
+
+    -- a write that was not refused
+    wrote : headerWritten v out ≡ given tt → (isGood v ≡ true) × (headerOut v bytes out ≡ bytes ++ drop 64 out)
+    wrote e =
+        let p = cond-no (ltb (length out) 64) refused-not e in
+        let g = cond-yes (isGood v) refused-not (p .1) .0 in
+        (g, writes (ltb-false (length out) 64 (p .0)) g .1)
+
+    -- bytes that begin with the 64 that were written
+    begins-with : length bytes ≡ 64 → headerWritten v out ≡ given tt → (s : List ℕ) → take 64 s ≡ take 64 (headerOut v bytes out)
+        → s ≡ bytes ++ drop 64 s
+    begins-with l e s same =
+        let t : take 64 (bytes ++ drop 64 out) ≡ bytes = rw l at (take-append-seam bytes (drop 64 out)) in
+        sym (take-append-drop 64 s) ∙ ap (λ (x : List ℕ). x ++ drop 64 s) (same ∙ ap (take 64) (wrote e .1) ∙ t)
 
 -- one piece more
 join : (n m : ℕ) (l : List ℕ) {a b : List ℕ} → take n l ≡ a → part n m l ≡ b → take (n + m) l ≡ a ++ b
@@ -118,12 +139,13 @@ ec-good-is : (h : EcHeader) → isGood (judgeEc h) ≡ true → judgeEc h ≡ go
 unfolding judgeEc
 ec-good-is h e = good-is (eqb (h .version) 1) (eqb (h .version) 0) (allOf (ecRules h)) e
 
--- a header that was written is read as given
-pub ec-written-read : (h : EcHeader) (out : List ℕ) → EcFits h → ecWritten h out ≡ given tt → ecRead (ecOut h out) ≡ given (good h)
+-- a header that was written is read as given, from any bytes that begin with the 64 that were written: the lent ones, or others
+pub ec-written-read : (h : EcHeader) (out : List ℕ) → EcFits h → ecWritten h out ≡ given tt
+    → (s : List ℕ) → take 64 s ≡ take 64 (ecOut h out) → ecRead s ≡ given (good h)
 unfolding ecWritten ecOut ecRead
-ec-written-read h out f e =
-    let p = accepted (judgeEc h) out e in
-    rw (p .0, p .1, ec-long h (drop 64 out), ec-judged h (drop 64 out) f) (ap given (ec-good-is h (p .1)))
+ec-written-read h out f e s same =
+    rw (begins-with (judgeEc h) (ecBytes h) out (ec-64 h) e s same, ec-long h (drop 64 s), ec-judged h (drop 64 s) f)
+    (ap given (ec-good-is h (wrote (judgeEc h) (ecBytes h) out e .0)))
 
 module _ (h : EcHeader) (l : List ℕ) (b : Bytes l) (long : 64 ≤ length l) (r : readEc l ≡ good h) where
   ec-tests : (eqs (part 0 4 l) ecMagic && crcMatches l ≡ true) × (judgeEc (ecFields l) ≡ good h)
@@ -154,10 +176,21 @@ module _ (h : EcHeader) (l : List ℕ) (b : Bytes l) (long : 64 ≤ length l) (r
       (piece l b long 24 4 (h .«image_seq») (omega arith) (ap (λ (x : EcHeader). x .«image_seq») e)))
       (z .zero-28)
 
-  -- a good header with zero padding is written back byte for byte
-  pub ec-read-written : EcPadded l → ecBytes h ≡ take 64 l
+  ec-bytes-are : EcPadded l → ecBytes h ≡ take 64 l
   unfolding ecBytes
-  ec-read-written z = whole l b long ecMagic (ec-tests .0) (ecHead h) (ec-head-is z)
+  ec-bytes-are z = whole l b long ecMagic (ec-tests .0) (ecHead h) (ec-head-is z)
+
+  ec-is-good : isGood (judgeEc h) ≡ true
+  ec-is-good = ap (λ (x : EcHeader). isGood (judgeEc x)) (sym ec-fields-are) ∙ ap isGood (ec-tests .1)
+
+-- a good header with zero padding that was read is written back byte for byte, to any 64 bytes or more, and the others stay
+pub ec-read-written : (l out : List ℕ) (h : EcHeader) → Bytes l → ecRead l ≡ given (good h) → EcPadded l → 64 ≤ length out
+    → (ecWritten h out ≡ given tt) × (ecOut h out ≡ take 64 l ++ drop 64 out)
+unfolding ecRead ecWritten ecOut
+ec-read-written l out h b r z long =
+    let p = lent-good (readEc l) l r in
+    let w = writes (judgeEc h) (ecBytes h) out long (ec-is-good h l b (p .0) (p .1)) in
+    (w .0, w .1 ∙ ap (λ (x : List ℕ). x ++ drop 64 out) (ec-bytes-are h l b (p .0) (p .1) z))
 
 -- what is read is as large as its bytes allow
 pub ec-read-fits : (l : List ℕ) → Bytes l → 64 ≤ length l → EcFits (ecFields l)
@@ -217,12 +250,13 @@ vid-good-is : (size : ℕ) → (h : VidHeader) → isGood (judgeVid size h) ≡ 
 unfolding judgeVid
 vid-good-is size h e = good-is (eqb (h .version) 1) (eqb (h .version) 0) (allOf (vidRules size h)) e
 
--- a header that was written is read as given
-pub vid-written-read : (size : ℕ) → (h : VidHeader) (out : List ℕ) → VidFits h → vidWritten size h out ≡ given tt → vidRead size (vidOut size h out) ≡ given (good h)
+-- a header that was written is read as given, at the same LEB size: as of an EC header
+pub vid-written-read : (size : ℕ) (h : VidHeader) (out : List ℕ) → VidFits h → vidWritten size h out ≡ given tt
+    → (s : List ℕ) → take 64 s ≡ take 64 (vidOut size h out) → vidRead size s ≡ given (good h)
 unfolding vidWritten vidOut vidRead
-vid-written-read size h out f e =
-    let p = accepted (judgeVid size h) out e in
-    rw (p .0, p .1, vid-long h (drop 64 out), vid-judged h (drop 64 out) size f) (ap given (vid-good-is size h (p .1)))
+vid-written-read size h out f e s same =
+    rw (begins-with (judgeVid size h) (vidBytes h) out (vid-64 h) e s same, vid-long h (drop 64 s), vid-judged h (drop 64 s) size f)
+    (ap given (vid-good-is size h (wrote (judgeVid size h) (vidBytes h) out e .0)))
 
 module _ (size : ℕ) (h : VidHeader) (l : List ℕ) (b : Bytes l) (long : 64 ≤ length l) (r : readVid size l ≡ good h) where
   vid-tests : (eqs (part 0 4 l) vidMagic && crcMatches l ≡ true) × (judgeVid size (vidFields l) ≡ good h)
@@ -267,10 +301,21 @@ module _ (size : ℕ) (h : VidHeader) (l : List ℕ) (b : Bytes l) (long : 64 �
       (piece l b long 40 8 (h .sequence) (omega arith) (ap (λ (x : VidHeader). x .sequence) e)))
       (z .zero-48)
 
-  -- a good header with zero padding is written back byte for byte
-  pub vid-read-written : VidPadded l → vidBytes h ≡ take 64 l
+  vid-bytes-are : VidPadded l → vidBytes h ≡ take 64 l
   unfolding vidBytes
-  vid-read-written z = whole l b long vidMagic (vid-tests .0) (vidHead h) (vid-head-is z)
+  vid-bytes-are z = whole l b long vidMagic (vid-tests .0) (vidHead h) (vid-head-is z)
+
+  vid-is-good : isGood (judgeVid size h) ≡ true
+  vid-is-good = ap (λ (x : VidHeader). isGood (judgeVid size x)) (sym vid-fields-are) ∙ ap isGood (vid-tests .1)
+
+-- a good header with zero padding that was read is written back byte for byte, at the same LEB size: as of an EC header
+pub vid-read-written : (size : ℕ) (l out : List ℕ) (h : VidHeader) → Bytes l → vidRead size l ≡ given (good h) → VidPadded l → 64 ≤ length out
+    → (vidWritten size h out ≡ given tt) × (vidOut size h out ≡ take 64 l ++ drop 64 out)
+unfolding vidRead vidWritten vidOut
+vid-read-written size l out h b r z long =
+    let p = lent-good (readVid size l) l r in
+    let w = writes (judgeVid size h) (vidBytes h) out long (vid-is-good size h l b (p .0) (p .1)) in
+    (w .0, w .1 ∙ ap (λ (x : List ℕ). x ++ drop 64 out) (vid-bytes-are size h l b (p .0) (p .1) z))
 
 -- what is read is as large as its bytes allow
 pub vid-read-fits : (l : List ℕ) → Bytes l → 64 ≤ length l → VidFits (vidFields l)

@@ -5,4 +5,3 @@ pub mod StepWrites
 pub mod StepRules
 pub mod StepUnits
 pub mod StepWhole
-pub mod StepFinish

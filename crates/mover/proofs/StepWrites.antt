@@ -65,14 +65,17 @@ stored-part at n bs all {y} h l e =
     let z : drop n (part at n all) ≡ [] = drop-of-length-le (part at n all) {i = n} (omega (arith, length-part at n all h)) in
     rw (e, k, z, append-nil, drop-drop n at all, l)
 
-pub vid-stored : (size : ℕ) (h : VidHeader) (at : ℕ) (all : List ℕ) {y : List ℕ} → at + 64 ≤ length all → isGood (judgeVid size h) ≡ true
-    → y ≡ vidOut size h (part at (at + 64 - at) all) → take at all ++ (y ++ drop (at + 64 - at) (drop at all)) ≡ put at (vidBytes h) all
-vid-stored size h at all l g e =
-    stored-part at 64 (vidBytes h) all l (vid-64 h)
-    (e ∙ vid-over size h (part at (at + 64 - at) all) (omega (arith, length-part at (at + 64 - at) all (omega arith))) g)
+-- ---- a header that was made in 64 bytes of its own, then stored
 
-pub ec-stored : (h : EcHeader) (at : ℕ) (all : List ℕ) {y : List ℕ} → at + 64 ≤ length all → isGood (judgeEc h) ≡ true
-    → y ≡ ecOut h (part at (at + 64 - at) all) → take at all ++ (y ++ drop (at + 64 - at) (drop at all)) ≡ put at (ecBytes h) all
-ec-stored h at all l g e =
-    stored-part at 64 (ecBytes h) all l (ec-64 h)
-    (e ∙ ec-over h (part at (at + 64 - at) all) (omega (arith, length-part at (at + 64 - at) all (omega arith))) g)
+vid-made : (size : ℕ) (h : VidHeader) (b : List ℕ) → length b ≡ 64 → isGood (judgeVid size h) ≡ true → vidOut size h b ≡ vidBytes h
+vid-made size h b l g = vid-over size h b (omega arith) g ∙ rw (drop-of-length-le b {i = 64} (omega arith), append-nil)
+
+ec-made : (h : EcHeader) (b : List ℕ) → length b ≡ 64 → isGood (judgeEc h) ≡ true → ecOut h b ≡ ecBytes h
+ec-made h b l g = ec-over h b (omega arith) g ∙ rw (drop-of-length-le b {i = 64} (omega arith), append-nil)
+
+module _ (at : ℕ) (b all : List ℕ) (l : length b ≡ 64) {made y : List ℕ} (stored : y ≡ put at made all) where
+  pub vid-stored : (size : ℕ) (h : VidHeader) → isGood (judgeVid size h) ≡ true → made ≡ vidOut size h b → y ≡ put at (vidBytes h) all
+  vid-stored size h g e = stored ∙ ap (λ (x : List ℕ). put at x all) (e ∙ vid-made size h b l g)
+
+  pub ec-stored : (h : EcHeader) → isGood (judgeEc h) ≡ true → made ≡ ecOut h b → y ≡ put at (ecBytes h) all
+  ec-stored h g e = stored ∙ ap (λ (x : List ℕ). put at x all) (e ∙ ec-made h b l g)

@@ -1,7 +1,7 @@
 // The rest of a move at once.
 ghost use mathlib.Core.Path.{_≡_};
 ghost use Rattle.plan.specs.Step.{steppedAnswer};
-ghost use Rattle.mover.specs.Finish.{finishing};
+ghost use Rattle.plan.specs.Finish.{finishing};
 use crate::steps::step;
 use plan::Plan;
 use plan::Stepped;

@@ -7,3 +7,4 @@ pub mod Good
 pub mod Bounds
 pub mod Bench
 pub mod Steps
+pub mod Finish

@@ -7,3 +7,4 @@ pub mod Stage
 pub mod Stops
 pub mod Move
 pub mod Theorem
+pub mod Finish

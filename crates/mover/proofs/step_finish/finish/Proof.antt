@@ -5,8 +5,8 @@ use borrow.Author.Needs.{needs}
 use lib.ListN.{length}
 use Rattle.plan.specs.Write.{stepCount}
 use Rattle.plan.specs.Step.{steppedAnswer}
-use Rattle.mover.specs.Finish.{finishing}
-use Rattle.mover.proofs.StepFinish.{went, fewer, finish-on, finish-last}
+use Rattle.plan.specs.Finish.{finishing}
+use Rattle.plan.proofs.Finish.{went, fewer, finish-on, finish-last}
 use mathlib.Core.Logic.{inl, inr}
 use Rattle.mover.proofs.step_finish.finish.Statement.{statement}
 use Rattle.mover.proofs.step_finish.finish.Tie as tie

@@ -6,12 +6,13 @@ use mathlib.Core.List.{List}
 use Prim.Native.Nat.{ℕ, zero, suc, _+_, _-_, _<_}
 use native.Mathlib.Omega.{arith}
 use lib.Dec.{ltb}
-use borrow.Author.Tests.{ltb-true}
+use borrow.Author.Tests.{ltb-true, ltb-false}
 use Rattle.base.specs.Answers.{Answer, given, refused}
-use Rattle.plan.specs.Write.{dataSteps, stepCount}
-use Rattle.plan.specs.Step.{Progress, on, done, runnable, oneOn, stepAnswer, Stepping, stepping}
+use Rattle.plan.specs.Write.{nothing, appliedWhole, planGeometry, dataSteps, stepCount, writeAfter}
+use Rattle.plan.specs.Step.{Progress, on, done, runnable, stepWrite, oneOn, stepAnswer, Stepping, stepping}
 use Rattle.plan.specs.declared.Plan.{Plan}
-use Rattle.mover.specs.Finish.{followed, runFor, finishing}
+use Rattle.plan.specs.Finish.{followed, runFor, finishing}
+use Rattle.plan.proofs.Steps.{late-write}
 
 -- a step that goes on
 pub record Went (p q : Plan) : Type 0 where
@@ -36,6 +37,18 @@ refused-18 k r p image e = go (runnable p image) e
         → _≡_ {A = Answer Progress} (refused k r) (refused 18 0)
     go true e = absurd (let z : _≡_ {A = ℕ} 0 1 = cc in omega arith)
     go false e = e
+
+-- a step that does not go on changes nothing
+pub stays : (p : Plan) (image : List ℕ) → ((q : Plan) → given (on q) ≡ stepping p image .answer → ⊥) → stepping p image .image ≡ image
+unfolding stepping stepAnswer stepWrite
+stays p image n = go (runnable p image) (ltb (p .steps) (stepCount p)) refl n
+  where
+    go : (r b : Bool) → ltb (p .steps) (stepCount p) ≡ b
+        → ((q : Plan) → _≡_ {A = Answer Progress} (given (on q)) (cond r (given (cond b (on (oneOn p)) done)) (refused 18 0)) → ⊥)
+        → appliedWhole (cond r (writeAfter (planGeometry p) p image (p .steps)) nothing) image ≡ image
+    go true true h n = absurd (n (oneOn p) refl)
+    go true false h n = rw (late-write (planGeometry p) p image (p .steps) (ltb-false (p .steps) (stepCount p) h))
+    go false b h n = refl
 
 same-count : (p : Plan) → stepCount (oneOn p) ≡ stepCount p
 unfolding oneOn stepCount dataSteps
