@@ -1,21 +1,19 @@
-// Lists a dump: slip and image from standard input, the listing to standard output.
+// Lists a dump: slip and image from standard input, the listing to standard output. Where one of the two fails, a line on standard error says so.
+mod input;
+mod output;
+
+use input::Input;
 use listing::Rendered;
 
 fn main() {
-    let mut input = [0u8; 61440];
+    let mut held = [0u8; 61440];
     let mut out = [0u8; 16384];
-    let n = io::read_full(0, &mut input);
-    let more = has_more(n);
-    print_listing(&input[..n], more, &mut out);
-}
-
-// Is there input beyond the n bytes that were read?
-fn has_more(n: usize) -> bool {
-    if n < 61440 {
-        return false;
+    let i = input::read(&mut held);
+    match i {
+        Input::Whole(n) => print_listing(&held[0..n], false, &mut out),
+        Input::More => print_listing(&held, true, &mut out),
+        Input::Failed => os::fail(b"ubilist: standard input"),
     }
-    let mut byte = [0u8; 1];
-    io::read_full(0, &mut byte) == 1
 }
 
 // No listing is longer than the buffer: listing-short of crates/listing/proofs/Bounds.antt.
@@ -23,5 +21,5 @@ fn print_listing(input: &[u8], more: bool, out: &mut [u8]) {
     let Rendered::Text(n) = listing::list(input, more, out) else {
         return;
     };
-    io::write_all(1, &out[0..n]);
+    output::print(&out[0..n]);
 }

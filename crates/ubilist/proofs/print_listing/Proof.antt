@@ -5,7 +5,7 @@ use Rattle.ubilist.proofs.print_listing.Statement.{statement}
 use Rattle.ubilist.proofs.print_listing.Tie as tie
 use Rattle.ubilist.proofs.print_listing.Reads as reads
 use Rattle.ubilist.proofs.print_listing.Lts as lts
-use Rattle.io.proofs.write_all.Reads as write-all-reads
+use Rattle.ubilist.proofs.output.print.Reads as print-reads
 use Rattle.listing.proofs.list.Reads as list-reads
 
 list-requires : tie.Need-list-requires
@@ -23,17 +23,17 @@ same-length c = search needs
 returns : tie.Need-returns
 returns c = search needs
 
-sub-write-all : tie.Need-sub-write-all
-sub-write-all c = search needs
+sub-print : tie.Need-sub-print
+sub-print c = search needs
 
-part-write-all-start : tie.Need-part-write-all-start
-part-write-all-start c = search needs
+part-print-start : tie.Need-part-print-start
+part-print-start c = search needs
 
-part-write-all-end : tie.Need-part-write-all-end
-part-write-all-end c = rw (c .before .before .n .given .1) at (c .before .before .before .before .before .before .list .ensures .1 .1)
+part-print-end : tie.Need-part-print-end
+part-print-end c = rw (c .before .before .n .given .1) at (c .before .before .before .before .before .before .list .ensures .1 .1)
 
-write-all-requires : tie.Need-write-all-requires
-write-all-requires c κs = search needs
+print-requires : tie.Need-print-requires
+print-requires c κs = search needs
 
 same-length-2 : tie.Need-same-length-2
 same-length-2 c = search needs
@@ -50,9 +50,9 @@ print-listing-spec =
     enum-told
     same-length
     returns
-    sub-write-all
-    part-write-all-start
-    part-write-all-end
-    write-all-requires
+    sub-print
+    part-print-start
+    part-print-end
+    print-requires
     same-length-2
     returns-2)

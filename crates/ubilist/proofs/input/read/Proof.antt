@@ -1,0 +1,101 @@
+-- `ubilist::input::read` meets its contract: the calls that there can be are fewer in each turn. Assumes nothing.
+use mathlib.Core.Path.{_≡_, refl, sym, _∙_, subst}
+use Prim.Native.Nat.{_<_}
+use borrow.Author.Needs.{needs}
+use native.Mathlib.Omega.{arith}
+use lib.Dec.{lit<}
+use lib.ListN.{length}
+use Rattle.transfer.specs.Transfer.{callsLeft}
+use Rattle.transfer.specs.declared.Progress.{Progress}
+use Rattle.transfer.proofs.Laws.{on-next, ended-below}
+use Rattle.ubilist.proofs.input.read.Statement.{statement}
+use Rattle.ubilist.proofs.input.read.Tie as tie
+use Rattle.ubilist.proofs.input.read.Reads as reads
+use Rattle.ubilist.proofs.input.read.Lts as lts
+use Rattle.os.proofs.errno.Reads as errno-reads
+use Rattle.transfer.proofs.after_call.Reads as after-call-reads
+use Rattle.transfer.proofs.begin.Reads as begin-reads
+use Rattle.ubilist.proofs.input.read_some.Reads as read-some-reads
+
+abbrev Inv-loop : tie.InvT-loop
+Inv-loop held₀ p₀ held p = (length held ≡ length held₀) × (p .moved < 61441)
+
+abbrev μ-loop : tie.MeasureT-loop
+μ-loop held₀ p₀ held p = callsLeft 61441 p
+
+begin-requires : tie.Need-begin-requires Inv-loop μ-loop
+begin-requires c κs = search needs
+
+loop-holds : tie.Need-loop-holds Inv-loop μ-loop
+loop-holds c = (refl, subst (λ (p : Progress). p .moved < 61441) (sym (c .begin .ensures)) (lit< tt))
+
+read-some-requires : tie.Need-read-some-requires Inv-loop μ-loop
+read-some-requires c κs = search needs
+
+errno-requires : tie.Need-errno-requires Inv-loop μ-loop
+errno-requires c κs = search needs
+
+after-call-requires : tie.Need-after-call-requires Inv-loop μ-loop
+after-call-requires c κs = search needs
+
+enum-known-t : tie.Need-enum-known-t Inv-loop μ-loop
+enum-known-t c = search needs
+
+loop-less : tie.Need-loop-less Inv-loop μ-loop
+loop-less c = on-next _ _ _ _ (omega arith) (c .before .before .before .after-call .ensures) (c .before .t .given .1) .1
+
+loop-again : tie.Need-loop-again Inv-loop μ-loop
+loop-again c =
+    let n = on-next _ _ _ _ (omega arith) (c .before .before .before .after-call .ensures) (c .before .t .given .1) in
+    (c .before .before .before .before .before .before .held .given ∙ c .before .before .before .before .before .before .before .before .before .loop .inv .0, omega (arith, n .0))
+
+enum-told : tie.Need-enum-told Inv-loop μ-loop
+enum-told c = search needs
+
+same-length : tie.Need-same-length Inv-loop μ-loop
+same-length c = search needs
+
+returns : tie.Need-returns Inv-loop μ-loop
+returns c = search needs
+
+enum-known-t-2 : tie.Need-enum-known-t-2 Inv-loop μ-loop
+enum-known-t-2 c = search needs
+
+same-length-2 : tie.Need-same-length-2 Inv-loop μ-loop
+same-length-2 c = search needs
+
+returns-2 : tie.Need-returns-2 Inv-loop μ-loop
+returns-2 c = omega (arith, ended-below _ _ _ _ (omega arith) (c .before .before .before .after-call .ensures) (c .before .t2 .given .1))
+
+enum-told-2 : tie.Need-enum-told-2 Inv-loop μ-loop
+enum-told-2 c = search needs
+
+same-length-3 : tie.Need-same-length-3 Inv-loop μ-loop
+same-length-3 c = search needs
+
+returns-3 : tie.Need-returns-3 Inv-loop μ-loop
+returns-3 c = search needs
+
+pub read-spec : {M : Type 1} → statement M
+read-spec =
+    tie.close
+    (tie.spec
+    Inv-loop
+    μ-loop
+    begin-requires
+    loop-holds
+    read-some-requires
+    errno-requires
+    after-call-requires
+    enum-known-t
+    loop-less
+    loop-again
+    enum-told
+    same-length
+    returns
+    enum-known-t-2
+    same-length-2
+    returns-2
+    enum-told-2
+    same-length-3
+    returns-3)

@@ -1,0 +1,41 @@
+// The dump from standard input.
+ghost use Rattle.ubilist.specs.Input.{within};
+use transfer::Transfer;
+
+// One byte more than the program holds, to tell whether there is more.
+const MOST: usize = 61441;
+
+pub enum Input {
+    // All of it: so many bytes.
+    Whole(usize),
+    // More than the program holds.
+    More,
+    // A call of `read` failed.
+    Failed,
+}
+
+// Reads into the buffer up to the end of the input.
+pub fn read(held: &mut [u8]) -> Input
+    ensures { λ r. ⌜ within r 61440 ⌝ }
+{
+    let mut p = transfer::begin();
+    loop {
+        let got = read_some(held, p.moved);
+        let t = transfer::after_call(p, MOST, got, os::errno() == libc::EINTR);
+        match t {
+            Transfer::On(next) => p = next,
+            Transfer::Full => return Input::More,
+            Transfer::Ended(n) => return Input::Whole(n),
+            Transfer::Failed => return Input::Failed,
+        }
+    }
+}
+
+// One call: for the rest of the buffer or, where that is full, for the byte beyond.
+fn read_some(held: &mut [u8], at: usize) -> isize {
+    if at < held.len() {
+        return libc::read(libc::STDIN_FILENO, &mut held[at..]);
+    }
+    let mut beyond = [0u8; 1];
+    libc::read(libc::STDIN_FILENO, &mut beyond)
+}
