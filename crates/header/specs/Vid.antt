@@ -4,7 +4,7 @@ use mathlib.Core.Path.{_≡_}
 use mathlib.Core.Bool.{Bool, not, _&&_, _||_}
 use mathlib.Core.List.{List, [], _∷_, _++_}
 use lib.Dec.{eqb, ltb, leb}
-use lib.ListN.{replicate}
+use lib.ListN.{getD, replicate}
 use Rattle.base.specs.Answers.{Answer, given, refused}
 use Rattle.base.specs.Lists.{part}
 use Rattle.field.specs.Be.{toBe}
@@ -56,6 +56,14 @@ vidFields s = record {
   «data_crc» = fieldAt vidDataCrc s;
   sequence = fieldAt vidSequence s;
 }
+
+-- the number in field i of the table: the VID header's fields stand there from its version on
+abbrev pub vidField : ℕ → VidHeader → ℕ
+vidField i h =
+    getD
+    (h .version ∷ h .«vol_type» ∷ h .«copy_flag» ∷ h .compat ∷ h .volume ∷ h .lnum ∷ h .«data_size» ∷ h .«used_lebs» ∷ h .«data_pad»
+    ∷ h .«data_crc» ∷ h .sequence ∷ [])
+    (i - vidVersion) 0
 
 -- if the first, then the second
 abbrev pub implies : Bool → Bool → Bool
