@@ -15,13 +15,14 @@ use crate::Sums;
 use crate::VidSeen;
 use geometry::Geometry;
 use header::EcHeader;
+use header::LAYOUT_VOLUME;
 use header::VidHeader;
 
 // Is the volume a user volume or the layout volume?
 pub fn is_mappable(volume: u32) -> bool
     ensures { λ r. ⌜ r ≡ isMappable volume ⌝ }
 {
-    volume < 128 || volume == 0x7FFFEFFF
+    volume < 128 || volume == LAYOUT_VOLUME
 }
 
 // The sums with an EC header more.

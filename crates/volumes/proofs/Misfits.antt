@@ -19,7 +19,7 @@ use Rattle.report.specs.Volumes.{Face, faceOf, recordFor, reservedOf, usedOf, m
 use Rattle.report.specs.Report.{faces, places, records, taken}
 use Rattle.report.proofs.Tables.{no-misfit as misfits-none}
 use Rattle.volumes.specs.declared.Kept.{Kept}
-use Rattle.copies.specs.InPlace.{headerAt, copyAt}
+use Rattle.copies.specs.InPlace.{headerAt}
 use Rattle.volumes.specs.Sorted.{faceAt, keptOf, volumeWord, lebWord, pebWord, isOf, misfitBy, FirstMisfit, VolumeMisfit, misfitRefusal, Sorted, Fitting}
 use Rattle.volumes.proofs.Words.{place-is, lower-first}
 use Rattle.volumes.proofs.Faces.{first-lowest, record-not, leb-within, face-here, record-here, EntryOf, face-or, used-first, first-there}

@@ -1,7 +1,6 @@
 -- `copies::is_sound` meets its contract. Assumes nothing.
-use mathlib.Core.Path.{sym, _∙_}
 use borrow.Author.Needs.{needs}
-use borrow.Author.Tests.{eq-eqb, ne-eqb}
+use borrow.Author.Tests.{ne-eqb}
 use Rattle.report.specs.View.{copyOf}
 use Rattle.copies.proofs.is_sound.Statement.{statement}
 use Rattle.copies.proofs.is_sound.Tie as tie
