@@ -35,8 +35,8 @@ module _ (g : Geometry) (p : List ℕ) (c : Copy) where
   abbrev rules : List Bool
   rules = vidRules (g .«leb_size») fields
 
-  of-verdict : (blank : Bool) (v : Verdict VidHeader) → readVid (g .«leb_size») (vidPart g p) ≡ v → goodVid (cond blank vidBlank (vidOf g p v)) ≡ some c
-      → (c ≡ copyOf g p fields) × (allOf rules ≡ true)
+  of-verdict : (blank : Bool) (v : Verdict VidHeader) → readVid (g .«leb_size») (vidPart g p) ≡ v
+      → goodVid (cond blank vidBlank (vidOf g p v)) ≡ some c → (c ≡ copyOf g p fields) × (allOf rules ≡ true)
   unfolding readVid judgeVid
   of-verdict true v q e = none-some e
   of-verdict false bad q e = none-some e
@@ -78,9 +78,12 @@ module _ (g : Geometry) (image : List ℕ) (i : ℕ) (c : Copy) (e : copies (vie
 -- ---- where it stands in the image
 
 -- the bytes that are lent from a place in PEB i on
-pub lent-peb : (g : Geometry) (image : List ℕ) (i at n : ℕ) → at + n ≤ g .«peb_size»
-    → take (i * g .«peb_size» + at + n - (i * g .«peb_size» + at)) (drop (i * g .«peb_size» + at) image) ≡ part at n (pebAt g image i)
-lent-peb g image i at n h = rw add-sub-cancel-left (sym (part-part at n (i * g .«peb_size») (g .«peb_size») image h))
+module _ (g : Geometry) (image : List ℕ) (i at n : ℕ) where
+  abbrev from : ℕ
+  from = i * g .«peb_size» + at
+
+  pub lent-peb : at + n ≤ g .«peb_size» → take (from + n - from) (drop from image) ≡ part at n (pebAt g image i)
+  lent-peb h = rw add-sub-cancel-left (sym (part-part at n (i * g .«peb_size») (g .«peb_size») image h))
 
 module _ {g : Geometry} {image : List ℕ} {i : ℕ} (m : HasCopy g image i) where
   -- a data size that was read
@@ -88,20 +91,23 @@ module _ {g : Geometry} {image : List ℕ} {i : ℕ} (m : HasCopy g image i) whe
   size-within s = omega (arith, data-within g image i (copyAt g image i) (m .is), m .placed .leb-fills)
 
   -- a data CRC that was compared; `at` is where the data start
-  pub matches-run : {size sum crc : ℕ} (at : ℕ) → at ≡ i * g .«peb_size» + g .«data_start» → size ≡ headerAt g image i .«data_size»
-      → sum ≡ crcOf (take (at + size - at) (drop at image)) → crc ≡ headerAt g image i .«data_crc» → eqb sum crc ≡ copyAt g image i .matches
+  pub matches-run : {size sum crc : ℕ} (at : ℕ) → at ≡ i * g .«peb_size» + g .«data_start»
+      → size ≡ headerAt g image i .«data_size» → sum ≡ crcOf (take (at + size - at) (drop at image))
+      → crc ≡ headerAt g image i .«data_crc» → eqb sum crc ≡ copyAt g image i .matches
   unfolding copyOf
   matches-run {size} at a s k r =
       let t = rw a at k in
       rw s at (ap₂ eqb (t ∙ ap crcOf (lent-peb g image i (g .«data_start») size (size-within s))) r)
 
 -- a sequence fits its 8 bytes
-pub sequence-fits : (g : Geometry) (image : List ℕ) (i : ℕ) → Placed g → (i + 1) * g .«peb_size» ≤ length image → Bytes image
-    → headerAt g image i .sequence < 256 ^ 8
-unfolding headerAt vidFields fieldAt fieldOf
-sequence-fits g image i p h b =
-    let e = bytes-part (i * g .«peb_size») (g .«peb_size») image b in
-    let l : length (pebAt g image i) ≡ g .«peb_size» = length-part (i * g .«peb_size») (g .«peb_size») image (omega arith) in
-    field-lt 40 8 (vidPart g (pebAt g image i))
-    (rw (length-part (g .«vid_start») 64 (pebAt g image i) (omega (arith, p .data-after-vid, p .leb-fills))) (omega arith))
-    (bytes-part (g .«vid_start») 64 (pebAt g image i) e)
+module _ (g : Geometry) (image : List ℕ) (i : ℕ) (p : Placed g) where
+  abbrev peb : List ℕ
+  peb = pebAt g image i
+
+  pub sequence-fits : (i + 1) * g .«peb_size» ≤ length image → Bytes image → headerAt g image i .sequence < 256 ^ 8
+  unfolding headerAt vidFields fieldAt fieldOf
+  sequence-fits h b =
+      let l : length peb ≡ g .«peb_size» = length-part (i * g .«peb_size») (g .«peb_size») image (omega arith) in
+      let k = length-part (g .«vid_start») 64 peb (omega (arith, p .data-after-vid, p .leb-fills)) in
+      field-lt 40 8 (vidPart g peb) (rw k (omega arith))
+      (bytes-part (g .«vid_start») 64 peb (bytes-part (i * g .«peb_size») (g .«peb_size») image b))

@@ -1,5 +1,5 @@
--- What the contracts here cite beside the report's definitions: a PEB's copy, where it stands in the image. No public promise names
--- them. Assumes nothing.
+-- What the contracts here cite beside the report's definitions: a PEB's copy, where it stands in the image. No
+-- public promise names them. Assumes nothing.
 use mathlib.Core.Path.{_≡_}
 use mathlib.Core.Option.{some}
 use mathlib.Core.List.{List}

@@ -1,10 +1,9 @@
 // A copy of a logical block (LEB), read where it stands in the image: its header's fields and its data run.
 ghost use mathlib.Core.Path.{_≡_};
-ghost use Prim.Native.Nat.{_+_, _*_, _≤_, _<_};
+ghost use Prim.Native.Nat.{_+_, _*_, _≤_};
 ghost use lib.ListN.{length};
 ghost use Rattle.geometry.specs.Placed.{Placed};
-ghost use Rattle.header.specs.Fields.{vidVersion, headerCrc};
-ghost use Rattle.header.specs.Vid.{vidField};
+ghost use Rattle.header.specs.Vid.{IsVidField, vidField};
 ghost use Rattle.report.specs.Choice.{sound};
 ghost use Rattle.copies.specs.InPlace.{headerAt, copyAt, HasCopy};
 use geometry::Geometry;
@@ -14,7 +13,7 @@ use header::VID_DATA_SIZE;
 
 // The number in a field of PEB i's VID header.
 pub fn header_field(image: &[u8], g: Geometry, i: usize, field: usize) -> u64
-    requires { ⌜ (Placed g) × (((i + 1) * g .«peb_size» ≤ length (now image)) × ((vidVersion ≤ field) × (field < headerCrc))) ⌝ }
+    requires { ⌜ (Placed g) × (((i + 1) * g .«peb_size» ≤ length (now image)) × (IsVidField field)) ⌝ }
     ensures { λ r. ⌜ r ≡ vidField field (headerAt g (now (image .entry)) i) ⌝ }
 {
     let at = i * g.peb_size as usize + g.vid_start as usize;

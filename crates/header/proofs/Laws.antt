@@ -2,7 +2,7 @@
 use mathlib.Core.Path.{_≡_, refl, sym, ap, _∙_}
 use mathlib.Core.Bool.{Bool, true, false, _&&_, cond}
 use mathlib.Core.List.{List, [], _∷_, _++_}
-use Prim.Native.Nat.{ℕ, _+_, _-_, _≤_, _<_}
+use Prim.Native.Nat.{ℕ, _+_, _-_, _≤_}
 use native.Mathlib.Omega.{arith}
 use lib.Dec.{eqb, leb}
 use lib.ListN.{take, drop}
@@ -11,8 +11,8 @@ use Rattle.base.specs.Answers.{allOf}
 use Rattle.base.proofs.Answers.{and-left, and-right}
 use Rattle.base.proofs.Lists.{table-from, every-entry}
 use Rattle.header.specs.declared.Field.{Field}
-use Rattle.header.specs.Fields.{fields, fieldOf, fieldAt, vidVersion, headerCrc, Verdict, good, bad, newer, byVersion, judged, isGood}
-use Rattle.header.specs.Vid.{vidFields, vidField}
+use Rattle.header.specs.Fields.{fields, fieldOf, fieldAt, vidVersion, Verdict, good, bad, newer, byVersion, judged, isGood}
+use Rattle.header.specs.Vid.{vidFields, IsVidField, vidField}
 
 -- ---- the table
 
@@ -40,9 +40,9 @@ pub vid-apart : apart 4 (drop 5 fields) ≡ true
 vid-apart = refl
 
 -- the VID header's fields, by their numbers in the table
-pub vid-field-at : (i : ℕ) (s : List ℕ) → vidVersion ≤ i → i < headerCrc → fieldAt i s ≡ vidField i (vidFields s)
+pub vid-field-at : (i : ℕ) (s : List ℕ) → IsVidField i → fieldAt i s ≡ vidField i (vidFields s)
 unfolding vidFields
-vid-field-at i s h k =
+vid-field-at i s h =
     let e : vidVersion + (i - vidVersion) ≡ i = omega arith in
     sym (table-from (λ (j : ℕ). fieldAt j s) 0 vidVersion 11 (i - vidVersion) (omega arith) ∙ ap (λ (j : ℕ). fieldAt j s) e)
 
@@ -81,6 +81,7 @@ module _ {A : Type 0} {x h : A} where
   judged-good false false b e = absurd (let z : _≡_ {A = ℕ} 0 1 = cc in omega arith)
 
   -- `test` says that magic and CRC are right
-  pub read-good : (test : Bool) (version : ℕ) (rules : List Bool) → cond test (judged version rules x) bad ≡ good h → (x ≡ h) × (allOf rules ≡ true)
+  pub read-good : (test : Bool) (version : ℕ) (rules : List Bool) → cond test (judged version rules x) bad ≡ good h
+      → (x ≡ h) × (allOf rules ≡ true)
   read-good true version rules e = judged-good (eqb version 1) (eqb version 0) (allOf rules) e
   read-good false version rules e = absurd (let z : _≡_ {A = ℕ} 0 1 = cc in omega arith)

@@ -1,5 +1,5 @@
 -- 01 'Header bytes': the volume identifier (VID) header. Assumes nothing.
-use Prim.Native.Nat.{ℕ, _+_, _-_, _*_, _<_, _^_}
+use Prim.Native.Nat.{ℕ, _+_, _-_, _*_, _≤_, _<_, _^_}
 use mathlib.Core.Path.{_≡_}
 use mathlib.Core.Bool.{Bool, not, _&&_, _||_}
 use mathlib.Core.List.{List, [], _∷_, _++_}
@@ -20,6 +20,7 @@ use Rattle.header.specs.Fields.{
   vidDataPad,
   vidDataCrc,
   vidSequence,
+  headerCrc,
   fieldAt,
   Verdict,
   good,
@@ -57,12 +58,16 @@ vidFields s = record {
   sequence = fieldAt vidSequence s;
 }
 
--- the number in field i of the table: the VID header's fields stand there from its version on
+-- i is the number of a VID field in the table: they stand there from the version on
+abbrev pub IsVidField : ℕ → Type 0
+IsVidField i = (vidVersion ≤ i) × (i < headerCrc)
+
+-- the number in field i
 abbrev pub vidField : ℕ → VidHeader → ℕ
 vidField i h =
     getD
-    (h .version ∷ h .«vol_type» ∷ h .«copy_flag» ∷ h .compat ∷ h .volume ∷ h .lnum ∷ h .«data_size» ∷ h .«used_lebs» ∷ h .«data_pad»
-    ∷ h .«data_crc» ∷ h .sequence ∷ [])
+    (h .version ∷ h .«vol_type» ∷ h .«copy_flag» ∷ h .compat ∷ h .volume ∷ h .lnum ∷ h .«data_size» ∷ h .«used_lebs»
+    ∷ h .«data_pad» ∷ h .«data_crc» ∷ h .sequence ∷ [])
     (i - vidVersion) 0
 
 -- if the first, then the second

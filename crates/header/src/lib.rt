@@ -27,7 +27,7 @@ pub const DYNAMIC: u8 = 1;
 
 pub const STATIC: u8 = 2;
 
-// The compatibility of a user volume, and those of internal volumes: what a program is to do with one that it does not know.
+// The compatibility of a user volume, and those of internal volumes: what to do with one that is not known.
 pub const COMPAT_NONE: u8 = 0;
 
 pub const COMPAT_DELETE: u8 = 1;

@@ -1,10 +1,10 @@
 // The volume identifier header.
 ghost use mathlib.Core.Path.{_≡_};
-ghost use Prim.Native.Nat.{_≤_, _<_};
+ghost use Prim.Native.Nat.{_≤_};
 ghost use lib.ListN.{length};
 ghost use Rattle.base.specs.Answers.{given};
-ghost use Rattle.header.specs.Fields.{vidVersion, headerCrc, isGood, written};
-ghost use Rattle.header.specs.Vid.{vidFields, vidField, judgeVid, vidRead, vidAnswer, vidWritten, vidOut};
+ghost use Rattle.header.specs.Fields.{isGood, written};
+ghost use Rattle.header.specs.Vid.{vidFields, IsVidField, vidField, judgeVid, vidRead, vidAnswer, vidWritten, vidOut};
 ghost use Rattle.header.specs.Stores.{kindStored, placeStored, dataStored};
 use crate::VidHeader;
 use crate::VidRead;
@@ -49,7 +49,7 @@ fn vid_fields(s: &[u8]) -> VidHeader
 
 // The number in field i of the VID header at the start of a slice.
 pub fn vid_field(header: &[u8], i: usize) -> u64
-    requires { ⌜ (vidVersion ≤ i) × ((i < headerCrc) × (64 ≤ length (now header))) ⌝ }
+    requires { ⌜ (IsVidField i) × (64 ≤ length (now header)) ⌝ }
     ensures { λ r. ⌜ r ≡ vidField i (vidFields (now (header .entry))) ⌝ }
 {
     get(header, i)

@@ -1,4 +1,5 @@
--- What the contracts here cite beside the report's definitions: the sorted map and its table. Inner vocabulary. Assumes nothing.
+-- What the contracts here cite beside the report's definitions: the sorted map and its table. No public promise names them.
+-- Assumes nothing.
 use mathlib.Core.Path.{_≡_}
 use mathlib.Core.Bool.{Bool, true, false, not, _&&_, _||_, cond}
 use mathlib.Core.Option.{Option, none, some}

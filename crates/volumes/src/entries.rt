@@ -14,7 +14,8 @@ use header::STATIC;
 use header::VID_COPY_FLAG;
 use header::VID_TYPE;
 
-// Is PEB i's copy at fault: unsound, or static with a wrong data CRC where those are asked? The CRC is computed only where it counts.
+// Is PEB i's copy at fault: unsound, or static with a wrong data CRC where those are asked? The CRC is computed only
+// where it counts.
 fn entry_faulty(image: &[u8], g: Geometry, i: usize, asks: bool) -> bool
     requires { ⌜ HasCopy g (now image) i ⌝ }
     ensures { λ r. ⌜ r ≡ faultyBy asks (faceAt g (now (image .entry)) i) ⌝ }

@@ -57,7 +57,7 @@ returns-4 c =
       le-leb _ _ (c .before .before .before .if2 .left),
       ne-eqb _ _ (c .before .before .if3 .left),
       ← (c .before .header-field2 .ensures),
-      lt-ltb _ _ (c .if4 .taken),
+      lt-ltb (c .before .header-field2 .result) (c .before .before .before .before .header-field .result) (c .if4 .taken),
     )
 
 returns-5 : tie.Need-returns-5

@@ -14,7 +14,7 @@ get-requires c κs = search needs
 returns : tie.Need-returns
 returns c =
     let d = c .before .before in
-    c .get .ensures .0 ∙ vid-field-at (d .args .i) (d .args .header .now) (d .pre .0) (d .pre .1 .0)
+    c .get .ensures .0 ∙ vid-field-at (d .args .i) (d .args .header .now) (d .pre .0)
 
 pub vid-field-spec : {M : Type 1} → statement M
 vid-field-spec = tie.close (tie.spec get-requires returns)
