@@ -14,13 +14,13 @@ use Rattle.base.specs.Lists.{part, eqs, Bytes}
 use Rattle.base.proofs.Answers.{each-holds, and-left}
 use Rattle.base.proofs.Lists.{length-part, bytes-part, part-part}
 use Rattle.crc32.specs.Crc.{crcOf}
-use Rattle.field.proofs.Laws.{field-lt}
 use Rattle.geometry.specs.declared.Geometry.{Geometry}
 use Rattle.geometry.specs.Placed.{Placed}
 use Rattle.header.specs.declared.VidHeader.{VidHeader}
-use Rattle.header.specs.Fields.{fieldOf, fieldAt, crcMatches, Verdict, good, bad, newer}
+use Rattle.header.specs.Fields.{crcMatches, Verdict, good, bad, newer}
 use Rattle.header.specs.Vid.{vidMagic, vidFields, vidRules, staticRule, judgeVid, readVid}
 use Rattle.header.proofs.Laws.{read-good}
+use Rattle.header.proofs.RoundTrip.{vid-read-fits}
 use Rattle.report.specs.View.{allFF, Copy, vidBlank, copyOf, vidOf, vidPart, viewOf, pebAt, viewsOf, goodVid, copies}
 use Rattle.report.proofs.First.{none-some}
 use Rattle.copies.specs.InPlace.{headerAt, copyAt, HasCopy}
@@ -105,9 +105,9 @@ module _ (g : Geometry) (image : List ℕ) (i : ℕ) (p : Placed g) where
   peb = pebAt g image i
 
   pub sequence-fits : (i + 1) * g .«peb_size» ≤ length image → Bytes image → headerAt g image i .sequence < 256 ^ 8
-  unfolding headerAt vidFields fieldAt fieldOf
+  unfolding headerAt
   sequence-fits h b =
       let l : length peb ≡ g .«peb_size» = length-part (i * g .«peb_size») (g .«peb_size») image (omega arith) in
       let k = length-part (g .«vid_start») 64 peb (omega (arith, p .data-after-vid, p .leb-fills)) in
-      field-lt 40 8 (vidPart g peb) (rw k (omega arith))
-      (bytes-part (g .«vid_start») 64 peb (bytes-part (i * g .«peb_size») (g .«peb_size») image b))
+      let c = bytes-part (g .«vid_start») 64 peb (bytes-part (i * g .«peb_size») (g .«peb_size») image b) in
+      vid-read-fits (vidPart g peb) c (rw k (omega arith)) .sequence
