@@ -6,17 +6,16 @@ use mathlib.Core.List.{List, _++_}
 use Prim.Native.Nat.{ℕ, zero, suc, _+_, _*_, _-_, _≤_, _<_}
 use native.Mathlib.Omega.{arith}
 use borrow.Author.Tests.{leb-true}
-use lib.Dec.{eqb}
 use lib.ListN.{length, take, drop, replicate, length-append, length-drop, length-replicate}
 use lib.Seq.{take-append-seam, drop-append-seam}
-use Rattle.base.specs.Answers.{allOf}
 use Rattle.base.specs.Below.{sumBelow, countBelow}
 use Rattle.base.specs.Lists.{part, eqs}
 use Rattle.base.proofs.Answers.{each-holds}
 use Rattle.geometry.specs.declared.Geometry.{Geometry}
 use Rattle.header.specs.declared.EcHeader.{EcHeader}
-use Rattle.header.specs.Fields.{Verdict, good, bad, newer, byVersion, crcMatches}
+use Rattle.header.specs.Fields.{Verdict, good, bad, newer, crcMatches}
 use Rattle.header.specs.Ec.{readEc, judgeEc, ecRules, ecFields, ecMagic}
+use Rattle.header.proofs.Laws.{read-good}
 use Rattle.report.specs.View.{allFF, ecBlank, ecOf, goodEc, viewOf, viewsOf, pebAt, ecs}
 use Rattle.report.specs.Volumes.{refusal1112}
 use Rattle.report.specs.Report.{noWord, counterOr, hasCounter, counterAt, refusal, faces, places, records, taken}
@@ -47,22 +46,12 @@ filled-over k x x′ e t = e ∙ ap (λ (a : List ℕ). replicate k noWord ++ a)
 
 -- ---- counters
 
-ec-judged-good : (one old b : Bool) {x h : EcHeader} → cond one (cond b (good x) bad) (cond old bad newer) ≡ good h → (x ≡ h) × (b ≡ true)
-ec-judged-good true old true e = (cc, refl)
-ec-judged-good true old false e = absurd (let z : _≡_ {A = ℕ} 0 1 = cc in omega arith)
-ec-judged-good false true b e = absurd (let z : _≡_ {A = ℕ} 0 1 = cc in omega arith)
-ec-judged-good false false b e = absurd (let z : _≡_ {A = ℕ} 0 1 = cc in omega arith)
-
 read-small : (l : List ℕ) (h : EcHeader) → readEc l ≡ good h → h .counter ≤ 0x7FFFFFFF
 unfolding readEc judgeEc ecRules
-read-small l h e = go (eqs (part 0 4 l) ecMagic && crcMatches l) e
-  where
-    go : (t : Bool) → cond t (byVersion (ecFields l .version) (cond (allOf (ecRules (ecFields l))) (good (ecFields l)) bad)) bad ≡ good h → h .counter ≤ 0x7FFFFFFF
-    go true e =
-        let r = ec-judged-good (eqb (ecFields l .version) 1) (eqb (ecFields l .version) 0) (allOf (ecRules (ecFields l))) e in
-        let k = leb-true (ecFields l .counter) 0x7FFFFFFF (each-holds (ecRules (ecFields l)) (r .1) 0) in
-        rw (← (r .0)) k
-    go false e = absurd (let z : _≡_ {A = ℕ} 0 1 = cc in omega arith)
+read-small l h e =
+    let r = read-good (eqs (part 0 4 l) ecMagic && crcMatches l) (ecFields l .version) (ecRules (ecFields l)) e in
+    let k = leb-true (ecFields l .counter) 0x7FFFFFFF (each-holds (ecRules (ecFields l)) (r .1) 0) in
+    rw (← (r .0)) k
 
 -- a good counter has 31 bits
 pub counter-small : (g : Geometry) (image : List ℕ) (i : ℕ) (h : EcHeader) → ecs (viewsOf g image) i ≡ some h → h .counter ≤ 0x7FFFFFFF

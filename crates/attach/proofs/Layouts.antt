@@ -12,6 +12,7 @@ use lib.ListN.{length, take, drop}
 use Rattle.base.specs.Answers.{mapO}
 use Rattle.base.specs.Lists.{part}
 use Rattle.base.proofs.Answers.{and-left, and-right, each-holds}
+use Rattle.base.proofs.Lists.{part-part}
 use Rattle.geometry.specs.declared.Geometry.{Geometry}
 use Rattle.geometry.specs.Placed.{Placed}
 use Rattle.header.specs.declared.VidHeader.{VidHeader}
@@ -21,7 +22,7 @@ use Rattle.report.specs.Choice.{chosen}
 use Rattle.report.specs.Volumes.{faceOf, facesOf, placesOf, layoutContent}
 use Rattle.report.specs.Report.{faces, places, records}
 use Rattle.report.proofs.Choice.{chosen-at}
-use Rattle.choice.proofs.Copies.{view-good, data-there}
+use Rattle.copies.proofs.Copies.{view-good}
 use Rattle.attach.specs.Layout.{Found, Chosen, placeOr}
 use Rattle.attach.proofs.Laws.{found-place}
 
@@ -58,7 +59,8 @@ module _ (g : Geometry) (image : List ℕ) where
         let k = layout-copy i c e v in
         let b : c .body ≡ drop (g .«data_start») (pebAt g image i) = ap (λ (x : Copy). x .body) (view-good g (pebAt g image i) c e .0) in
         let s : g .«leb_size» - 0 ≡ g .«leb_size» = omega arith in
-        data-there g image i p (g .«leb_size») (omega arith) ∙ rw (k .0, k .1, b, s)
+        sym (part-part (g .«data_start») (g .«leb_size») (i * g .«peb_size») (g .«peb_size») image (omega (arith, p .leb-fills)))
+        ∙ rw (k .0, k .1, b, s)
 
     pub not-mapped : (l : ℕ) → placeOr n (places g n (viewsOf g image) layoutVolume l) ≡ n → layoutContent (faces g n (viewsOf g image) layoutVolume l) ≡ []
     unfolding placesOf facesOf

@@ -20,7 +20,8 @@ use Rattle.report.specs.Volumes.{Places, placesOf}
 use Rattle.report.specs.Report.{noWord, places, counterOr, isPlace}
 use Rattle.report.specs.Scratch.{firstClass, markedClass, markedWords}
 use Rattle.report.proofs.Choice.{chosen-at}
-use Rattle.choice.specs.Keyed.{Keyed, copyAt, volumeWord, lebWord, sameLeb}
+use Rattle.copies.specs.InPlace.{copyAt}
+use Rattle.choice.specs.Keyed.{Keyed, volumeWord, lebWord, sameLeb}
 use Rattle.choice.specs.Chain.{Chained, Chains}
 use Rattle.choice.proofs.Words.{held, has-words, same-true, mappable-word}
 use Rattle.mapping.specs.Settle.{firstAt}

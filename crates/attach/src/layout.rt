@@ -8,6 +8,7 @@ ghost use Rattle.report.specs.Volumes.{layoutContent};
 ghost use Rattle.report.specs.Report.{faces};
 ghost use Rattle.attach.specs.Layout.{isChosen, Found, Chosen};
 use geometry::Geometry;
+use header::LAYOUT_VOLUME;
 
 // The PEB that is chosen for a volume's LEB; n if there is none.
 pub fn find_chosen(pebs: &[u32], map: &[u32], n: usize, volume: u32, lnum: u32) -> usize
@@ -49,7 +50,7 @@ pub fn layout_content<'a>(
     requires { ⌜ (Chosen g (now image) n (now map) (now pebs)) × (lnum < 2) ⌝ }
     ensures { λ r. ⌜ now r ≡ layoutContent (faces g n (viewsOf g (now (image .entry))) layoutVolume lnum) ⌝ }
 {
-    let i = find_chosen(pebs, map, n, 0x7FFFEFFF, lnum);
+    let i = find_chosen(pebs, map, n, LAYOUT_VOLUME, lnum);
     if i == n {
         return &image[0..0];
     }

@@ -9,7 +9,7 @@ use native.Mathlib.Omega.{arith}
 use borrow.Author.Tests.{eq-eqb, ne-eqb, eqb-true}
 use lib.Dec.{T, eqb, lit<}
 use lib.ListN.{length, take, drop, getD, set, replicate, length-take, length-drop, length-map, take-append-drop, List·getD-append}
-use lib.Seq.{take-all, take-length, drop-cons, drop-drop, drop-at, take-append-seam, getD-drop, getD-append-add, paste, drop-length}
+use lib.Seq.{take-all, take-length, take-take, drop-cons, drop-drop, drop-at, take-append-seam, getD-drop, getD-append-add, paste, drop-length}
 use Rattle.base.proofs.Answers.{and-left, and-right}
 use Rattle.base.specs.Lists.{part, put, eqs, table, rows, Bytes}
 
@@ -33,6 +33,16 @@ put-part at n s h = rw (length-part at n s h, ← drop-drop n at s, take-append-
 -- a store that is done byte by byte
 pub paste-all : (d : List ℕ) (at : ℕ) (m : List ℕ) → paste d at m (length m) ≡ put at m d
 paste-all d at m = rw (take-length, append-assoc)
+
+-- a part that lies in the front, and a part of a part
+pub part-take : (at n m : ℕ) (s : List ℕ) → at + n ≤ m → part at n (take m s) ≡ part at n s
+part-take zero n m s h = take-take n m s (omega arith)
+part-take (suc at) n zero s h = absurd (omega arith)
+part-take (suc at) n (suc m) [] h = refl
+part-take (suc at) n (suc m) (x ∷ s) h = part-take at n m s (omega arith)
+
+pub part-part : (i n at m : ℕ) (s : List ℕ) → i + n ≤ m → part i n (part at m s) ≡ part (at + i) n s
+part-part i n at m s h = part-take i n m (drop at s) h ∙ rw (drop-drop i at s)
 
 -- ---- bytes
 
@@ -119,7 +129,7 @@ same xs ys t = go (eqs xs ys) refl t
 -- ---- tables by a rule
 
 module _ {A : Type 0} where
-  table-from : (f : ℕ → A) (d : A) (i n k : ℕ) → k < n → getD (table f i n) k d ≡ f (i + k)
+  pub table-from : (f : ℕ → A) (d : A) (i n k : ℕ) → k < n → getD (table f i n) k d ≡ f (i + k)
   table-from f d i zero k h = absurd (not-suc-le-zero h)
   table-from f d i (suc n) zero h = ap f (sym (add-zero i))
   table-from f d i (suc n) (suc k) h = table-from f d (suc i) n k (le-of-suc-le-suc h) ∙ ap f (suc-add i k ∙ sym (add-suc i k))

@@ -15,8 +15,9 @@ use Rattle.report.specs.Report.{noWord}
 use Rattle.report.specs.View.{Copy, copyOf, viewsOf, copies}
 use Rattle.report.specs.Choice.{sound, ofKey, beats, unbeaten, pick, chosen}
 use Rattle.report.proofs.Choice.{beats-irreflexive, beats-trans, ofKey-hit, ofKey-some}
-use Rattle.choice.specs.Keyed.{Choosing, copyAt, sequenceAt, volumeWord, lebWord, sameLeb, higherOf, Highest}
-use Rattle.choice.proofs.Copies.{copy-is}
+use Rattle.copies.specs.InPlace.{copyAt}
+use Rattle.copies.proofs.Copies.{copy-is}
+use Rattle.choice.specs.Keyed.{Choosing, sequenceAt, volumeWord, lebWord, sameLeb, higherOf, Highest}
 use Rattle.choice.proofs.Words.{Held, held, has-words, same-true, true-same, repeat-sequence}
 use Rattle.choice.specs.Chain.{bucketAt}
 use Rattle.choice.proofs.Chains.{Along, same-bucket, walk-on, walk-end}

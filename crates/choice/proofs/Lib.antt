@@ -1,5 +1,4 @@
 -- The laws that proofs here cite. Assumes nothing.
-pub mod Copies
 pub mod Words
 pub mod Chains
 pub mod Repeats

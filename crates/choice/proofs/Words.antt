@@ -16,8 +16,9 @@ use Rattle.report.specs.Report.{noWord}
 use Rattle.report.specs.Choice.{repeats}
 use Rattle.report.specs.Scratch.{keyWords}
 use Rattle.report.proofs.First.{none-some}
-use Rattle.choice.specs.Keyed.{Keyed, Within, copyAt, sequenceAt, volumeWord, lebWord, sameLeb, repeatsAt}
-use Rattle.choice.proofs.Copies.{copy-is}
+use Rattle.copies.specs.InPlace.{copyAt}
+use Rattle.copies.proofs.Copies.{copy-is}
+use Rattle.choice.specs.Keyed.{Keyed, Within, sequenceAt, volumeWord, lebWord, sameLeb, repeatsAt}
 
 -- ---- the words of one PEB
 

@@ -1,4 +1,4 @@
--- What the contracts here cite beside the report's definitions: the map's words after the first pass, and a PEB's copy. Assumes nothing.
+-- What the contracts here cite beside the report's definitions: the map's words after the first pass. Assumes nothing.
 use mathlib.Core.Path.{_≡_}
 use mathlib.Core.Bool.{Bool, true, not, _&&_, _||_, cond}
 use mathlib.Core.Option.{Option, none, some}
@@ -8,13 +8,12 @@ use lib.Dec.{eqb, ltb, leb}
 use lib.ListN.{length, getD}
 use Rattle.geometry.specs.declared.Geometry.{Geometry}
 use Rattle.geometry.specs.Placed.{Placed}
-use Rattle.header.specs.declared.VidHeader.{VidHeader}
-use Rattle.header.specs.Vid.{vidFields}
-use Rattle.report.specs.View.{Copy, vidPart, pebAt, viewsOf, copyOf, copies}
+use Rattle.report.specs.View.{viewsOf, copies}
 use Rattle.report.specs.Choice.{refusal9}
 use Rattle.report.specs.Scan.{Refusal}
 use Rattle.report.specs.Scratch.{keyWords}
 use Rattle.report.specs.Report.{noWord}
+use Rattle.copies.specs.InPlace.{headerAt}
 
 -- the volume and LEB in PEB i's words
 abbrev pub volumeWord : List ℕ → ℕ → ℕ
@@ -31,13 +30,7 @@ pub record Keyed (g : Geometry) (image : List ℕ) (n : ℕ) (map : List ℕ) : 
   pub volumes : (i : ℕ) → i < n → volumeWord map i ≡ getD (keyWords i (viewsOf g image i .vid)) 0 0
   pub lebs : (i : ℕ) → i < n → lebWord map i ≡ getD (keyWords i (viewsOf g image i .vid)) 1 0
 
--- the fields in the place of PEB i's VID header, and the copy that they make if the header is good
-unfoldable pub headerAt : Geometry → List ℕ → ℕ → VidHeader
-headerAt g image i = vidFields (vidPart g (pebAt g image i))
-
-abbrev pub copyAt : Geometry → List ℕ → ℕ → Copy
-copyAt g image i = copyOf g (pebAt g image i) (headerAt g image i)
-
+-- the sequence in PEB i's VID header
 abbrev pub sequenceAt : Geometry → List ℕ → ℕ → ℕ
 sequenceAt g image i = headerAt g image i .sequence
 

@@ -4,14 +4,15 @@ ghost use mathlib.Core.Option.{some};
 ghost use Prim.Native.Nat.{_≤_, _<_};
 ghost use Rattle.report.specs.View.{viewsOf, copies};
 ghost use Rattle.report.specs.Choice.{chosen};
-ghost use Rattle.choice.specs.Keyed.{Keyed, Choosing, copyAt, volumeWord, lebWord, higherOf, Highest};
+ghost use Rattle.copies.specs.InPlace.{copyAt};
+ghost use Rattle.choice.specs.Keyed.{Keyed, Choosing, volumeWord, lebWord, higherOf, Highest};
 ghost use Rattle.choice.specs.Chain.{bucketAt, Nearest, Linked, Chained};
 use crate::chain::head;
 use crate::chain::link;
-use crate::copy::is_sound;
-use crate::copy::sequence;
 use crate::repeat::same_leb;
+use copies::header_field;
 use geometry::Geometry;
+use header::VID_SEQUENCE;
 
 // The PEB of the chosen copy of the LEB that PEB i holds. The copies are met from the highest sequence down; the lowest needs no
 // checksum, for it counts if no other does.
@@ -29,7 +30,7 @@ pub fn chosen_peb(
     let top = head(map, heads, i);
     let mut at = highest_up_to(image, g, n, map, i, top, 0xFFFFFFFFFFFFFFFF);
     loop {
-        let s = sequence(image, g, at);
+        let s = header_field(image, g, at, VID_SEQUENCE);
         if s == 0 {
             return at;
         }
@@ -37,7 +38,7 @@ pub fn chosen_peb(
         if next == n {
             return at;
         }
-        if is_sound(image, g, at) {
+        if copies::is_sound(image, g, at) {
             return at;
         }
         at = next;
@@ -86,14 +87,14 @@ fn higher(
     if !same_leb(map, i, j) {
         return best;
     }
-    let s = sequence(image, g, j);
+    let s = header_field(image, g, j, VID_SEQUENCE);
     if most < s {
         return best;
     }
     if best == n {
         return j;
     }
-    if sequence(image, g, best) < s {
+    if header_field(image, g, best, VID_SEQUENCE) < s {
         return j;
     }
     best

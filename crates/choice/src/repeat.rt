@@ -7,8 +7,9 @@ ghost use Rattle.report.specs.Choice.{refusal9};
 ghost use Rattle.choice.specs.Keyed.{Keyed, Within, sameLeb, repeatsAt, repeatAt};
 ghost use Rattle.choice.specs.Chain.{Linked};
 use crate::chain::link;
-use crate::copy::sequence;
+use copies::header_field;
 use geometry::Geometry;
+use header::VID_SEQUENCE;
 
 // The lowest PEB that repeats the volume, LEB and sequence of a lower one; n if there is none. Only the lower PEBs of its bucket can
 // have its LEB.
@@ -43,7 +44,7 @@ fn is_repeat(image: &[u8], g: Geometry, map: &[u32], i: usize, j: usize) -> bool
     if !same_leb(map, i, j) {
         return false;
     }
-    sequence(image, g, i) == sequence(image, g, j)
+    header_field(image, g, i, VID_SEQUENCE) == header_field(image, g, j, VID_SEQUENCE)
 }
 
 // Do the words of two PEBs name one volume and LEB?

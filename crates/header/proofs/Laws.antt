@@ -1,15 +1,18 @@
 -- Laws of the field table and of judging a header. Assumes nothing.
-use mathlib.Core.Path.{_≡_, refl}
+use mathlib.Core.Path.{_≡_, refl, sym, ap, _∙_}
 use mathlib.Core.Bool.{Bool, true, false, _&&_, cond}
 use mathlib.Core.List.{List, [], _∷_, _++_}
-use Prim.Native.Nat.{ℕ, _+_, _≤_}
+use Prim.Native.Nat.{ℕ, _+_, _-_, _≤_}
+use native.Mathlib.Omega.{arith}
 use lib.Dec.{eqb, leb}
 use lib.ListN.{take, drop}
 use borrow.Author.Tests.{ne-eqb, leb-true}
+use Rattle.base.specs.Answers.{allOf}
 use Rattle.base.proofs.Answers.{and-left, and-right}
-use Rattle.base.proofs.Lists.{every-entry}
+use Rattle.base.proofs.Lists.{table-from, every-entry}
 use Rattle.header.specs.declared.Field.{Field}
-use Rattle.header.specs.Fields.{fields, fieldOf, Verdict, good, bad, newer, byVersion, isGood}
+use Rattle.header.specs.Fields.{fields, fieldOf, fieldAt, vidVersion, Verdict, good, bad, newer, byVersion, judged, isGood}
+use Rattle.header.specs.Vid.{vidFields, IsVidField, vidField}
 
 -- ---- the table
 
@@ -36,6 +39,13 @@ ec-apart = refl
 pub vid-apart : apart 4 (drop 5 fields) ≡ true
 vid-apart = refl
 
+-- the VID header's fields, by their numbers in the table
+pub vid-field-at : (i : ℕ) (s : List ℕ) → IsVidField i → fieldAt i s ≡ vidField i (vidFields s)
+unfolding vidFields
+vid-field-at i s h =
+    let e : vidVersion + (i - vidVersion) ≡ i = omega arith in
+    sym (table-from (λ (j : ℕ). fieldAt j s) 0 vidVersion 11 (i - vidVersion) (omega arith) ∙ ap (λ (j : ℕ). fieldAt j s) e)
+
 -- ---- versions
 
 module _ {A : Type 0} (rest : Verdict A) where
@@ -60,3 +70,18 @@ module _ {A : Type 0} (h : A) where
   pub good-if : (b : Bool) → isGood (cond b (good h) bad) ≡ b
   good-if true = refl
   good-if false = refl
+
+-- ---- a header that is read as good has the fields in its place, and all rules hold
+
+module _ {A : Type 0} {x h : A} where
+  judged-good : (one zero b : Bool) → cond one (cond b (good x) bad) (cond zero bad newer) ≡ good h → (x ≡ h) × (b ≡ true)
+  judged-good true zero true e = (cc, refl)
+  judged-good true zero false e = absurd (let z : _≡_ {A = ℕ} 0 1 = cc in omega arith)
+  judged-good false true b e = absurd (let z : _≡_ {A = ℕ} 0 1 = cc in omega arith)
+  judged-good false false b e = absurd (let z : _≡_ {A = ℕ} 0 1 = cc in omega arith)
+
+  -- `test` says that magic and CRC are right
+  pub read-good : (test : Bool) (version : ℕ) (rules : List Bool) → cond test (judged version rules x) bad ≡ good h
+      → (x ≡ h) × (allOf rules ≡ true)
+  read-good true version rules e = judged-good (eqb version 1) (eqb version 0) (allOf rules) e
+  read-good false version rules e = absurd (let z : _≡_ {A = ℕ} 0 1 = cc in omega arith)

@@ -1,10 +1,10 @@
 -- 01 'Header bytes': the volume identifier (VID) header. Assumes nothing.
-use Prim.Native.Nat.{ℕ, _+_, _-_, _*_, _<_, _^_}
+use Prim.Native.Nat.{ℕ, _+_, _-_, _*_, _≤_, _<_, _^_}
 use mathlib.Core.Path.{_≡_}
 use mathlib.Core.Bool.{Bool, not, _&&_, _||_}
 use mathlib.Core.List.{List, [], _∷_, _++_}
 use lib.Dec.{eqb, ltb, leb}
-use lib.ListN.{replicate}
+use lib.ListN.{getD, replicate}
 use Rattle.base.specs.Answers.{Answer, given, refused}
 use Rattle.base.specs.Lists.{part}
 use Rattle.field.specs.Be.{toBe}
@@ -20,6 +20,7 @@ use Rattle.header.specs.Fields.{
   vidDataPad,
   vidDataCrc,
   vidSequence,
+  headerCrc,
   fieldAt,
   Verdict,
   good,
@@ -56,6 +57,18 @@ vidFields s = record {
   «data_crc» = fieldAt vidDataCrc s;
   sequence = fieldAt vidSequence s;
 }
+
+-- i is the number of a VID field in the table: they stand there from the version on
+abbrev pub IsVidField : ℕ → Type 0
+IsVidField i = (vidVersion ≤ i) × (i < headerCrc)
+
+-- the number in field i
+abbrev pub vidField : ℕ → VidHeader → ℕ
+vidField i h =
+    getD
+    (h .version ∷ h .«vol_type» ∷ h .«copy_flag» ∷ h .compat ∷ h .volume ∷ h .lnum ∷ h .«data_size» ∷ h .«used_lebs»
+    ∷ h .«data_pad» ∷ h .«data_crc» ∷ h .sequence ∷ [])
+    (i - vidVersion) 0
 
 -- if the first, then the second
 abbrev pub implies : Bool → Bool → Bool

@@ -7,9 +7,36 @@ mod vid_rules;
 pub use ec_header::ec_readable;
 pub use ec_header::read_ec;
 pub use ec_header::write_ec;
+pub use fields::VID_COPY_FLAG;
+pub use fields::VID_DATA_CRC;
+pub use fields::VID_DATA_PAD;
+pub use fields::VID_DATA_SIZE;
+pub use fields::VID_SEQUENCE;
+pub use fields::VID_TYPE;
+pub use fields::VID_USED_LEBS;
 pub use vid_header::read_vid;
+pub use vid_header::vid_field;
 pub use vid_header::vid_readable;
 pub use vid_header::write_vid;
+
+// The volume that holds the volume table.
+pub const LAYOUT_VOLUME: u32 = 0x7FFFEFFF;
+
+// The types of a volume.
+pub const DYNAMIC: u8 = 1;
+
+pub const STATIC: u8 = 2;
+
+// The compatibility of a user volume, and those of internal volumes: what to do with one that is not known.
+pub const COMPAT_NONE: u8 = 0;
+
+pub const COMPAT_DELETE: u8 = 1;
+
+pub const COMPAT_READ_ONLY: u8 = 2;
+
+pub const COMPAT_PRESERVE: u8 = 4;
+
+pub const COMPAT_REJECT: u8 = 5;
 
 // Where a field stands in a header, and how many bytes it has.
 struct Field {

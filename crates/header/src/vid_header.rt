@@ -4,7 +4,7 @@ ghost use Prim.Native.Nat.{_≤_};
 ghost use lib.ListN.{length};
 ghost use Rattle.base.specs.Answers.{given};
 ghost use Rattle.header.specs.Fields.{isGood, written};
-ghost use Rattle.header.specs.Vid.{vidFields, judgeVid, vidRead, vidAnswer, vidWritten, vidOut};
+ghost use Rattle.header.specs.Vid.{vidFields, IsVidField, vidField, judgeVid, vidRead, vidAnswer, vidWritten, vidOut};
 ghost use Rattle.header.specs.Stores.{kindStored, placeStored, dataStored};
 use crate::VidHeader;
 use crate::VidRead;
@@ -45,6 +45,14 @@ fn vid_fields(s: &[u8]) -> VidHeader
         data_crc: get(s, VID_DATA_CRC) as u32,
         sequence: get(s, VID_SEQUENCE),
     }
+}
+
+// The number in field i of the VID header at the start of a slice.
+pub fn vid_field(header: &[u8], i: usize) -> u64
+    requires { ⌜ (IsVidField i) × (64 ≤ length (now header)) ⌝ }
+    ensures { λ r. ⌜ r ≡ vidField i (vidFields (now (header .entry))) ⌝ }
+{
+    get(header, i)
 }
 
 // What the fields of a header with magic and CRC right make it.

@@ -5,28 +5,34 @@ ghost use Prim.Native.Nat.{_≤_};
 ghost use lib.Dec.{eqb};
 ghost use Rattle.base.specs.Answers.{allOf};
 ghost use Rattle.header.specs.Vid.{volumeRule, staticRule, dynamicRule, layoutRule, vidRules};
+use crate::COMPAT_DELETE;
+use crate::COMPAT_NONE;
+use crate::COMPAT_PRESERVE;
+use crate::COMPAT_READ_ONLY;
+use crate::COMPAT_REJECT;
+use crate::DYNAMIC;
+use crate::LAYOUT_VOLUME;
+use crate::STATIC;
 use crate::VidHeader;
-
-const LAYOUT_VOLUME: u32 = 0x7FFFEFFF;
 
 // Is the volume dynamic or static?
 fn is_type(t: u8) -> bool
     ensures { λ r. ⌜ r ≡ (eqb t 1 || eqb t 2) ⌝ }
 {
-    t == 1 || t == 2
+    t == DYNAMIC || t == STATIC
 }
 
 // Is the compatibility one of an internal volume?
 fn is_internal(compat: u8) -> bool
     ensures { λ r. ⌜ r ≡ (eqb compat 1 || (eqb compat 2 || (eqb compat 4 || eqb compat 5))) ⌝ }
 {
-    if compat == 1 {
+    if compat == COMPAT_DELETE {
         return true;
     }
-    if compat == 2 {
+    if compat == COMPAT_READ_ONLY {
         return true;
     }
-    compat == 4 || compat == 5
+    compat == COMPAT_PRESERVE || compat == COMPAT_REJECT
 }
 
 // Does the compatibility go with the volume?
@@ -34,7 +40,7 @@ fn volume_rule(h: VidHeader) -> bool
     ensures { λ r. ⌜ r ≡ volumeRule h ⌝ }
 {
     if h.volume < 128 {
-        return h.compat == 0;
+        return h.compat == COMPAT_NONE;
     }
     if h.volume < LAYOUT_VOLUME {
         return false;
@@ -50,7 +56,7 @@ fn static_rule(h: VidHeader, leb_size: u32) -> bool
     requires { ⌜ h .«data_pad» ≤ «leb_size» ⌝ }
     ensures { λ r. ⌜ r ≡ staticRule «leb_size» h ⌝ }
 {
-    if h.vol_type != 2 {
+    if h.vol_type != STATIC {
         return true;
     }
     if h.used_lebs <= h.lnum {
@@ -69,7 +75,7 @@ fn static_rule(h: VidHeader, leb_size: u32) -> bool
 fn dynamic_rule(h: VidHeader) -> bool
     ensures { λ r. ⌜ r ≡ dynamicRule h ⌝ }
 {
-    if h.vol_type != 1 {
+    if h.vol_type != DYNAMIC {
         return true;
     }
     if h.used_lebs != 0 {
@@ -94,10 +100,10 @@ fn layout_rule(h: VidHeader) -> bool
     if h.volume != LAYOUT_VOLUME {
         return true;
     }
-    if h.vol_type != 1 {
+    if h.vol_type != DYNAMIC {
         return false;
     }
-    if h.compat != 5 {
+    if h.compat != COMPAT_REJECT {
         return false;
     }
     if h.data_pad != 0 {

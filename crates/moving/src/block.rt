@@ -15,7 +15,9 @@ ghost use Rattle.plan.specs.Headers.{oldCounter};
 ghost use Rattle.moving.specs.Reported.{Reported, isNoTarget, ecWith};
 use crate::copy::data_end;
 use geometry::Geometry;
+use header::COMPAT_DELETE;
 use header::EcHeader;
+use header::LAYOUT_VOLUME;
 use header::VidHeader;
 use report::NO_WORD;
 use report::class;
@@ -29,10 +31,10 @@ fn is_internal_1(h: VidHeader) -> bool
     if h.volume < 128 {
         return false;
     }
-    if h.volume == 0x7FFFEFFF {
+    if h.volume == LAYOUT_VOLUME {
         return false;
     }
-    h.compat == 1
+    h.compat == COMPAT_DELETE
 }
 
 // The same of the PEB with the bytes p.

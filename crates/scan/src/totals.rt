@@ -15,6 +15,7 @@ use crate::Sums;
 use crate::VidSeen;
 use geometry::Geometry;
 use header::EcHeader;
+use header::LAYOUT_VOLUME;
 use header::VidHeader;
 use report::refusal;
 
@@ -22,7 +23,7 @@ use report::refusal;
 pub fn is_mappable(volume: u32) -> bool
     ensures { λ r. ⌜ r ≡ isMappable volume ⌝ }
 {
-    volume < 128 || volume == 0x7FFFEFFF
+    volume < 128 || volume == LAYOUT_VOLUME
 }
 
 // The sums with an EC header more.

@@ -18,7 +18,8 @@ use Rattle.report.specs.View.{viewsOf, copyOf}
 use Rattle.report.specs.Volumes.{Face, faceOf, recordFor, reservedOf, usedOf}
 use Rattle.report.specs.Report.{faces, places, records}
 use Rattle.report.proofs.Tables.{reserved-is}
-use Rattle.volumes.specs.Sorted.{headerAt, copyAt, faceAt, volumeWord, lebWord, pebWord, FirstOf, Sorted}
+use Rattle.copies.specs.InPlace.{headerAt, copyAt}
+use Rattle.volumes.specs.Sorted.{faceAt, volumeWord, lebWord, pebWord, FirstOf, Sorted}
 use Rattle.volumes.proofs.Words.{face-is, place-is, leb-below, index-of, lower-first}
 
 -- the lowest answer is the first
@@ -28,19 +29,19 @@ first-lowest (suc n) f i a h e u =
     ⊎-elim (λ (k : i < n). rw (first-lowest n f i a k e u)) (λ (q : i ≡ n). rw (first-none n f (λ j l. u j (omega arith)), ← q, e)) (below-suc n i h)
 
 pub used-is : (g : Geometry) (image : List ℕ) (i : ℕ) → faceAt g image i .used ≡ headerAt g image i .«used_lebs»
-unfolding copyAt copyOf faceOf
+unfolding copyOf faceOf
 used-is g image i = refl
 
 pub type-is : (g : Geometry) (image : List ℕ) (i : ℕ) → faceAt g image i .vol-type ≡ headerAt g image i .«vol_type»
-unfolding copyAt copyOf faceOf
+unfolding copyOf faceOf
 type-is g image i = refl
 
 pub pad-is : (g : Geometry) (image : List ℕ) (i : ℕ) → faceAt g image i .pad ≡ headerAt g image i .«data_pad»
-unfolding copyAt copyOf faceOf
+unfolding copyOf faceOf
 pad-is g image i = refl
 
 pub leb-is : (g : Geometry) (image : List ℕ) (i : ℕ) → copyAt g image i .header .lnum ≡ headerAt g image i .lnum
-unfolding copyAt copyOf
+unfolding copyOf
 leb-is g image i = refl
 
 -- a record that reserves something is there

@@ -1,4 +1,4 @@
-pub mod Copies
+pub mod Faults
 pub mod Records
 pub mod Passes
 pub mod Words

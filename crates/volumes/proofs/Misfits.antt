@@ -19,14 +19,15 @@ use Rattle.report.specs.Volumes.{Face, faceOf, recordFor, reservedOf, usedOf, m
 use Rattle.report.specs.Report.{faces, places, records, taken}
 use Rattle.report.proofs.Tables.{no-misfit as misfits-none}
 use Rattle.volumes.specs.declared.Kept.{Kept}
-use Rattle.volumes.specs.Sorted.{headerAt, copyAt, faceAt, keptOf, volumeWord, lebWord, pebWord, isOf, misfitBy, FirstMisfit, VolumeMisfit, misfitRefusal, Sorted, Fitting}
+use Rattle.copies.specs.InPlace.{headerAt}
+use Rattle.volumes.specs.Sorted.{faceAt, keptOf, volumeWord, lebWord, pebWord, isOf, misfitBy, FirstMisfit, VolumeMisfit, misfitRefusal, Sorted, Fitting}
 use Rattle.volumes.proofs.Words.{place-is, lower-first}
 use Rattle.volumes.proofs.Faces.{first-lowest, record-not, leb-within, face-here, record-here, EntryOf, face-or, used-first, first-there}
 
 -- the test on a copy's header is the one on its face
 misfit-of : (g : Geometry) (image : List ℕ) (i u : ℕ) (r : VolumeRecord)
     → misfit (some r) (some u) (some (faceAt g image i)) ≡ when (misfitBy (keptOf r) u (headerAt g image i)) 12
-unfolding copyAt copyOf faceOf keptOf misfitBy
+unfolding copyOf faceOf keptOf misfitBy
 misfit-of g image i u r = refl
 
 no-misfit : (r : Option VolumeRecord) (u : Option ℕ) → misfit r u none ≡ none

@@ -13,7 +13,8 @@ use Rattle.base.proofs.Below.{below-suc}
 use Rattle.geometry.specs.declared.Geometry.{Geometry}
 use Rattle.header.specs.declared.VidHeader.{VidHeader}
 use Rattle.volumes.specs.declared.Kept.{Kept}
-use Rattle.volumes.specs.Sorted.{headerAt, volumeWord, pebWord, isOf, FirstOf, Lacking, misfitBy, misfitWord}
+use Rattle.copies.specs.InPlace.{headerAt}
+use Rattle.volumes.specs.Sorted.{volumeWord, pebWord, isOf, FirstOf, Lacking, misfitBy, misfitWord}
 
 -- what is at most n and not n is below it
 pub not-last : {x n : ℕ} → x ≤ n → (x ≡ n → ⊥) → x < n

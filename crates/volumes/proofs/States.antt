@@ -23,8 +23,9 @@ use Rattle.report.specs.Report.{faces, places, records, entries, stateAt}
 use Rattle.report.proofs.Choice.{chosen-at}
 use Rattle.report.proofs.Tables.{Fits, entry-fits, reserved-is}
 use Rattle.volumes.specs.declared.Kept.{Kept}
-use Rattle.volumes.specs.Sorted.{headerAt, copyAt, faceAt, faultyBy, keptOf, keptAsks, volumeWord, lebWord, pebWord, isOf, faultAt, FirstOf, Lacking, Sorted, Fitting}
-use Rattle.volumes.proofs.Copies.{static-below}
+use Rattle.copies.specs.InPlace.{headerAt, copyAt}
+use Rattle.volumes.specs.Sorted.{faceAt, faultyBy, keptOf, keptAsks, volumeWord, lebWord, pebWord, isOf, faultAt, FirstOf, Lacking, Sorted, Fitting}
+use Rattle.copies.proofs.Copies.{static-below}
 use Rattle.volumes.proofs.Counts.{any-elim, count-cong, count-upto, fewer, has, count-map}
 use Rattle.volumes.proofs.Words.{volume-is, face-is, place-chosen}
 use Rattle.volumes.proofs.Faces.{used-is, type-is, leb-is, record-there, record-not, leb-within, face-here, EntryOf, face-or}

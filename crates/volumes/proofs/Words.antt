@@ -25,8 +25,9 @@ use Rattle.report.proofs.First.{none-some}
 use Rattle.report.proofs.Choice.{chosen-at}
 use Rattle.report.proofs.Map.{Ascending, Before, Listed, in-map, map-has, map-ascends}
 use Rattle.report.proofs.Tables.{TakenFrom, taken}
-use Rattle.volumes.specs.Sorted.{copyAt, faceAt, Mapped, volumeWord, lebWord, pebWord, Entries, Sorted}
-use Rattle.volumes.proofs.Copies.{copy-is}
+use Rattle.copies.specs.InPlace.{copyAt, HasCopy}
+use Rattle.volumes.specs.Sorted.{faceAt, volumeWord, lebWord, pebWord, Entries, Sorted}
+use Rattle.copies.proofs.Copies.{copy-is}
 
 -- ---- a list of entries, by number
 
@@ -171,7 +172,7 @@ module _ (g : Geometry) (n : ℕ) (image map t : List ℕ) (count : ℕ) (s : So
     pub copy-here : chosen n (copies (viewsOf g image)) (volumeWord map k) (lebWord map k) ≡ some (pebWord map k, copyAt g image (pebWord map k))
     copy-here = place-chosen g n image (volumeWord map k) (lebWord map k) (pebWord map k) place-is
 
-    pub mapped-here : Mapped g image (pebWord map k)
+    pub mapped-here : HasCopy g image (pebWord map k)
     mapped-here =
         let c = chosen-at n (copies (viewsOf g image)) (volumeWord map k) (lebWord map k) (pebWord map k) (copyAt g image (pebWord map k)) copy-here in
         record {

@@ -1,4 +1,5 @@
--- What the contracts here cite beside the report's definitions: a PEB's copy, the sorted map and its table. Inner vocabulary. Assumes nothing.
+-- What the contracts here cite beside the report's definitions: the sorted map and its table. No public promise names them.
+-- Assumes nothing.
 use mathlib.Core.Path.{_≡_}
 use mathlib.Core.Bool.{Bool, true, false, not, _&&_, _||_, cond}
 use mathlib.Core.Option.{Option, none, some}
@@ -12,31 +13,18 @@ use Rattle.base.specs.Below.{countBelow}
 use Rattle.geometry.specs.declared.Geometry.{Geometry}
 use Rattle.geometry.specs.Placed.{Placed}
 use Rattle.header.specs.declared.VidHeader.{VidHeader}
-use Rattle.header.specs.Vid.{vidFields}
 use Rattle.volume_table.specs.declared.VolumeRecord.{VolumeRecord}
-use Rattle.report.specs.View.{Copy, vidPart, pebAt, viewsOf, copies, copyOf}
+use Rattle.report.specs.View.{viewsOf}
 use Rattle.report.specs.Scan.{Refusal}
 use Rattle.report.specs.Volumes.{Face, faceOf, misfitIn, misfitAt}
 use Rattle.report.specs.Report.{faces, records, entries, taken}
 use Rattle.report.specs.Attach.{mapWords}
+use Rattle.copies.specs.InPlace.{headerAt, copyAt, HasCopy}
 use Rattle.volumes.specs.declared.Kept.{Kept}
 
--- the fields in the place of PEB i's VID header, and the copy that they make if the header is good
-unfoldable pub headerAt : Geometry → List ℕ → ℕ → VidHeader
-headerAt g image i = vidFields (vidPart g (pebAt g image i))
-
-unfoldable pub copyAt : Geometry → List ℕ → ℕ → Copy
-copyAt g image i = copyOf g (pebAt g image i) (headerAt g image i)
-
--- what is seen of it
+-- what is seen of PEB i's copy
 abbrev pub faceAt : Geometry → List ℕ → ℕ → Face
 faceAt g image i = faceOf g (copyAt g image i)
-
--- PEB i lies within the image, and its VID header is good
-pub record Mapped (g : Geometry) (image : List ℕ) (i : ℕ) : Type 0 where
-  pub placed : Placed g
-  pub bytes : (i + 1) * g .«peb_size» ≤ length image
-  pub is : copies (viewsOf g image) i ≡ some (copyAt g image i)
 
 -- is an entry at fault, in a volume whose data CRCs are asked or not?
 abbrev pub faultyBy : Bool → Face → Bool
@@ -69,7 +57,7 @@ pebWord map k = getD map (k * 3 + 2) 0
 -- the words of each entry are there, and each names a PEB with a copy
 pub record Entries (g : Geometry) (image map : List ℕ) (count : ℕ) : Type 0 where
   pub words : count * 3 ≤ length map
-  pub mapped : (k : ℕ) → k < count → Mapped g image (pebWord map k)
+  pub mapped : (k : ℕ) → k < count → HasCopy g image (pebWord map k)
 
 -- is entry k one of volume v?
 abbrev pub isOf : List ℕ → ℕ → ℕ → Bool

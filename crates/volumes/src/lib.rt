@@ -1,15 +1,11 @@
 // From the sorted map and the table taken: volume states, and the entries that refusal 12 names.
-mod copy;
 mod entries;
 mod misfit;
 mod record;
 mod state;
 
-pub use copy::entry_faulty;
-pub use copy::matches;
 pub use misfit::first_misfit;
 pub use state::fill_states;
-pub use state::volume_state;
 
 // The numbers of a volume's record that are compared with its entries.
 pub struct Kept {

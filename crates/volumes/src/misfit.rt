@@ -4,31 +4,34 @@ ghost use Prim.Native.Nat.{_≤_, _<_};
 ghost use Rattle.report.specs.View.{viewsOf};
 ghost use Rattle.report.specs.Volumes.{refusal1112};
 ghost use Rattle.report.specs.Report.{faces, places, records, taken};
-ghost use Rattle.volumes.specs.Sorted.{headerAt, Mapped, Entries, misfitBy, misfitWord, FirstMisfit, VolumeMisfit, misfitRefusal, Sorted};
+ghost use Rattle.copies.specs.InPlace.{headerAt, HasCopy};
+ghost use Rattle.volumes.specs.Sorted.{Entries, misfitBy, misfitWord, FirstMisfit, VolumeMisfit, misfitRefusal, Sorted};
 use crate::Kept;
-use crate::copy::copy_type;
-use crate::copy::data_pad;
-use crate::copy::used_lebs;
 use crate::entries::first_of;
 use crate::record::kept;
+use copies::header_field;
 use geometry::Geometry;
+use header::STATIC;
+use header::VID_DATA_PAD;
+use header::VID_TYPE;
+use header::VID_USED_LEBS;
 
 // Does refusal 12 name PEB i's copy, where its volume's first entry has these used LEBs?
 fn misfits(image: &[u8], g: Geometry, i: usize, r: Kept, used: u64) -> bool
-    requires { ⌜ Mapped g (now image) i ⌝ }
+    requires { ⌜ HasCopy g (now image) i ⌝ }
     ensures { λ b. ⌜ b ≡ misfitBy r used (headerAt g (now (image .entry)) i) ⌝ }
 {
-    let kind = copy_type(image, g, i);
+    let kind = header_field(image, g, i, VID_TYPE);
     if kind != r.vol_type as u64 {
         return true;
     }
-    if data_pad(image, g, i) != r.data_pad as u64 {
+    if header_field(image, g, i, VID_DATA_PAD) != r.data_pad as u64 {
         return true;
     }
-    if kind != 2 {
+    if kind != STATIC as u64 {
         return false;
     }
-    let own = used_lebs(image, g, i);
+    let own = header_field(image, g, i, VID_USED_LEBS);
     if own != used {
         return true;
     }
@@ -52,7 +55,7 @@ fn misfit_at(
     if map[k * 3] != v {
         return false;
     }
-    let used = used_lebs(image, g, map[first * 3 + 2] as usize);
+    let used = header_field(image, g, map[first * 3 + 2] as usize, VID_USED_LEBS);
     misfits(image, g, map[k * 3 + 2] as usize, r, used)
 }
 

@@ -8,18 +8,20 @@ ghost use Rattle.report.specs.Report.{stateAt};
 ghost use Rattle.report.specs.Attach.{stateWords};
 ghost use Rattle.volumes.specs.Sorted.{keptAsks, Entries, Lacking, Fitting};
 use crate::Kept;
-use crate::copy::used_lebs;
 use crate::entries::any_faulty;
 use crate::entries::entries_of;
 use crate::entries::first_of;
 use crate::record::kept;
+use copies::header_field;
 use geometry::Geometry;
+use header::STATIC;
+use header::VID_USED_LEBS;
 
 // Are the data CRCs of a volume asked: is it static, with the skip flag clear?
 fn asks_crc(r: Kept) -> bool
     ensures { λ b. ⌜ b ≡ keptAsks r ⌝ }
 {
-    if r.vol_type != 2 {
+    if r.vol_type != STATIC {
         return false;
     }
     r.flags & 2 != 2
@@ -35,11 +37,11 @@ fn lacks_leb(image: &[u8], g: Geometry, map: &[u32], count: usize, v: u32) -> bo
         return false;
     }
     let found = entries_of(map, count, v) as u64;
-    found < used_lebs(image, g, map[first * 3 + 2] as usize)
+    found < header_field(image, g, map[first * 3 + 2] as usize, VID_USED_LEBS)
 }
 
 // The state of volume v.
-pub fn volume_state(
+fn volume_state(
     image: &[u8],
     g: Geometry,
     n: usize,
@@ -61,7 +63,7 @@ pub fn volume_state(
     if any_faulty(image, g, map, count, v, asks_crc(r)) {
         return 3;
     }
-    if r.vol_type != 2 {
+    if r.vol_type != STATIC {
         return 1;
     }
     if lacks_leb(image, g, map, count, v) {

@@ -3,7 +3,7 @@ use mathlib.Core.Path.{sym, _∙_}
 use native.Mathlib.Omega.{arith}
 use mathlib.Core.Logic.{inl, inr}
 use Rattle.choice.specs.Keyed.{sequenceAt}
-use Rattle.choice.proofs.Copies.{sequence-fits}
+use Rattle.copies.proofs.Copies.{sequence-fits}
 use Rattle.choice.proofs.Words.{within}
 use Rattle.choice.proofs.Chains.{head-near}
 use Rattle.choice.proofs.Best.{Down, has-copy, is-chosen, down-first, down-next, lowest}
@@ -13,8 +13,8 @@ use Rattle.choice.proofs.chosen.chosen_peb.Reads as reads
 use Rattle.choice.proofs.chosen.chosen_peb.Lts as lts
 use Rattle.choice.proofs.chain.head.Reads as head-reads
 use Rattle.choice.proofs.chosen.highest_up_to.Reads as highest-up-to-reads
-use Rattle.choice.proofs.copy.is_sound.Reads as is-sound-reads
-use Rattle.choice.proofs.copy.sequence.Reads as sequence-reads
+use Rattle.copies.proofs.is_sound.Reads as is-sound-reads
+use Rattle.copies.proofs.header_field.Reads as header-field-reads
 
 abbrev Inv-loop : tie.InvT-loop
 Inv-loop image g n map heads i top at₀ at = Down g image n map i at
@@ -39,16 +39,16 @@ loop-holds c =
     (λ j k. let w = within (d .pre .0 .keyed) j k in
     omega (arith, sequence-fits (d .args .g) (d .args .image .now) j (w .placed) (w .bytes) (λ m. omega (arith, c .before .before .before .before .shared-slice-known .given m))))
 
-sequence-requires : tie.Need-sequence-requires Inv-loop μ-loop
-sequence-requires c κs =
+header-field-requires : tie.Need-header-field-requires Inv-loop μ-loop
+header-field-requires c κs =
     let d = c .before .before .before .before .before .before in
     let w = within (d .pre .0 .keyed) (c .loop .at) (c .loop .inv .below) in
-    (w .placed, w .bytes)
+    (w .placed, (w .bytes, (omega arith, omega arith)))
 
 returns : tie.Need-returns Inv-loop μ-loop
 returns c =
     let d = c .before .before .before .before .before .before .before .before in
-    let e = c .before .sequence .ensures in
+    let e = c .before .header-field .ensures in
     (is-chosen (d .pre .0) (c .before .before .loop .inv) (inr (λ k l s. omega arith)), c .before .before .loop .inv .below)
 
 sub-highest-up-to : tie.Need-sub-highest-up-to Inv-loop μ-loop
@@ -64,7 +64,7 @@ returns-2 c =
     let d = c .before .before .before .before .before .before .before .before .before .before in
     let l = c .before .before .before .before .loop in (
       is-chosen (d .pre .0) (l .inv)
-          (inr (lowest (d .pre .0) (l .at) (c .before .before .before .sequence .ensures)
+          (inr (lowest (d .pre .0) (l .at) (c .before .before .before .header-field .ensures)
           (c .before .before .if1 .left) (c .before .highest-up-to2 .ensures) (c .if2 .taken))),
       l .inv .below,
     )
@@ -74,7 +74,7 @@ is-sound-requires c κs =
     let d = c .before .before .before .before .before .before .before .before .before .before in
     let l = c .before .before .before .before .loop in
     let w = within (d .pre .0 .keyed) (l .at) (l .inv .below) in
-    (w .placed, (w .bytes, has-copy (d .pre .0) (l .at) (l .inv .below) (l .inv .same)))
+    record { placed = w .placed; bytes = w .bytes; is = has-copy (d .pre .0) (l .at) (l .inv .below) (l .inv .same) }
 
 returns-3 : tie.Need-returns-3 Inv-loop μ-loop
 returns-3 c =
@@ -87,14 +87,14 @@ loop-less c =
     let t = c .before .before .before .highest-up-to2 .ensures in
     let n = c .before .before .if2 .left in
     let y = t .is (let z = t .range in omega (arith, n)) .1 in
-    let e = c .before .before .before .before .before .sequence .ensures in
+    let e = c .before .before .before .before .before .header-field .ensures in
     omega (arith, c .before .before .before .before .if1 .left)
 
 loop-again : tie.Need-loop-again Inv-loop μ-loop
 loop-again c =
     let d = c .before .before .before .before .before .before .before .before .before .before .before .before in
     let l = c .before .before .before .before .before .before .loop in
-    down-next (d .pre .0) (l .inv) (c .before .before .before .before .before .sequence .ensures)
+    down-next (d .pre .0) (l .inv) (c .before .before .before .before .before .header-field .ensures)
     (c .before .before .before .before .if1 .left) (sym (c .before .is-sound .ensures) ∙ c .if3 .left) (c .before .before .before .highest-up-to2 .ensures) (c .before .before .if2 .left)
 
 pub chosen-peb-spec : {M : Type 1} → statement M
@@ -106,7 +106,7 @@ chosen-peb-spec =
     head-requires
     highest-up-to-requires
     loop-holds
-    sequence-requires
+    header-field-requires
     returns
     sub-highest-up-to
     highest-up-to-requires-2

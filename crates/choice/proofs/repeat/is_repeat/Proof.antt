@@ -5,7 +5,7 @@ use Rattle.choice.proofs.repeat.is_repeat.Statement.{statement}
 use Rattle.choice.proofs.repeat.is_repeat.Tie as tie
 use Rattle.choice.proofs.repeat.is_repeat.Reads as reads
 use Rattle.choice.proofs.repeat.is_repeat.Lts as lts
-use Rattle.choice.proofs.copy.sequence.Reads as sequence-reads
+use Rattle.copies.proofs.header_field.Reads as header-field-reads
 use Rattle.choice.proofs.repeat.same_leb.Reads as same-leb-reads
 
 mul-if1 : tie.Need-mul-if1
@@ -26,11 +26,11 @@ same-leb-requires c κs = search needs
 returns-2 : tie.Need-returns-2
 returns-2 c = rw (ne-eqb _ _ (c .before .before .if1 .left), ← (c .before .same-leb .ensures), not-true (c .before .same-leb .result) (c .if2 .taken))
 
-sequence-requires : tie.Need-sequence-requires
-sequence-requires c κs = search needs
+header-field-requires : tie.Need-header-field-requires
+header-field-requires c κs = search needs
 
-sequence-requires-2 : tie.Need-sequence-requires-2
-sequence-requires-2 c κs = search needs
+header-field-requires-2 : tie.Need-header-field-requires-2
+header-field-requires-2 c κs = search needs
 
 returns-3 : tie.Need-returns-3
 returns-3 c =
@@ -38,8 +38,8 @@ returns-3 c =
       ne-eqb _ _ (c .before .before .before .before .if1 .left),
       ← (c .before .before .before .same-leb .ensures),
       not-false (c .before .before .before .same-leb .result) (c .before .before .if2 .left),
-      ← (c .before .sequence .ensures),
-      ← (c .sequence2 .ensures),
+      ← (c .before .header-field .ensures),
+      ← (c .header-field2 .ensures),
     )
 
 pub is-repeat-spec : {M : Type 1} → statement M
@@ -52,6 +52,6 @@ is-repeat-spec =
     returns
     same-leb-requires
     returns-2
-    sequence-requires
-    sequence-requires-2
+    header-field-requires
+    header-field-requires-2
     returns-3)

@@ -8,7 +8,7 @@ use Rattle.volumes.proofs.entries.fault_at.Statement.{statement}
 use Rattle.volumes.proofs.entries.fault_at.Tie as tie
 use Rattle.volumes.proofs.entries.fault_at.Reads as reads
 use Rattle.volumes.proofs.entries.fault_at.Lts as lts
-use Rattle.volumes.proofs.copy.entry_faulty.Reads as entry-faulty-reads
+use Rattle.volumes.proofs.entries.entry_faulty.Reads as entry-faulty-reads
 
 mul-if1 : tie.Need-mul-if1
 mul-if1 c = search needs

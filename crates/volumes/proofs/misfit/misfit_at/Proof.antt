@@ -2,13 +2,14 @@
 use Prim.Native.Nat.{_-_, _+_, _*_}
 use native.Mathlib.Omega.{arith}
 use borrow.Author.Needs.{needs}
-use Rattle.volumes.specs.Sorted.{headerAt, pebWord, misfitBy}
+use Rattle.copies.specs.InPlace.{headerAt}
+use Rattle.volumes.specs.Sorted.{pebWord, misfitBy}
 use Rattle.volumes.proofs.Passes.{of-other, of-this}
 use Rattle.volumes.proofs.misfit.misfit_at.Statement.{statement}
 use Rattle.volumes.proofs.misfit.misfit_at.Tie as tie
 use Rattle.volumes.proofs.misfit.misfit_at.Reads as reads
 use Rattle.volumes.proofs.misfit.misfit_at.Lts as lts
-use Rattle.volumes.proofs.copy.used_lebs.Reads as used-lebs-reads
+use Rattle.copies.proofs.header_field.Reads as header-field-reads
 use Rattle.volumes.proofs.misfit.misfits.Reads as misfits-reads
 
 mul-if1 : tie.Need-mul-if1
@@ -25,23 +26,25 @@ returns c =
     let a = c .before .before .before .before .args in
     of-other (a .map .now) (a .v) (a .k) (misfitBy (a .r) (headerAt (a .g) (a .image .now) (pebWord (a .map .now) (a .first)) .«used_lebs») (headerAt (a .g) (a .image .now) (pebWord (a .map .now) (a .k)))) (c .if1 .taken)
 
-mul-used-lebs : tie.Need-mul-used-lebs
-mul-used-lebs c = search needs
+mul-header-field : tie.Need-mul-header-field
+mul-header-field c = search needs
 
-add-used-lebs : tie.Need-add-used-lebs
-add-used-lebs c = search needs
+add-header-field : tie.Need-add-header-field
+add-header-field c = search needs
 
-mul-used-lebs-2 : tie.Need-mul-used-lebs-2
-mul-used-lebs-2 c = search needs
+mul-header-field-2 : tie.Need-mul-header-field-2
+mul-header-field-2 c = search needs
 
-shared-slice-read-used-lebs : tie.Need-shared-slice-read-used-lebs
-shared-slice-read-used-lebs c = search needs
+shared-slice-read-header-field : tie.Need-shared-slice-read-header-field
+shared-slice-read-header-field c = search needs
 
-cast-used-lebs : tie.Need-cast-used-lebs
-cast-used-lebs c = omega (arith, c .shared-slice-known4 .given (c .before .before .before .before .before .args .first * 3 + 2))
+cast-header-field : tie.Need-cast-header-field
+cast-header-field c = omega (arith, c .shared-slice-known4 .given (c .before .before .before .before .before .args .first * 3 + 2))
 
-used-lebs-requires : tie.Need-used-lebs-requires
-used-lebs-requires c κs = c .before .before .before .before .before .pre .0 .mapped (c .before .before .before .before .before .args .first) (c .before .before .before .before .before .pre .1 .0)
+header-field-requires : tie.Need-header-field-requires
+header-field-requires c κs =
+    let m = c .before .before .before .before .before .pre .0 .mapped (c .before .before .before .before .before .args .first) (c .before .before .before .before .before .pre .1 .0) in
+    (m .placed, (m .bytes, (omega arith, omega arith)))
 
 mul-misfits : tie.Need-mul-misfits
 mul-misfits c = search needs
@@ -64,7 +67,7 @@ misfits-requires c κs = c .before .before .before .before .before .before .befo
 returns-2 : tie.Need-returns-2
 returns-2 c =
     let a = c .before .before .before .before .before .before .before .before .args in
-    of-this (a .map .now) (a .v) (a .k) (misfitBy (a .r) (headerAt (a .g) (a .image .now) (pebWord (a .map .now) (a .first)) .«used_lebs») (headerAt (a .g) (a .image .now) (pebWord (a .map .now) (a .k)))) (c .before .before .before .before .if1 .left) (rw (c .before .before .used-lebs .ensures) at (c .misfits .ensures))
+    of-this (a .map .now) (a .v) (a .k) (misfitBy (a .r) (headerAt (a .g) (a .image .now) (pebWord (a .map .now) (a .first)) .«used_lebs») (headerAt (a .g) (a .image .now) (pebWord (a .map .now) (a .k)))) (c .before .before .before .before .if1 .left) (rw (c .before .before .header-field .ensures) at (c .misfits .ensures))
 
 pub misfit-at-spec : {M : Type 1} → statement M
 misfit-at-spec =
@@ -74,12 +77,12 @@ misfit-at-spec =
     mul-if1-2
     shared-slice-read-if1
     returns
-    mul-used-lebs
-    add-used-lebs
-    mul-used-lebs-2
-    shared-slice-read-used-lebs
-    cast-used-lebs
-    used-lebs-requires
+    mul-header-field
+    add-header-field
+    mul-header-field-2
+    shared-slice-read-header-field
+    cast-header-field
+    header-field-requires
     mul-misfits
     add-misfits
     mul-misfits-2

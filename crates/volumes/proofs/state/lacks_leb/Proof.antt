@@ -7,7 +7,7 @@ use Rattle.volumes.proofs.state.lacks_leb.Statement.{statement}
 use Rattle.volumes.proofs.state.lacks_leb.Tie as tie
 use Rattle.volumes.proofs.state.lacks_leb.Reads as reads
 use Rattle.volumes.proofs.state.lacks_leb.Lts as lts
-use Rattle.volumes.proofs.copy.used_lebs.Reads as used-lebs-reads
+use Rattle.copies.proofs.header_field.Reads as header-field-reads
 use Rattle.volumes.proofs.entries.entries_of.Reads as entries-of-reads
 use Rattle.volumes.proofs.entries.first_of.Reads as first-of-reads
 
@@ -22,29 +22,30 @@ returns c =
 entries-of-requires : tie.Need-entries-of-requires
 entries-of-requires c κs = search needs
 
-mul-used-lebs : tie.Need-mul-used-lebs
-mul-used-lebs c = search needs
+mul-header-field : tie.Need-mul-header-field
+mul-header-field c = search needs
 
-add-used-lebs : tie.Need-add-used-lebs
-add-used-lebs c = search needs
+add-header-field : tie.Need-add-header-field
+add-header-field c = search needs
 
-mul-used-lebs-2 : tie.Need-mul-used-lebs-2
-mul-used-lebs-2 c = search needs
+mul-header-field-2 : tie.Need-mul-header-field-2
+mul-header-field-2 c = search needs
 
-shared-slice-read-used-lebs : tie.Need-shared-slice-read-used-lebs
-shared-slice-read-used-lebs c = search needs
+shared-slice-read-header-field : tie.Need-shared-slice-read-header-field
+shared-slice-read-header-field c = search needs
 
-cast-used-lebs : tie.Need-cast-used-lebs
-cast-used-lebs c = omega (arith, c .shared-slice-known3 .given (c .before .before .before .first-of .result * 3 + 2))
+cast-header-field : tie.Need-cast-header-field
+cast-header-field c = omega (arith, c .shared-slice-known3 .given (c .before .before .before .first-of .result * 3 + 2))
 
-used-lebs-requires : tie.Need-used-lebs-requires
-used-lebs-requires c κs =
-    c .before .before .before .before .before .before .pre .mapped (c .before .before .before .first-of .result) (not-last (c .before .before .before .first-of .ensures .within) (c .before .before .if1 .left))
+header-field-requires : tie.Need-header-field-requires
+header-field-requires c κs =
+    let m = c .before .before .before .before .before .before .pre .mapped (c .before .before .before .first-of .result) (not-last (c .before .before .before .first-of .ensures .within) (c .before .before .if1 .left)) in
+    (m .placed, (m .bytes, (omega arith, omega arith)))
 
 returns-2 : tie.Need-returns-2
 returns-2 c =
     let a = c .before .before .before .before .before .before .before .args in
-    lacks-some (a .g) (a .image .now) (a .map .now) (a .count) (a .v) (c .before .before .before .before .first-of .result) (c .before .before .before .before .first-of .ensures) (c .before .before .before .if1 .left) (c .before .before .entries-of .ensures) (c .used-lebs .ensures)
+    lacks-some (a .g) (a .image .now) (a .map .now) (a .count) (a .v) (c .before .before .before .before .first-of .result) (c .before .before .before .before .first-of .ensures) (c .before .before .before .if1 .left) (c .before .before .entries-of .ensures) (c .header-field .ensures)
 
 pub lacks-leb-spec : {M : Type 1} → statement M
 lacks-leb-spec =
@@ -53,10 +54,10 @@ lacks-leb-spec =
     first-of-requires
     returns
     entries-of-requires
-    mul-used-lebs
-    add-used-lebs
-    mul-used-lebs-2
-    shared-slice-read-used-lebs
-    cast-used-lebs
-    used-lebs-requires
+    mul-header-field
+    add-header-field
+    mul-header-field-2
+    shared-slice-read-header-field
+    cast-header-field
+    header-field-requires
     returns-2)

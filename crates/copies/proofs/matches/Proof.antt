@@ -1,15 +1,14 @@
--- `volumes::copy::matches` meets its contract. Assumes nothing.
+-- `copies::matches` meets its contract. Assumes nothing.
 use mathlib.Core.Path.{refl}
-use Prim.Native.Nat.{_-_}
 use native.Mathlib.Omega.{arith}
 use borrow.Author.Needs.{needs}
-use Rattle.volumes.proofs.Copies.{size-within, matches-run}
-use Rattle.volumes.proofs.copy.matches.Statement.{statement}
-use Rattle.volumes.proofs.copy.matches.Tie as tie
-use Rattle.volumes.proofs.copy.matches.Reads as reads
-use Rattle.volumes.proofs.copy.matches.Lts as lts
+use Rattle.copies.proofs.Copies.{size-within, matches-run}
+use Rattle.copies.proofs.matches.Statement.{statement}
+use Rattle.copies.proofs.matches.Tie as tie
+use Rattle.copies.proofs.matches.Reads as reads
+use Rattle.copies.proofs.matches.Lts as lts
 use Rattle.crc32.proofs.crc32.Reads as crc32-reads
-use Rattle.volumes.proofs.copy.header_field.Reads as header-field-reads
+use Rattle.copies.proofs.header_field.Reads as header-field-reads
 
 header-field-requires : tie.Need-header-field-requires
 header-field-requires c κs = search needs
@@ -27,7 +26,7 @@ add-at : tie.Need-add-at
 add-at c = search needs
 
 add-crc32 : tie.Need-add-crc32
-add-crc32 c = search needs
+add-crc32 c = omega (arith, size-within (c .before .before .before .before .pre) (c .before .before .header-field .ensures))
 
 sub-crc32 : tie.Need-sub-crc32
 sub-crc32 c = search needs
@@ -38,8 +37,7 @@ part-crc32-start c = search needs
 part-crc32-end : tie.Need-part-crc32-end
 part-crc32-end c =
     let d = c .before .before .before .before in
-    let h = c .before .before .header-field .ensures .0 in
-    omega (arith, size-within (d .args .g) (d .args .image .now) (d .args .i) (d .pre), d .pre .placed .leb-fills)
+    omega (arith, size-within (d .pre) (c .before .before .header-field .ensures))
 
 crc32-requires : tie.Need-crc32-requires
 crc32-requires c κs = search needs
@@ -52,8 +50,8 @@ header-field-requires-2 c κs = search needs
 
 returns : tie.Need-returns
 returns c =
-    let d = c .before .before .before .before .before .before .before in
-    matches-run (d .args .g) (d .args .image .now) (d .args .i) (d .pre) (c .before .before .before .before .before .header-field .ensures .0) refl (c .before .crc32 .ensures) (c .header-field2 .ensures .0)
+    let d = c .before .before .before .before .before in
+    matches-run (d .before .before .pre) _ refl (d .header-field .ensures) (c .before .crc32 .ensures) (c .header-field2 .ensures)
 
 pub matches-spec : {M : Type 1} → statement M
 matches-spec =

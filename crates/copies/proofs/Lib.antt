@@ -1,0 +1,2 @@
+-- The laws that proofs here and above cite. Assumes nothing.
+pub mod Copies
