@@ -8,6 +8,7 @@ ghost use Rattle.report.specs.Report.{noWord};
 ghost use Rattle.choice.specs.Keyed.{volumeWord, sameLeb};
 ghost use Rattle.choice.specs.Chain.{linkWord, bucketOf, bucketAt, Linked, Chained, Chains};
 use crate::repeat::same_leb;
+use report::NO_WORD;
 
 // The bucket of a volume's LEB: one of 2,048.
 fn bucket(volume: u32, leb: u32) -> usize
@@ -38,7 +39,7 @@ fn link_peb(map: &mut [u32], heads: &mut [u32], n: usize, i: usize)
     requires { ⌜ (i < n) × Chained n i (now map) (now heads) ⌝ }
     ensures { λ _. ⌜ Chains n (i + 1) (now (map .entry)) (now (map .exit)) (now (heads .entry)) (now (heads .exit)) ⌝ }
 {
-    if map[i * 3] == 0xFFFFFFFF {
+    if map[i * 3] == NO_WORD {
         return;
     }
     let b = bucket(map[i * 3], map[i * 3 + 1]);

@@ -10,6 +10,7 @@ use crate::chain::link;
 use copies::header_field;
 use geometry::Geometry;
 use header::VID_SEQUENCE;
+use report::NO_WORD;
 
 // The lowest PEB that repeats the volume, LEB and sequence of a lower one; n if there is none. Only the lower PEBs of its bucket can
 // have its LEB.
@@ -38,7 +39,7 @@ fn is_repeat(image: &[u8], g: Geometry, map: &[u32], i: usize, j: usize) -> bool
     requires { ⌜ (Within g (now image) (now map) i) × (Within g (now image) (now map) j) ⌝ }
     ensures { λ r. ⌜ r ≡ repeatsAt g (now (image .entry)) (now (map .entry)) i j ⌝ }
 {
-    if map[i * 3] == 0xFFFFFFFF {
+    if map[i * 3] == NO_WORD {
         return false;
     }
     if !same_leb(map, i, j) {

@@ -16,6 +16,7 @@ use copies::header_field;
 use geometry::Geometry;
 use header::STATIC;
 use header::VID_USED_LEBS;
+use report::state;
 
 // Are the data CRCs of a volume asked: is it static, with the skip flag clear?
 fn asks_crc(r: Kept) -> bool
@@ -55,21 +56,21 @@ fn volume_state(
 {
     let r = kept(t, g.leb_size, v as usize);
     if r.reserved == 0 {
-        return 0;
+        return state::ABSENT;
     }
     if r.marker == 1 {
-        return 2;
+        return state::UPDATING;
     }
     if any_faulty(image, g, map, count, v, asks_crc(r)) {
-        return 3;
+        return state::DAMAGED;
     }
     if r.vol_type != STATIC {
-        return 1;
+        return state::GOOD;
     }
     if lacks_leb(image, g, map, count, v) {
-        return 3;
+        return state::DAMAGED;
     }
-    1
+    state::GOOD
 }
 
 // The states of all volumes.
