@@ -18,7 +18,7 @@ use Rattle.crc32.specs.Crc.{crcOf}
 use Rattle.crc32.proofs.Laws.{crcOf-lt}
 use Rattle.header.specs.declared.EcHeader.{EcHeader}
 use Rattle.header.specs.declared.VidHeader.{VidHeader}
-use Rattle.header.specs.Fields.{fieldOf, fieldAt, crcMatches, Verdict, good, bad, newer, byVersion, isGood, headerBytes, headerWritten}
+use Rattle.header.specs.Fields.{fieldOf, fieldAt, crcMatches, Verdict, good, bad, newer, byVersion, isGood, verdictAnswer, headerBytes, headerWritten}
 use Rattle.header.specs.Ec.{ecMagic, ecFields, ecRules, judgeEc, readEc, ecRead, ecHead, ecBytes, ecWritten, ecOut, EcFits, EcPadded}
 use Rattle.header.specs.Vid.{vidMagic, vidFields, vidRules, judgeVid, readVid, vidRead, vidHead, vidBytes, vidWritten, vidOut, VidFits, VidPadded}
 
@@ -123,7 +123,7 @@ pub ec-written-read : (h : EcHeader) (out : List ℕ) → EcFits h → ecWritten
 unfolding ecWritten ecOut ecRead
 ec-written-read h out f e =
     let p = accepted (judgeEc h) out e in
-    rw (p .0, p .1, ec-long h (drop 64 out), ec-judged h (drop 64 out) f) (ap given (ec-good-is h (p .1)))
+    rw (p .0, p .1, ec-long h (drop 64 out), ec-judged h (drop 64 out) f) (ap verdictAnswer (ec-good-is h (p .1)))
 
 module _ (h : EcHeader) (l : List ℕ) (b : Bytes l) (long : 64 ≤ length l) (r : readEc l ≡ good h) where
   ec-tests : (eqs (part 0 4 l) ecMagic && crcMatches l ≡ true) × (judgeEc (ecFields l) ≡ good h)
@@ -222,7 +222,7 @@ pub vid-written-read : (size : ℕ) → (h : VidHeader) (out : List ℕ) → Vid
 unfolding vidWritten vidOut vidRead
 vid-written-read size h out f e =
     let p = accepted (judgeVid size h) out e in
-    rw (p .0, p .1, vid-long h (drop 64 out), vid-judged h (drop 64 out) size f) (ap given (vid-good-is size h (p .1)))
+    rw (p .0, p .1, vid-long h (drop 64 out), vid-judged h (drop 64 out) size f) (ap verdictAnswer (vid-good-is size h (p .1)))
 
 module _ (size : ℕ) (h : VidHeader) (l : List ℕ) (b : Bytes l) (long : 64 ≤ length l) (r : readVid size l ≡ good h) where
   vid-tests : (eqs (part 0 4 l) vidMagic && crcMatches l ≡ true) × (judgeVid size (vidFields l) ≡ good h)
