@@ -1,6 +1,6 @@
 -- Laws of the stages of attaching before the table is taken. Assumes nothing.
 use mathlib.Core.Path.{_≡_, refl, sym, ap, ap₂, _∙_}
-use mathlib.Core.Bool.{Bool, true, false, _&&_, cond}
+use mathlib.Core.Bool.{Bool, true, false, _&&_}
 use mathlib.Core.Option.{Option, none, some}
 use mathlib.Core.List.{List, [], _∷_, _++_}
 use Prim.Native.Nat.{ℕ, zero, suc, _+_, _*_, _-_, _%_, _≤_, _<_}
@@ -15,9 +15,9 @@ use Rattle.base.proofs.Answers.{each-holds}
 use Rattle.geometry.specs.declared.Geometry.{Geometry}
 use Rattle.geometry.specs.Placed.{Placed}
 use Rattle.header.specs.Vid.{layoutVolume}
-use Rattle.volume_table.specs.Table.{recordsPart, tableGood, takenLeb, takenRecords, copiesMark, takenNumber}
+use Rattle.volume_table.specs.Table.{takenLeb, takenRecords, recordsTaken, copiesMark, takenNumber}
 use Rattle.volume_table.specs.declared.Taken.{Taken}
-use Rattle.volume_table.specs.declared.Taken.the-variants.{First, Second, Neither}
+use Rattle.volume_table.specs.declared.Taken.the-variants.{Leb, Neither}
 use Rattle.report.specs.View.{Views, viewsOf, copies}
 use Rattle.report.specs.Scan.{Refusal, refusal10}
 use Rattle.report.specs.Choice.{refusal9}
@@ -45,6 +45,7 @@ use Rattle.geometry.specs.Slip.{slipGeometry}
 use Rattle.report.specs.declared.Attached.the-variants.{Refused}
 use Rattle.report.specs.Scratch.{keyWords, keysOf, markedWords}
 use Rattle.report.specs.declared.Attached.{Attached}
+use Rattle.volume_table.proofs.Tables.{taken-records}
 use Rattle.report.proofs.Tables.{entries-fit}
 use Rattle.scan.specs.declared.Sums.{Sums}
 use Rattle.scan.specs.declared.Passage.{Passage}
@@ -60,25 +61,6 @@ use Rattle.attach.proofs.Reports.{refused-ended}
 use Rattle.attach.proofs.Layouts.{layout-small}
 
 -- ---- the table taken
-
-module _ (size unit pebs : ℕ) (c0 c1 : List ℕ) where
-  first-records : takenLeb size unit pebs c0 c1 ≡ given 0 → takenRecords size unit pebs c0 c1 ≡ recordsPart size c0
-  unfolding takenLeb takenRecords
-  first-records e = go (tableGood size unit pebs c0) (tableGood size unit pebs c1) e
-    where
-      go : (a b : Bool) → _≡_ {A = Answer ℕ} (cond a (given 0) (cond b (given 1) (refused 11 0))) (given 0) → cond a (recordsPart size c0) (cond b (recordsPart size c1) []) ≡ recordsPart size c0
-      go true b e = refl
-      go false true e = absurd (let z : _≡_ {A = ℕ} 0 1 = cc in omega arith)
-      go false false e = absurd (let z : _≡_ {A = ℕ} 0 1 = cc in omega arith)
-
-  second-records : takenLeb size unit pebs c0 c1 ≡ given 1 → takenRecords size unit pebs c0 c1 ≡ recordsPart size c1
-  unfolding takenLeb takenRecords
-  second-records e = go (tableGood size unit pebs c0) (tableGood size unit pebs c1) e
-    where
-      go : (a b : Bool) → _≡_ {A = Answer ℕ} (cond a (given 0) (cond b (given 1) (refused 11 0))) (given 1) → cond a (recordsPart size c0) (cond b (recordsPart size c1) []) ≡ recordsPart size c1
-      go true b e = absurd (let z : _≡_ {A = ℕ} 0 1 = cc in omega arith)
-      go false true e = refl
-      go false false e = absurd (let z : _≡_ {A = ℕ} 0 1 = cc in omega arith)
 
 module _ {g : Geometry} {image : List ℕ} {n : ℕ} {s : Sums} {pebs map states : List ℕ} (p : Past10 g image n s pebs map states) where
   abbrev vs : Views
@@ -100,17 +82,14 @@ module _ {g : Geometry} {image : List ℕ} {n : ℕ} {s : Sums} {pebs map states
       unfolding tableMark
       mark-as = em ∙ ap₂ (copiesMark (g .«leb_size») (g .unit) n) e0 e1
 
-      pub first-past : {t : List ℕ} → k ≡ First → t ≡ recordsPart (g .«leb_size») c0 → Past11 g image n s t 0 m pebs map states
+      pub table-past : {l : ℕ} {t : List ℕ} → k ≡ Leb l → t ≡ recordsTaken (g .«leb_size») (given l) c0 c1 → Past11 g image n s t l m pebs map states
       unfolding tableLeb tableRecords
-      first-past kf q =
-          let z : takenLeb (g .«leb_size») (g .unit) n part0 part1 ≡ given 0 = sym taken-as ∙ ap takenNumber kf in
-          record { past10 = p; table-is = q ∙ ap (recordsPart (g .«leb_size»)) e0 ∙ sym (first-records (g .«leb_size») (g .unit) n part0 part1 z); taken-is = z; mark-is = mark-as }
-
-      pub second-past : {t : List ℕ} → k ≡ Second → t ≡ recordsPart (g .«leb_size») c1 → Past11 g image n s t 1 m pebs map states
-      unfolding tableLeb tableRecords
-      second-past kf q =
-          let z : takenLeb (g .«leb_size») (g .unit) n part0 part1 ≡ given 1 = sym taken-as ∙ ap takenNumber kf in
-          record { past10 = p; table-is = q ∙ ap (recordsPart (g .«leb_size»)) e1 ∙ sym (second-records (g .«leb_size») (g .unit) n part0 part1 z); taken-is = z; mark-is = mark-as }
+      table-past kf q = record {
+        past10 = p;
+        table-is = q ∙ taken-records (g .«leb_size») (g .unit) n c0 c1 (sym (ap takenNumber kf) ∙ e) ∙ ap₂ (takenRecords (g .«leb_size») (g .unit) n) e0 e1;
+        taken-is = sym taken-as ∙ ap takenNumber kf;
+        mark-is = mark-as;
+      }
 
     pub no-table : k ≡ Neither → refusal g n vs ≡ some (record { number = 11; place = 0 })
     no-table kf =

@@ -33,19 +33,23 @@ fn attach_chosen(
     let copy0 = layout::layout_content(image, g, n, pebs, map, 0);
     let copy1 = layout::layout_content(image, g, n, pebs, map, 1);
     let choice = volume_table::choose_table(copy0, copy1, g.leb_size, g.unit, n as u32);
-    let mark = choice.copies_mark;
     let taken = choice.taken;
-    match taken {
-        Taken::First => {
-            let t = volume_table::records_part(copy0, g.leb_size);
-            return summary::report_on(image, g, n, sums, t, 0, mark, pebs, map, states);
-        }
-        Taken::Second => {
-            let t = volume_table::records_part(copy1, g.leb_size);
-            return summary::report_on(image, g, n, sums, t, 1, mark, pebs, map, states);
-        }
-        Taken::Neither => return lent::refuse(11, 0, n, pebs, map, states),
-    }
+    let Taken::Leb(leb) = taken else {
+        return lent::refuse(11, 0, n, pebs, map, states);
+    };
+    let t = volume_table::taken_table(copy0, copy1, taken, g.leb_size);
+    summary::report_on(
+        image,
+        g,
+        n,
+        sums,
+        t,
+        leb,
+        choice.copies_mark,
+        pebs,
+        map,
+        states,
+    )
 }
 
 // From the first pass on: refusals 9 and 10, and the rest. Copies are linked while they are compared; `heads` has each bucket's highest PEB.

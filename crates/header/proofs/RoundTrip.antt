@@ -18,7 +18,7 @@ use Rattle.crc32.specs.Crc.{crcOf}
 use Rattle.crc32.proofs.Laws.{crcOf-lt}
 use Rattle.header.specs.declared.EcHeader.{EcHeader}
 use Rattle.header.specs.declared.VidHeader.{VidHeader}
-use Rattle.header.specs.Fields.{fieldOf, fieldAt, crcMatches, Verdict, good, bad, newer, byVersion, isGood, lentHeader, headerBytes, headerWritten, headerOut}
+use Rattle.header.specs.Fields.{fieldOf, fieldAt, crcMatches, Verdict, good, bad, newer, byVersion, isGood, verdictAnswer, lentHeader, headerBytes, headerWritten, headerOut}
 use Rattle.header.specs.Ec.{ecMagic, ecFields, ecRules, judgeEc, readEc, ecRead, ecHead, ecBytes, ecWritten, ecOut, EcFits, EcPadded}
 use Rattle.header.specs.Vid.{vidMagic, vidFields, vidRules, judgeVid, readVid, vidRead, vidHead, vidBytes, vidWritten, vidOut, VidFits, VidPadded}
 use Rattle.header.proofs.Writes.{ec-64, vid-64}
@@ -53,11 +53,16 @@ refused-not : {A : Type 0} {n : ℕ} {x : A} → refused n 0 ≡ given x → ⊥
 refused-not e = let z : _≡_ {A = ℕ} 0 1 = cc in omega arith
 
 module _ {A : Type 0} where
+  verdict-good : (v : Verdict A) {h : A} → verdictAnswer v ≡ given (good h) → v ≡ good h
+  verdict-good (good g) e = cc
+  verdict-good bad e = cc
+  verdict-good newer e = absurd (refused-not e)
+
   -- a header that was read as good
   lent-good : (v : Verdict A) (l : List ℕ) {h : A} → lentHeader v l ≡ given (good h) → (64 ≤ length l) × (v ≡ good h)
   lent-good v l e =
       let p = cond-no (ltb (length l) 64) refused-not e in
-      (ltb-false (length l) 64 (p .0), let q = p .1 in cc)
+      (ltb-false (length l) 64 (p .0), verdict-good v (p .1))
 
   module _ (v : Verdict A) (bytes out : List ℕ) where
     -- a good header is written to 64 bytes or more, and the others stay
@@ -145,7 +150,7 @@ pub ec-written-read : (h : EcHeader) (out : List ℕ) → EcFits h → ecWritten
 unfolding ecWritten ecOut ecRead
 ec-written-read h out f e s same =
     rw (begins-with (judgeEc h) (ecBytes h) out (ec-64 h) e s same, ec-long h (drop 64 s), ec-judged h (drop 64 s) f)
-    (ap given (ec-good-is h (wrote (judgeEc h) (ecBytes h) out e .0)))
+    (ap verdictAnswer (ec-good-is h (wrote (judgeEc h) (ecBytes h) out e .0)))
 
 module _ (h : EcHeader) (l : List ℕ) (b : Bytes l) (long : 64 ≤ length l) (r : readEc l ≡ good h) where
   ec-tests : (eqs (part 0 4 l) ecMagic && crcMatches l ≡ true) × (judgeEc (ecFields l) ≡ good h)
@@ -256,7 +261,7 @@ pub vid-written-read : (size : ℕ) (h : VidHeader) (out : List ℕ) → VidFits
 unfolding vidWritten vidOut vidRead
 vid-written-read size h out f e s same =
     rw (begins-with (judgeVid size h) (vidBytes h) out (vid-64 h) e s same, vid-long h (drop 64 s), vid-judged h (drop 64 s) size f)
-    (ap given (vid-good-is size h (wrote (judgeVid size h) (vidBytes h) out e .0)))
+    (ap verdictAnswer (vid-good-is size h (wrote (judgeVid size h) (vidBytes h) out e .0)))
 
 module _ (size : ℕ) (h : VidHeader) (l : List ℕ) (b : Bytes l) (long : 64 ≤ length l) (r : readVid size l ≡ good h) where
   vid-tests : (eqs (part 0 4 l) vidMagic && crcMatches l ≡ true) × (judgeVid size (vidFields l) ≡ good h)

@@ -8,7 +8,7 @@ use lib.ListN.{replicate}
 use Rattle.base.specs.Answers.{Answer, given, refused}
 use Rattle.base.specs.Lists.{part}
 use Rattle.field.specs.Be.{toBe}
-use Rattle.header.specs.Fields.{ecVersion, ecCounter, ecVidStart, ecDataStart, ecImageSeq, fieldAt, Verdict, good, bad, newer, judged, readHeader, lentHeader, headerBytes, headerWritten, headerOut}
+use Rattle.header.specs.Fields.{ecVersion, ecCounter, ecVidStart, ecDataStart, ecImageSeq, fieldAt, Verdict, good, bad, judged, readHeader, lentHeader, headerBytes, headerWritten, headerOut}
 use Rattle.header.specs.declared.EcHeader.{EcHeader}
 use Rattle.header.specs.declared.EcRead.{EcRead}
 use Rattle.header.specs.declared.EcRead.the-variants.{Good, Lost, Newer, Short}
@@ -45,7 +45,7 @@ ecRead s = lentHeader (readEc s) s
 abbrev pub ecAnswer : EcRead → Answer (Verdict EcHeader)
 ecAnswer (Good h) = given (good h)
 ecAnswer Lost = given bad
-ecAnswer Newer = given newer
+ecAnswer Newer = refused 5 0
 ecAnswer Short = refused 4 0
 
 -- bytes 0-59 as they are written: "magic `UBI#` 0-3, version 4, zero 5-7, counter 8-15, VID start 16-19, data start 20-23, image sequence

@@ -115,9 +115,15 @@ module _ {A : Type 0} where
   abbrev pub readHeader : List ℕ → (List ℕ → Verdict A) → List ℕ → Verdict A
   readHeader magic judge s = cond (eqs (part 0 4 s) magic && crcMatches s) (judge s) bad
 
+  -- a verdict as an answer: a newer header is refusal 5, "header version above 1"; its place, the PEB, is known to attaching alone
+  abbrev pub verdictAnswer : Verdict A → Answer (Verdict A)
+  verdictAnswer (good h) = given (good h)
+  verdictAnswer bad = given bad
+  verdictAnswer newer = refused 5 0
+
   -- refusal 4 where fewer than 64 bytes are lent
   abbrev pub lentHeader : Verdict A → List ℕ → Answer (Verdict A)
-  lentHeader v s = cond (ltb (length s) 64) (refused 4 0) (given v)
+  lentHeader v s = cond (ltb (length s) 64) (refused 4 0) (verdictAnswer v)
 
   -- refusal 4, then 19: "reader would call the header lost, bad or newer"; that the reader calls a written header what its fields
   -- make it, good or not, is `ec-judged` and `vid-judged` of proofs/RoundTrip.antt

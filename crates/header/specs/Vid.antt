@@ -25,7 +25,6 @@ use Rattle.header.specs.Fields.{
   Verdict,
   good,
   bad,
-  newer,
   judged,
   readHeader,
   lentHeader,
@@ -131,7 +130,7 @@ vidRead size s = lentHeader (readVid size s) s
 abbrev pub vidAnswer : VidRead → Answer (Verdict VidHeader)
 vidAnswer (Good h) = given (good h)
 vidAnswer Bad = given bad
-vidAnswer Newer = given newer
+vidAnswer Newer = refused 5 0
 vidAnswer Short = refused 4 0
 
 -- bytes 0-59 as they are written: "magic `UBI!` 0-3, version 4, type 5, copy flag 6, compatibility 7, volume 8-11, LEB 12-15, zero 16-19,

@@ -2,8 +2,7 @@
 ghost use mathlib.Core.Path.{_≡_};
 ghost use Prim.Native.Nat.{_≤_};
 ghost use lib.ListN.{length};
-ghost use Rattle.base.specs.Answers.{given};
-ghost use Rattle.header.specs.Fields.{isGood, written};
+ghost use Rattle.header.specs.Fields.{isGood, written, verdictAnswer};
 ghost use Rattle.header.specs.Ec.{ecFields, judgeEc, ecRead, ecAnswer, ecWritten, ecOut};
 ghost use Rattle.header.specs.Stores.{ecStored};
 use crate::EcHeader;
@@ -36,7 +35,7 @@ fn ec_fields(s: &[u8]) -> EcHeader
 
 // What the fields of a header with magic and CRC right make it.
 fn judge_ec(h: EcHeader) -> EcRead
-    ensures { λ r. ⌜ ecAnswer r ≡ given (judgeEc h) ⌝ }
+    ensures { λ r. ⌜ ecAnswer r ≡ verdictAnswer (judgeEc h) ⌝ }
 {
     if h.version == 0 {
         return EcRead::Lost;

@@ -52,7 +52,7 @@ pub struct EcHeader {
     pub image_seq: u32,
 }
 
-// What a block's EC header is; Newer has a version above 1, Short is refusal 4.
+// What a block's EC header is; Newer is refusal 5, Short refusal 4.
 pub enum EcRead {
     Good(EcHeader),
     Lost,
@@ -74,7 +74,7 @@ pub struct VidHeader {
     pub sequence: u64,
 }
 
-// What a block's VID header is; Newer has a version above 1, Short is refusal 4.
+// What a block's VID header is; Newer is refusal 5, Short refusal 4.
 pub enum VidRead {
     Good(VidHeader),
     Bad,

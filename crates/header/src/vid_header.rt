@@ -2,8 +2,7 @@
 ghost use mathlib.Core.Path.{_≡_};
 ghost use Prim.Native.Nat.{_≤_};
 ghost use lib.ListN.{length};
-ghost use Rattle.base.specs.Answers.{given};
-ghost use Rattle.header.specs.Fields.{isGood, written};
+ghost use Rattle.header.specs.Fields.{isGood, written, verdictAnswer};
 ghost use Rattle.header.specs.Vid.{vidFields, IsVidField, vidField, judgeVid, vidRead, vidAnswer, vidWritten, vidOut};
 ghost use Rattle.header.specs.Stores.{kindStored, placeStored, dataStored};
 use crate::VidHeader;
@@ -57,7 +56,7 @@ pub fn vid_field(header: &[u8], i: usize) -> u64
 
 // What the fields of a header with magic and CRC right make it.
 fn judge_vid(h: VidHeader, leb_size: u32) -> VidRead
-    ensures { λ r. ⌜ vidAnswer r ≡ given (judgeVid «leb_size» h) ⌝ }
+    ensures { λ r. ⌜ vidAnswer r ≡ verdictAnswer (judgeVid «leb_size» h) ⌝ }
 {
     if h.version == 0 {
         return VidRead::Bad;

@@ -10,10 +10,10 @@ use borrow.Author.Tests.{eq-eqb, ne-eqb, eqb-true, le-ltb}
 use lib.Dec.{eqb, ltb}
 use lib.ListN.{length, drop, getD, set}
 use lib.Seq.{drop-cons, drop-length}
-use Rattle.base.specs.Answers.{given, refused}
+use Rattle.base.specs.Answers.{Answer, given, refused}
 use Rattle.base.specs.Lists.{part, put, eqs}
 use Rattle.base.proofs.Answers.{and-left}
-use Rattle.header.specs.Fields.{Verdict, good, bad, newer}
+use Rattle.header.specs.Fields.{Verdict, good, bad, newer, verdictAnswer, lentHeader}
 use Rattle.header.specs.Ec.{readEc, ecRead}
 use Rattle.header.specs.Vid.{readVid, vidRead}
 use Rattle.header.specs.declared.EcHeader.{EcHeader}
@@ -79,17 +79,30 @@ module _ {A T : Type 0} (s : List ℕ) (v : Verdict A) (ff : allFF s ≡ true �
   seen-bad e = rw e
 
 -- an answer about 64 bytes gives the verdict
-module _ {A : Type 0} (s : List ℕ) (v w : Verdict A) (l : length s ≡ 64) where
-  pub verdict-is : given w ≡ cond (ltb (length s) 64) (refused 4 0) (given v) → v ≡ w
-  verdict-is e =
-      let z : 64 ≤ length s = omega arith in
-      let q : given w ≡ given v = rw (le-ltb (length s) 64 z) at e in cc
+module _ {A : Type 0} where
+  abbrev verdictOf : Answer (Verdict A) → Verdict A
+  verdictOf (given v) = v
+  verdictOf (refused _ _) = newer
 
-  pub not-short : refused 4 0 ≡ cond (ltb (length s) 64) (refused 4 0) (given v) → ⊥
-  not-short e =
-      let z : 64 ≤ length s = omega arith in
-      let q : refused 4 0 ≡ given v = rw (le-ltb (length s) 64 z) at e in
-      let y : _≡_ {A = ℕ} 0 1 = cc in omega arith
+  verdict-back : (v : Verdict A) → verdictOf (verdictAnswer v) ≡ v
+  verdict-back (good h) = refl
+  verdict-back bad = refl
+  verdict-back newer = refl
+
+  not-four : (v : Verdict A) → refused 4 0 ≡ verdictAnswer v → ⊥
+  not-four (good h) q = let y : _≡_ {A = ℕ} 0 1 = cc in omega arith
+  not-four bad q = let y : _≡_ {A = ℕ} 0 1 = cc in omega arith
+  not-four newer q = let y : _≡_ {A = ℕ} 4 5 = cc in omega arith
+
+  module _ (s : List ℕ) (v w : Verdict A) (l : length s ≡ 64) where
+    long : 64 ≤ length s
+    long = omega arith
+
+    pub verdict-is : verdictAnswer w ≡ lentHeader v s → v ≡ w
+    verdict-is e = sym (verdict-back v) ∙ ap verdictOf (sym (rw (le-ltb (length s) 64 long) at e)) ∙ verdict-back w
+
+    pub not-short : refused 4 0 ≡ lentHeader v s → ⊥
+    not-short e = not-four v (rw (le-ltb (length s) 64 long) at e)
 
 -- ---- what the reader answers about a header is what is seen of it
 
@@ -98,7 +111,7 @@ module _ (s : List ℕ) (l : length s ≡ 64) where
   unfolding ecRead
   ec-good h e = seen-good s (readEc s) (ff-ec s l) ecOf ecBlank h (verdict-is s (readEc s) (good h) l e)
 
-  pub ec-newer : given newer ≡ ecRead s → ecNewer ≡ cond (allFF s) ecBlank (ecOf (readEc s))
+  pub ec-newer : refused 5 0 ≡ ecRead s → ecNewer ≡ cond (allFF s) ecBlank (ecOf (readEc s))
   unfolding ecRead
   ec-newer e = seen-newer s (readEc s) (ff-ec s l) ecOf ecBlank (verdict-is s (readEc s) newer l e)
 
@@ -116,7 +129,7 @@ module _ (g : Geometry) (p s : List ℕ) (l : length s ≡ 64) where
   unfolding vidRead
   vid-good h e = seen-good s (readVid (g .«leb_size») s) (ff-vid (g .«leb_size») s l) (vidOf g p) vidBlank h (verdict-is s (readVid (g .«leb_size») s) (good h) l e)
 
-  pub vid-newer : given newer ≡ vidRead (g .«leb_size») s → vidNewer ≡ cond (allFF s) vidBlank (vidOf g p (readVid (g .«leb_size») s))
+  pub vid-newer : refused 5 0 ≡ vidRead (g .«leb_size») s → vidNewer ≡ cond (allFF s) vidBlank (vidOf g p (readVid (g .«leb_size») s))
   unfolding vidRead
   vid-newer e = seen-newer s (readVid (g .«leb_size») s) (ff-vid (g .«leb_size») s l) (vidOf g p) vidBlank (verdict-is s (readVid (g .«leb_size») s) newer l e)
 

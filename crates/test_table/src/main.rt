@@ -79,17 +79,21 @@ fn print_name(name: [u8; 128]) {
     frames::hex(&name);
 }
 
+fn print_leb(leb: u32) {
+    frames::word(b"taken");
+    frames::next_number(leb as u64);
+}
+
 fn print_tables<'a>(copy0: &'a [u8], copy1: &'a [u8], leb_size: u32, unit: u32, peb_count: u32) {
     let choice = volume_table::choose_table(copy0, copy1, leb_size, unit, peb_count);
     let taken = choice.taken;
     match taken {
-        Taken::First => frames::word(b"taken 0"),
-        Taken::Second => frames::word(b"taken 1"),
+        Taken::Leb(leb) => print_leb(leb),
         Taken::Neither => frames::word(b"taken 2"),
     }
     frames::word(b" mark");
     frames::next_number(choice.copies_mark as u64);
-    let records = volume_table::taken_table(copy0, copy1, leb_size, unit, peb_count);
+    let records = volume_table::taken_table(copy0, copy1, taken, leb_size);
     frames::word(b" records");
     frames::next_number(records.len() as u64);
     frames::next_number(crc32::crc32(records) as u64);

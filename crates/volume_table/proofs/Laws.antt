@@ -1,26 +1,22 @@
 -- Laws of lists and tests: what the proofs of this crate need beside those of base. Assumes nothing.
-use mathlib.Core.Path.{_≡_, refl, sym, ap, _∙_}
+use mathlib.Core.Path.{_≡_, refl, sym, _∙_}
 use mathlib.Core.Bool.{Bool, true, false, not}
-use mathlib.Core.List.{List, [], _∷_, append-nil}
+use mathlib.Core.List.{List, [], _∷_}
 use Prim.Native.Nat.{ℕ, zero, suc, _+_, _-_, _≤_, _<_}
-use native.Mathlib.Nat.{add-sub-cancel-left, zero-add}
+use native.Mathlib.Nat.{add-sub-cancel-left}
 use native.Mathlib.Numerals.{add-one}
 use native.Mathlib.Omega.{arith}
 use borrow.Author.Tests.{lt-ltb, le-ltb, not-true, not-false}
 use lib.Dec.{ltb}
 use lib.ListN.{length, take, drop}
-use lib.Seq.{drop-length, take-take, drop-drop}
+use lib.Seq.{take-take}
 use Rattle.base.specs.Below.{allBelow, anyBelow}
-use Rattle.base.specs.Lists.{part, put}
+use Rattle.base.specs.Lists.{part}
 use Rattle.base.proofs.Answers.{clash}
 use Rattle.base.proofs.Below.{all-at}
 use Rattle.base.proofs.Lists.{length-part}
 
 -- ---- parts of lists
-
--- a store over the whole list
-pub put-whole : (bs s : List ℕ) → length bs ≡ length s → put 0 bs s ≡ bs
-put-whole bs s e = rw (zero-add, e, drop-length, append-nil)
 
 -- a part that lies in the front
 pub part-take : (at n m : ℕ) (s : List ℕ) → at + n ≤ m → part at n (take m s) ≡ part at n s
@@ -28,17 +24,6 @@ part-take zero n m s h = take-take n m s (omega arith)
 part-take (suc at) n zero s h = absurd (omega arith)
 part-take (suc at) n (suc m) [] h = refl
 part-take (suc at) n (suc m) (x ∷ s) h = part-take at n m s (omega arith)
-
--- a part of a part
-pub part-part : (i n at m : ℕ) (s : List ℕ) → i + n ≤ m → part i n (part at m s) ≡ part (at + i) n s
-part-part i n at m s h = part-take i n m (drop at s) h ∙ rw (drop-drop i at s)
-
--- a front of a front, by its own length
-pub front : (l k : ℕ) (s : List ℕ) → take l (take k s) ≡ take (length (take l (take k s))) s
-front zero k s = refl
-front (suc l) zero s = refl
-front (suc l) (suc k) [] = refl
-front (suc l) (suc k) (x ∷ s) = ap (λ (t : List ℕ). x ∷ t) (front l k s)
 
 -- a part that is lent as `s[at..at + n]`
 pub lent-length : (at n : ℕ) (s : List ℕ) → at + n ≤ length s → length (take (at + n - at) (drop at s)) ≡ n

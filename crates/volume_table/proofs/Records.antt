@@ -1,20 +1,23 @@
 -- Laws of volume records. Assumes nothing.
 use mathlib.Core.Path.{_≡_, refl, sym, _∙_}
 use mathlib.Core.Bool.{Bool, true, false, not, _||_, and-true}
-use mathlib.Core.List.{List, _++_}
+use mathlib.Core.List.{List}
 use Prim.Native.Nat.{ℕ, _+_, _%_, _≤_, _<_}
 use native.Mathlib.Nat.{mod-zero}
 use native.Mathlib.Omega.{arith}
-use borrow.Author.Tests.{eq-eqb, ne-eqb, lt-ltb, le-ltb, le-leb}
+use borrow.Author.Tests.{eq-eqb, ne-eqb, lt-ltb, le-ltb, le-leb, leb-true}
 use lib.Bits.{bitAnd}
-use lib.Dec.{eqb, lit≤}
+use lib.Dec.{eqb, leb, lit≤}
 use lib.ListN.{length, take, getD, replicate}
 use Rattle.base.specs.Answers.{given, refused, allOf}
 use Rattle.base.specs.Below.{allBelow}
-use Rattle.base.specs.Lists.{part, eqs, put}
+use Rattle.base.specs.Lists.{eqs, put}
 use Rattle.base.proofs.Answers.{one-broken}
-use Rattle.field.specs.Be.{beOf, toBeOn, toBe}
+use Rattle.base.proofs.Lists.{every-entry}
+use Rattle.field.specs.Be.{toBeOn, toBe}
 use Rattle.crc32.specs.Crc.{crcOf}
+use Rattle.volume_table.specs.declared.Field.{Field}
+use Rattle.volume_table.specs.Fields.{recordFields, recordField, recordCrc, numberIn}
 use Rattle.volume_table.specs.Record.{nameEnds, recordRules, recordOf, recordCrcMatches, recordGood, emptyRecord, isEmpty, empty, good, bad, judgeRecord, shownRecord}
 use Rattle.volume_table.specs.Sums.{tallied}
 use Rattle.volume_table.specs.Table.{emptyOrGood}
@@ -22,11 +25,18 @@ use Rattle.volume_table.specs.declared.Tally.{Tally}
 use Rattle.volume_table.specs.declared.VolumeRecord.{VolumeRecord}
 use Rattle.volume_table.proofs.Laws.{part-take, all-broken, all-more, above-zero}
 
+-- ---- the fields
+
+-- each field lies within the 172 bytes
+pub fits : (i : ℕ) → recordField i .at + recordField i .width ≤ 172
+fits i = leb-true _ _ (every-entry (λ (f : Field). leb (f .at + f .width) 172) (record { at = 0; width = 0 }) refl recordFields refl i)
+
 -- ---- the empty record
 
-pub zeroes-stored : (k : ℕ) → put 168 (toBe 4 k) (replicate 172 0) ≡ replicate 168 0 ++ toBe 4 k
-unfolding toBeOn
-zeroes-stored k = refl
+-- 168 zeroes stored in the record, then their CRC
+pub zeroes-summed : {a b : List ℕ} {k : ℕ} → k ≡ crcOf (replicate 168 0) → a ≡ put 0 (replicate 168 0) (replicate 172 0) → b ≡ put 168 (toBe 4 k) a → b ≡ emptyRecord
+unfolding emptyRecord toBeOn
+zeroes-summed p q r = rw (r, q, p)
 
 -- ---- the name
 
@@ -71,11 +81,11 @@ module _ (size unit : ℕ) (v : VolumeRecord) where
 -- ---- what a record is
 
 module _ (size unit : ℕ) (r : List ℕ) where
-  pub not-summed : {s k : ℕ} → s ≡ crcOf (take 168 r) → k ≡ beOf (part 168 4 r) → (s ≡ k → ⊥) → false ≡ recordGood size unit r
+  pub not-summed : {s k : ℕ} → s ≡ crcOf (take 168 r) → k ≡ numberIn recordCrc r → (s ≡ k → ⊥) → false ≡ recordGood size unit r
   unfolding recordGood recordCrcMatches
   not-summed p q n = rw (← p, ← q, ne-eqb _ _ n)
 
-  pub rules-decide : {s k : ℕ} {v : VolumeRecord} {g : Bool} → s ≡ crcOf (take 168 r) → k ≡ beOf (part 168 4 r) → s ≡ k
+  pub rules-decide : {s k : ℕ} {v : VolumeRecord} {g : Bool} → s ≡ crcOf (take 168 r) → k ≡ numberIn recordCrc r → s ≡ k
       → v ≡ recordOf r → g ≡ allOf (recordRules size unit v) → g ≡ recordGood size unit r
   unfolding recordGood recordCrcMatches
   rules-decide p q e v g = g ∙ rw (← p, ← q, eq-eqb _ _ e, v)

@@ -1,28 +1,28 @@
 -- Laws of the volume table. Assumes nothing.
-use mathlib.Core.Path.{_≡_, refl, sym, ap, _∙_, ap₂}
+use mathlib.Core.Path.{_≡_, refl, sym, ap, _∙_}
 use mathlib.Core.Bool.{Bool, true, false, not, _&&_, and-true, and-false, and-self, cond}
 use Rattle.base.specs.Answers.{Answer, given, refused}
 use mathlib.Core.List.{List, []}
-use Prim.Native.Nat.{ℕ, zero, suc, _+_, _-_, _*_, _≤_, _<_, min}
+use Prim.Native.Nat.{ℕ, zero, suc, _+_, _-_, _*_, _≤_, _<_}
 use native.Mathlib.Nat.{add-sub-cancel-left, min-le-left, sub-zero}
 use native.Mathlib.Numerals.{add-one}
 use native.Mathlib.Omega.{arith}
 use borrow.Author.Tests.{le-leb, lt-leb}
 use lib.Bits.{bitAnd, and-le-r}
-use lib.Dec.{eqb, lit≤}
+use lib.Dec.{eqb}
 use lib.ListN.{length, take, drop, getD, length-take}
 use lib.Seq.{take-all}
 use Rattle.base.specs.Below.{anyBelow}
 use Rattle.base.specs.Lists.{part, eqs}
 use Rattle.base.proofs.Answers.{clash, one-broken}
 use Rattle.base.proofs.Below.{none-intro}
-use Rattle.base.proofs.Lists.{length-part, eqs-lengths, eqs-true}
-use Rattle.field.specs.Be.{beOf}
+use Rattle.base.proofs.Lists.{eqs-true}
+use Rattle.volume_table.specs.Fields.{recordNameLength, recordName, bytesIn, numberIn}
 use Rattle.volume_table.specs.Record.{recordOf, emptyRecord, isEmpty}
 use Rattle.volume_table.specs.Sums.{tallied, TallyOf}
-use Rattle.volume_table.specs.Table.{recordCount, recordsPart, recordAt, emptyOrGood, nameOf, sameNames, autoresizes, tableRules, tableTests, tableGood, takenLeb, takenRecords, copiesMark}
+use Rattle.volume_table.specs.Table.{recordCount, recordsPart, recordAt, emptyOrGood, nameOf, sameNames, autoresizes, tableRules, tableTests, tableGood, takenLeb, takenRecords, recordsTaken, copiesMark}
 use Rattle.volume_table.specs.declared.Tally.{Tally}
-use Rattle.volume_table.proofs.Laws.{part-part, front, all-broken, all-more, not-above, above-zero}
+use Rattle.volume_table.proofs.Laws.{all-broken, all-more, not-above, above-zero}
 use Rattle.volume_table.proofs.Records.{empty-test}
 
 -- ---- the records' part
@@ -48,28 +48,16 @@ cut-short : (size : ℕ) (content : List ℕ) {n : ℕ} → n ≡ recordCount si
 unfolding recordsPart
 cut-short size content p h = omega (arith, length-take (172 * recordCount size) content)
 
--- ---- names where they stand
+-- ---- names
 
-module _ (t : List ℕ) where
-  pub name-size : (at : ℕ) → at + 172 ≤ length t → length (nameOf (part at 172 t)) ≡ min (beOf (part (at + 14) 2 t)) 128
-  unfolding nameOf recordOf
-  name-size at h = rw (length-take, part-part 14 2 at 172 t (lit≤ tt), part-part 16 128 at 172 t (lit≤ tt), length-part (at + 16) 128 t (omega arith))
+-- a name ends with its field
+pub name-whole-field : (r : List ℕ) {n : ℕ} {b : List ℕ} → b ≡ bytesIn recordName r → n ≡ numberIn recordNameLength r → length b < n → b ≡ nameOf r
+unfolding nameOf recordOf
+name-whole-field r {n} {b} p q h = rw (← p, ← q) (sym (take-all n b (omega arith)))
 
-  -- a name starts 16 bytes into its record
-  name-at : (at : ℕ) → nameOf (part at 172 t) ≡ part (at + 16) (length (nameOf (part at 172 t))) t
-  unfolding nameOf recordOf
-  name-at at = rw (part-part 16 128 at 172 t (lit≤ tt)) (front (beOf (part 14 2 (part at 172 t))) 128 (drop (at + 16) t))
-
-  module _ (a b : ℕ) {m n : ℕ} (p : n ≡ length (nameOf (part a 172 t))) (q : m ≡ length (nameOf (part b 172 t))) where
-    pub lengths-differ : (m ≡ n → ⊥) → false ≡ eqs (nameOf (part a 172 t)) (nameOf (part b 172 t))
-    lengths-differ d = sym (eqs-lengths (nameOf (part a 172 t)) (nameOf (part b 172 t)) (λ e. d (omega (arith, e))))
-
-    pub names-compared : {r : Bool} → m ≡ n → r ≡ eqs (take (a + 16 + n - (a + 16)) (drop (a + 16) t)) (take (b + 16 + n - (b + 16)) (drop (b + 16) t))
-        → r ≡ eqs (nameOf (part a 172 t)) (nameOf (part b 172 t))
-    names-compared d e =
-        let x : a + 16 + n - (a + 16) ≡ length (nameOf (part a 172 t)) = omega arith in
-        let y : b + 16 + n - (b + 16) ≡ length (nameOf (part b 172 t)) = omega arith in
-        e ∙ ap₂ eqs (rw x (sym (name-at a))) (rw y (sym (name-at b)))
+pub name-front : (r : List ℕ) {n : ℕ} {b : List ℕ} → b ≡ bytesIn recordName r → n ≡ numberIn recordNameLength r → take (n - 0) b ≡ nameOf r
+unfolding nameOf recordOf
+name-front r p q = rw (sub-zero, p, q)
 
 -- ---- two records with one name
 
@@ -203,16 +191,12 @@ module _ (size unit pebs : ℕ) (copy0 copy1 : List ℕ) where
     unfolding takenLeb copiesMark
     chosen-unequal q e a b = (a ∙ rw (← p, ← q), b ∙ rw (← p, ← q, e))
 
-  module _ {g : Bool} (p : g ≡ tableGood size unit pebs copy0) where
-    pub first-taken : {r : List ℕ} → g ≡ true → r ≡ recordsPart size copy0 → r ≡ takenRecords size unit pebs copy0 copy1
-    unfolding takenRecords
-    first-taken e r = r ∙ rw (← p, e)
-
-    module _ {h : Bool} (q : h ≡ tableGood size unit pebs copy1) (e : g ≡ false) where
-      pub second-taken : {r : List ℕ} → h ≡ true → r ≡ recordsPart size copy1 → r ≡ takenRecords size unit pebs copy0 copy1
-      unfolding takenRecords
-      second-taken f r = r ∙ rw (← p, e, ← q, f)
-
-      pub neither-taken : h ≡ false → [] ≡ takenRecords size unit pebs copy0 copy1
-      unfolding takenRecords
-      neither-taken f = rw (← p, e, ← q, f)
+  -- a choice that names the LEB whose table is taken shows its records
+  pub taken-records : {k : Answer ℕ} → k ≡ takenLeb size unit pebs copy0 copy1 → recordsTaken size k copy0 copy1 ≡ takenRecords size unit pebs copy0 copy1
+  unfolding takenLeb takenRecords
+  taken-records e = rw e (go (tableGood size unit pebs copy0) (tableGood size unit pebs copy1))
+    where
+      go : (a b : Bool) → recordsTaken size (cond a (given 0) (cond b (given 1) (refused 11 0))) copy0 copy1 ≡ cond a (recordsPart size copy0) (cond b (recordsPart size copy1) [])
+      go true b = refl
+      go false true = refl
+      go false false = refl

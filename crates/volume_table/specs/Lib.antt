@@ -1,3 +1,4 @@
+pub mod Fields
 pub mod Record
 pub mod Table
 pub mod Sums

@@ -7,29 +7,30 @@ use lib.Dec.{eqb, ltb, leb}
 use lib.ListN.{length, take, getD, replicate}
 use Rattle.base.specs.Answers.{Answer, given, refused, allOf}
 use Rattle.base.specs.Below.{allBelow}
-use Rattle.base.specs.Lists.{part, eqs}
-use Rattle.field.specs.Be.{beOf, toBe}
+use Rattle.base.specs.Lists.{eqs}
+use Rattle.field.specs.Be.{toBe}
 use Rattle.crc32.specs.Crc.{crcOf}
+use Rattle.volume_table.specs.Fields.{recordReserved, recordAlignment, recordDataPad, recordType, recordMarker, recordNameLength, recordName, recordFlags, recordCrc, bytesIn, numberIn}
 use Rattle.volume_table.specs.declared.VolumeRecord.{VolumeRecord}
 use Rattle.volume_table.specs.declared.RecordKind.{RecordKind}
 use Rattle.volume_table.specs.declared.RecordKind.the-variants.{Empty, Good, Bad, Short}
 
--- "reserved PEBs 0-3, alignment 4-7, data pad 8-11, type 12, update marker 13, name length 14-15, name 16-143, flags 144"
+-- the numbers and the name in a record's fields
 unfoldable pub recordOf : List ℕ → VolumeRecord
 recordOf r = record {
-  reserved = beOf (part 0 4 r);
-  alignment = beOf (part 4 4 r);
-  «data_pad» = beOf (part 8 4 r);
-  «vol_type» = beOf (part 12 1 r);
-  «update_marker» = beOf (part 13 1 r);
-  «name_length» = beOf (part 14 2 r);
-  name = part 16 128 r;
-  flags = beOf (part 144 1 r);
+  reserved = numberIn recordReserved r;
+  alignment = numberIn recordAlignment r;
+  «data_pad» = numberIn recordDataPad r;
+  «vol_type» = numberIn recordType r;
+  «update_marker» = numberIn recordMarker r;
+  «name_length» = numberIn recordNameLength r;
+  name = bytesIn recordName r;
+  flags = numberIn recordFlags r;
 }
 
 -- "CRC of 0-167 at 168-171"
 unfoldable pub recordCrcMatches : List ℕ → Bool
-recordCrcMatches r = eqb (crcOf (take 168 r)) (beOf (part 168 4 r))
+recordCrcMatches r = eqb (crcOf (take 168 r)) (numberIn recordCrc r)
 
 -- "An empty record has reserved 0 and is 168 zeroes with their CRC."
 unfoldable pub emptyRecord : List ℕ

@@ -10,7 +10,7 @@ use Rattle.base.specs.Below.{allBelow, anyBelow, countBelow, sumBelow}
 use Rattle.base.specs.Lists.{part, eqs}
 use Rattle.volume_table.specs.Record.{recordOf, isEmpty, recordGood}
 use Rattle.volume_table.specs.declared.Taken.{Taken}
-use Rattle.volume_table.specs.declared.Taken.the-variants.{First, Second, Neither}
+use Rattle.volume_table.specs.declared.Taken.the-variants.{Leb, Neither}
 
 -- "There are as many as fit a LEB, at most 128."
 unfoldable pub recordCount : ℕ → ℕ
@@ -79,8 +79,12 @@ module _ (size unit pebs : ℕ) (copy0 copy1 : List ℕ) where
   copiesMark =
       cond (tableGood size unit pebs copy0 && tableGood size unit pebs copy1) (cond (eqs (recordsPart size copy0) (recordsPart size copy1)) 0 2) 1
 
--- what each case of the answer is in 01: the layout LEB whose table is taken
+-- what each case of the answer is in 01: the layout LEB whose table is taken; refusal 11
 abbrev pub takenNumber : Taken → Answer ℕ
-takenNumber First = given 0
-takenNumber Second = given 1
+takenNumber (Leb k) = given k
 takenNumber Neither = refused 11 0
+
+-- the records' part of the copy that the answer names: LEB 0's, "else LEB 1's"; no bytes at a refusal
+abbrev pub recordsTaken : ℕ → Answer ℕ → List ℕ → List ℕ → List ℕ
+recordsTaken size (given k) copy0 copy1 = recordsPart size (cond (eqb k 0) copy0 copy1)
+recordsTaken size (refused _ _) copy0 copy1 = []

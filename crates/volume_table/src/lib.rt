@@ -1,13 +1,27 @@
 // Volume records, the volume table in the two layout LEBs, and which of its copies counts.
+mod fields;
 mod record;
 mod table;
 
+pub use fields::RECORD_DATA_PAD;
+pub use fields::RECORD_FLAGS;
+pub use fields::RECORD_MARKER;
+pub use fields::RECORD_RESERVED;
+pub use fields::RECORD_SIZE;
+pub use fields::RECORD_TYPE;
+pub use fields::get_field;
 pub use record::read_record;
 pub use table::choose_table;
 pub use table::record_count;
 pub use table::records_part;
 pub use table::table_good;
 pub use table::taken_table;
+
+// Where a field stands in a record, and how many bytes it has.
+struct Field {
+    at: usize,
+    width: usize,
+}
 
 // A volume record: its numbers beside the name's 128 bytes.
 pub struct VolumeRecord {
@@ -17,7 +31,7 @@ pub struct VolumeRecord {
     pub vol_type: u8,
     pub update_marker: u8,
     pub name_length: u16,
-    pub name: [u8; 128],
+    pub name: [u8; fields::NAME_SIZE],
     pub flags: u8,
 }
 
@@ -35,10 +49,9 @@ pub struct RecordRead {
     pub record: VolumeRecord,
 }
 
-// The layout LEB whose table is taken.
+// The layout LEB whose table is taken: 0 or 1. Neither is refusal 11.
 pub enum Taken {
-    First,
-    Second,
+    Leb(u32),
     Neither,
 }
 

@@ -5,21 +5,36 @@ ghost use Prim.Native.Nat.{_+_, _%_, _^_, _≤_, _<_};
 ghost use lib.Dec.{eqb};
 ghost use lib.ListN.{length};
 ghost use Rattle.base.specs.Answers.{allOf};
-ghost use Rattle.base.specs.Lists.{part};
+ghost use Rattle.volume_table.specs.Fields.{recordName, bytesIn};
 ghost use Rattle.volume_table.specs.Sums.{tallied};
 ghost use Rattle.volume_table.specs.Record.{recordOf, emptyRecord, nameEnds, recordRules, recordGood, judgeRecord, recordKind, shownRecord};
 use crate::RecordKind;
 use crate::RecordRead;
 use crate::Tally;
 use crate::VolumeRecord;
+use crate::fields::NAME_SIZE;
+use crate::fields::RECORD_ALIGNMENT;
+use crate::fields::RECORD_CRC;
+use crate::fields::RECORD_DATA_PAD;
+use crate::fields::RECORD_FLAGS;
+use crate::fields::RECORD_MARKER;
+use crate::fields::RECORD_NAME;
+use crate::fields::RECORD_NAME_LENGTH;
+use crate::fields::RECORD_RESERVED;
+use crate::fields::RECORD_SIZE;
+use crate::fields::RECORD_TYPE;
+use crate::fields::SUMMED_SIZE;
+use crate::fields::field_bytes;
+use crate::fields::get_field;
+use crate::fields::set_field;
 
 // The 128 bytes of the name field.
-fn name_field(r: &[u8]) -> [u8; 128]
+fn name_field(r: &[u8]) -> [u8; NAME_SIZE]
     requires { ⌜ 172 ≤ length (now r) ⌝ }
-    ensures { λ n. ⌜ n ≡ part 16 128 (now (r .entry)) ⌝ }
+    ensures { λ n. ⌜ n ≡ bytesIn recordName (now (r .entry)) ⌝ }
 {
-    let mut name = [0u8; 128];
-    base::store(&mut name, 0, &r[16..144]);
+    let mut name = [0u8; NAME_SIZE];
+    base::store(&mut name, 0, field_bytes(r, RECORD_NAME));
     name
 }
 
@@ -29,30 +44,31 @@ fn parse(r: &[u8]) -> VolumeRecord
     ensures { λ v. ⌜ v ≡ recordOf (now (r .entry)) ⌝ }
 {
     VolumeRecord {
-        reserved: field::read(r, 0, 4) as u32,
-        alignment: field::read(r, 4, 4) as u32,
-        data_pad: field::read(r, 8, 4) as u32,
-        vol_type: field::read(r, 12, 1) as u8,
-        update_marker: field::read(r, 13, 1) as u8,
-        name_length: field::read(r, 14, 2) as u16,
+        reserved: get_field(r, RECORD_RESERVED) as u32,
+        alignment: get_field(r, RECORD_ALIGNMENT) as u32,
+        data_pad: get_field(r, RECORD_DATA_PAD) as u32,
+        vol_type: get_field(r, RECORD_TYPE) as u8,
+        update_marker: get_field(r, RECORD_MARKER) as u8,
+        name_length: get_field(r, RECORD_NAME_LENGTH) as u16,
         name: name_field(r),
-        flags: field::read(r, 144, 1) as u8,
+        flags: get_field(r, RECORD_FLAGS) as u8,
     }
 }
 
 // 168 zeroes with their CRC.
-pub fn empty_record() -> [u8; 172]
+pub fn empty_record() -> [u8; RECORD_SIZE]
     ensures { λ r. ⌜ r ≡ emptyRecord ⌝ }
 {
-    let zeroes = [0u8; 168];
+    let zeroes = [0u8; SUMMED_SIZE];
     let sum = crc32::crc32(&zeroes);
-    let mut r = [0u8; 172];
-    field::write(&mut r, 168, 4, sum as u64);
+    let mut r = [0u8; RECORD_SIZE];
+    base::store(&mut r, 0, &zeroes);
+    set_field(&mut r, RECORD_CRC, sum as u64);
     r
 }
 
 // Does the name have n bytes, none of them zero, and a zero after them?
-fn name_ends(name: [u8; 128], n: usize) -> bool
+fn name_ends(name: [u8; NAME_SIZE], n: usize) -> bool
     requires { ⌜ n < 128 ⌝ }
     ensures { λ r. ⌜ r ≡ nameEnds name n ⌝ }
 {
@@ -131,7 +147,7 @@ fn is_good(r: &[u8], v: VolumeRecord, leb_size: u32, unit: u32) -> bool
     requires { ⌜ (length (now r) ≡ 172) × (v ≡ recordOf (now r)) ⌝ }
     ensures { λ g. ⌜ g ≡ recordGood «leb_size» unit (now (r .entry)) ⌝ }
 {
-    if crc32::crc32(&r[0..168]) as u64 != field::read(r, 168, 4) {
+    if crc32::crc32(&r[0..SUMMED_SIZE]) as u64 != get_field(r, RECORD_CRC) {
         return false;
     }
     rules_hold(v, leb_size, unit)
@@ -142,14 +158,14 @@ pub fn read_record(bytes: &[u8], leb_size: u32, unit: u32) -> RecordRead
     ensures kind { λ r. ⌜ recordKind (r .kind) ≡ judgeRecord «leb_size» unit (now (bytes .entry)) ⌝ }
     ensures record { λ r. ⌜ r .record ≡ shownRecord (now (bytes .entry)) ⌝ }
 {
-    if bytes.len() < 172 {
-        let zeroes = [0u8; 172];
+    if bytes.len() < RECORD_SIZE {
+        let zeroes = [0u8; RECORD_SIZE];
         return RecordRead {
             kind: RecordKind::Short,
             record: parse(&zeroes),
         };
     }
-    let r = &bytes[0..172];
+    let r = &bytes[0..RECORD_SIZE];
     let record = parse(r);
     let empty = empty_record();
     if base::same(r, &empty) {

@@ -7,70 +7,66 @@ ghost use lib.ListN.{length};
 ghost use Rattle.base.specs.Below.{anyBelow};
 ghost use Rattle.base.specs.Lists.{part, eqs};
 ghost use Rattle.volume_table.specs.Record.{emptyRecord, isEmpty};
-ghost use Rattle.volume_table.specs.Table.{recordCount, recordsPart, recordAt, nameOf, sameNames, reservedLimit, tableGood, takenLeb, takenRecords, copiesMark, takenNumber};
+ghost use Rattle.volume_table.specs.Table.{recordCount, recordsPart, recordAt, nameOf, sameNames, reservedLimit, tableGood, takenLeb, recordsTaken, copiesMark, takenNumber};
 ghost use Rattle.volume_table.specs.Sums.{TallyOf};
 use crate::TableChoice;
 use crate::Taken;
 use crate::Tally;
+use crate::fields::RECORD_NAME;
+use crate::fields::RECORD_NAME_LENGTH;
+use crate::fields::RECORD_SIZE;
+use crate::fields::field_bytes;
+use crate::fields::get_field;
 use crate::record::empty_record;
 use crate::record::tally_record;
+
+// "at most 128"
+const MOST_RECORDS: usize = 128;
 
 // How many records a table has.
 pub fn record_count(leb_size: u32) -> usize
     ensures { λ r. ⌜ r ≡ recordCount «leb_size» ⌝ }
 {
-    let fit = (leb_size / 172) as usize;
-    if fit < 128 {
+    let fit = leb_size as usize / RECORD_SIZE;
+    if fit < MOST_RECORDS {
         return fit;
     }
-    128
+    MOST_RECORDS
 }
 
 // The records' part of a layout LEB's content; all of it where it is shorter.
 pub fn records_part<'a>(content: &'a [u8], leb_size: u32) -> &'a [u8]
     ensures { λ r. ⌜ now r ≡ recordsPart «leb_size» (now (content .entry)) ⌝ }
 {
-    let len = 172 * record_count(leb_size);
+    let len = RECORD_SIZE * record_count(leb_size);
     if content.len() < len {
         return content;
     }
     &content[0..len]
 }
 
-// The length of the name in the record at `at`; a name ends with its field.
-fn name_length(t: &[u8], at: usize) -> usize
-    requires { ⌜ at + 172 ≤ length (now t) ⌝ }
-    ensures { λ r. ⌜ (r ≡ length (nameOf (part at 172 (now (t .entry))))) × (r ≤ 128) ⌝ }
+// The name's bytes, where they stand in a record; a name ends with its field.
+fn name_of<'a>(r: &'a [u8]) -> &'a [u8]
+    requires { ⌜ length (now r) ≡ 172 ⌝ }
+    ensures { λ n. ⌜ now n ≡ nameOf (now (r .entry)) ⌝ }
 {
-    let n = field::read(t, at + 14, 2) as usize;
-    if n < 128 {
-        return n;
+    let name = field_bytes(r, RECORD_NAME);
+    let n = get_field(r, RECORD_NAME_LENGTH) as usize;
+    if name.len() < n {
+        return name;
     }
-    128
+    &name[0..n]
 }
 
-// Are the names in the records at a and b the same? They are compared where they stand.
-fn same_name(t: &[u8], a: usize, b: usize) -> bool
-    requires { ⌜ (a + 172 ≤ length (now t)) × (b + 172 ≤ length (now t)) ⌝ }
-    ensures { λ r. ⌜ r ≡ eqs (nameOf (part a 172 (now (t .entry)))) (nameOf (part b 172 (now (t .entry)))) ⌝ }
+// Is the record r not empty, with the name of the record s?
+fn names_clash(r: &[u8], s: &[u8], empty: &[u8]) -> bool
+    requires { ⌜ (length (now r) ≡ 172) × ((length (now s) ≡ 172) × (now empty ≡ emptyRecord)) ⌝ }
+    ensures { λ c. ⌜ c ≡ (not (isEmpty (now (r .entry))) && eqs (nameOf (now (r .entry))) (nameOf (now (s .entry)))) ⌝ }
 {
-    let n = name_length(t, a);
-    if name_length(t, b) != n {
+    if !base::same(name_of(r), name_of(s)) {
         return false;
     }
-    base::same(&t[a + 16..a + 16 + n], &t[b + 16..b + 16 + n])
-}
-
-// Is the record at a not empty, with the name of the record at b?
-fn names_clash(t: &[u8], a: usize, b: usize, empty: &[u8]) -> bool
-    requires { ⌜ (a + 172 ≤ length (now t)) × ((b + 172 ≤ length (now t)) × (now empty ≡ emptyRecord)) ⌝ }
-    ensures { λ r. ⌜ r ≡ (not (isEmpty (part a 172 (now (t .entry))))
-        && eqs (nameOf (part a 172 (now (t .entry)))) (nameOf (part b 172 (now (t .entry))))) ⌝ }
-{
-    if !same_name(t, a, b) {
-        return false;
-    }
-    !base::same(&t[a..a + 172], empty)
+    !base::same(r, empty)
 }
 
 // Does record j, if it is not empty, have the name of one before it?
@@ -78,13 +74,15 @@ fn name_repeats(t: &[u8], j: usize, empty: &[u8]) -> bool
     requires { ⌜ (j < 128) × ((172 * j + 172 ≤ length (now t)) × (now empty ≡ emptyRecord)) ⌝ }
     ensures { λ r. ⌜ r ≡ anyBelow j (λ (i : ℕ). sameNames (recordAt (now (t .entry)) i) (recordAt (now (t .entry)) j)) ⌝ }
 {
-    let b = 172 * j;
-    if base::same(&t[b..b + 172], empty) {
+    let b = RECORD_SIZE * j;
+    let s = &t[b..b + RECORD_SIZE];
+    if base::same(s, empty) {
         return false;
     }
     let mut i: usize = 0;
     while i < j {
-        if names_clash(t, 172 * i, b, empty) {
+        let a = RECORD_SIZE * i;
+        if names_clash(&t[a..a + RECORD_SIZE], s, empty) {
             return true;
         }
         i += 1;
@@ -120,8 +118,8 @@ fn tally(t: &[u8], n: usize, leb_size: u32, unit: u32, empty: &[u8]) -> Tally
     };
     let mut i: usize = 0;
     while i < n {
-        let at = 172 * i;
-        sum = tally_record(sum, &t[at..at + 172], leb_size, unit, empty);
+        let at = RECORD_SIZE * i;
+        sum = tally_record(sum, &t[at..at + RECORD_SIZE], leb_size, unit, empty);
         if !sum.fine {
             return sum;
         }
@@ -138,7 +136,7 @@ pub fn table_good(content: &[u8], leb_size: u32, unit: u32, peb_count: u32) -> b
     if n == 0 {
         return false;
     }
-    if content.len() < 172 * n {
+    if content.len() < RECORD_SIZE * n {
         return false;
     }
     let t = records_part(content, leb_size);
@@ -172,7 +170,7 @@ fn choice_of_equal(good: bool) -> TableChoice
 {
     if good {
         return TableChoice {
-            taken: Taken::First,
+            taken: Taken::Leb(0),
             copies_mark: 0,
         };
     }
@@ -189,18 +187,18 @@ fn choice_of(good0: bool, good1: bool) -> TableChoice
     if good0 {
         if good1 {
             return TableChoice {
-                taken: Taken::First,
+                taken: Taken::Leb(0),
                 copies_mark: 2,
             };
         }
         return TableChoice {
-            taken: Taken::First,
+            taken: Taken::Leb(0),
             copies_mark: 1,
         };
     }
     if good1 {
         return TableChoice {
-            taken: Taken::Second,
+            taken: Taken::Leb(1),
             copies_mark: 1,
         };
     }
@@ -229,21 +227,15 @@ pub fn choose_table(
     choice_of(good0, table_good(copy1, leb_size, unit, peb_count))
 }
 
-// The records of the table taken; no bytes where neither copy is good.
-pub fn taken_table<'a>(
-    copy0: &'a [u8],
-    copy1: &'a [u8],
-    leb_size: u32,
-    unit: u32,
-    peb_count: u32,
-) -> &'a [u8]
-    ensures { λ r. ⌜ now r ≡ takenRecords «leb_size» unit «peb_count» (now (copy0 .entry)) (now (copy1 .entry)) ⌝ }
+// The records of the table taken, as part of its copy; no bytes where neither is taken.
+pub fn taken_table<'a>(copy0: &'a [u8], copy1: &'a [u8], taken: Taken, leb_size: u32) -> &'a [u8]
+    ensures { λ r. ⌜ now r ≡ recordsTaken «leb_size» (takenNumber taken) (now (copy0 .entry)) (now (copy1 .entry)) ⌝ }
 {
-    if table_good(copy0, leb_size, unit, peb_count) {
+    let Taken::Leb(leb) = taken else {
+        return &copy0[0..0];
+    };
+    if leb == 0 {
         return records_part(copy0, leb_size);
     }
-    if table_good(copy1, leb_size, unit, peb_count) {
-        return records_part(copy1, leb_size);
-    }
-    &copy0[0..0]
+    records_part(copy1, leb_size)
 }

@@ -5,7 +5,8 @@ use Prim.Native.Nat.{ℕ, zero, suc, _+_, _-_, _*_, _≤_}
 use native.Mathlib.Omega.{arith}
 use lib.ListN.{length, take, drop}
 use Rattle.base.specs.Lists.{part}
-use Rattle.field.specs.Be.{beFrom, beOf}
+use Rattle.field.specs.Be.{beFrom}
+use Rattle.volume_table.specs.Fields.{recordReserved, recordDataPad, recordType, recordMarker, recordFlags, numberIn}
 use Rattle.volume_table.specs.Record.{recordOf}
 use Rattle.volume_table.specs.Table.{recordAt}
 use Rattle.volumes.specs.declared.Kept.{Kept}
@@ -19,7 +20,7 @@ drop-past (suc n) (x ∷ s) h = drop-past n s (omega arith)
 
 -- the five numbers that are read of the record at `at`
 pub kept-read : (at : ℕ) (t : List ℕ) {a b c d e : ℕ} → let r = take (at + 172 - at) (drop at t) in
-    a ≡ beOf (part 0 4 r) → b ≡ beOf (part 8 4 r) → c ≡ beOf (part 12 1 r) → d ≡ beOf (part 13 1 r) → e ≡ beOf (part 144 1 r)
+    a ≡ numberIn recordReserved r → b ≡ numberIn recordDataPad r → c ≡ numberIn recordType r → d ≡ numberIn recordMarker r → e ≡ numberIn recordFlags r
     → _≡_ {A = Kept} (record { reserved = a; «data_pad» = b; «vol_type» = c; marker = d; flags = e }) (keptOf (recordOf (part at 172 t)))
 unfolding keptOf recordOf
 kept-read at t p q r s u = let z : at + 172 - at ≡ 172 = omega arith in rw (p, q, r, s, u, z)

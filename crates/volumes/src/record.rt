@@ -7,19 +7,26 @@ ghost use Rattle.volume_table.specs.Record.{recordOf};
 ghost use Rattle.volume_table.specs.Table.{recordCount, recordAt};
 ghost use Rattle.volumes.specs.Sorted.{keptOf};
 use crate::Kept;
+use volume_table::RECORD_DATA_PAD;
+use volume_table::RECORD_FLAGS;
+use volume_table::RECORD_MARKER;
+use volume_table::RECORD_RESERVED;
+use volume_table::RECORD_SIZE;
+use volume_table::RECORD_TYPE;
+use volume_table::get_field;
 
 // The record at `at` of a table.
 fn kept_at(t: &[u8], at: usize) -> Kept
     requires { ⌜ at + 172 ≤ length (now t) ⌝ }
     ensures { λ r. ⌜ r ≡ keptOf (recordOf (part at 172 (now (t .entry)))) ⌝ }
 {
-    let r = &t[at..at + 172];
+    let r = &t[at..at + RECORD_SIZE];
     Kept {
-        reserved: field::read(r, 0, 4) as u32,
-        data_pad: field::read(r, 8, 4) as u32,
-        vol_type: field::read(r, 12, 1) as u8,
-        marker: field::read(r, 13, 1) as u8,
-        flags: field::read(r, 144, 1) as u8,
+        reserved: get_field(r, RECORD_RESERVED) as u32,
+        data_pad: get_field(r, RECORD_DATA_PAD) as u32,
+        vol_type: get_field(r, RECORD_TYPE) as u8,
+        marker: get_field(r, RECORD_MARKER) as u8,
+        flags: get_field(r, RECORD_FLAGS) as u8,
     }
 }
 
@@ -37,5 +44,5 @@ pub fn kept(t: &[u8], leb_size: u32, v: usize) -> Kept
             flags: 0,
         };
     }
-    kept_at(t, 172 * v)
+    kept_at(t, RECORD_SIZE * v)
 }

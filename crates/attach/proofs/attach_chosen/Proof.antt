@@ -3,7 +3,7 @@ use mathlib.Core.Path.{refl}
 use native.Mathlib.Omega.{arith}
 use borrow.Author.Needs.{needs}
 use Rattle.attach.proofs.Reports.{refused-ended}
-use Rattle.attach.proofs.Stages.{first-past, second-past, no-table}
+use Rattle.attach.proofs.Stages.{table-past, no-table}
 use Rattle.attach.proofs.attach_chosen.Statement.{statement}
 use Rattle.attach.proofs.attach_chosen.Tie as tie
 use Rattle.attach.proofs.attach_chosen.Reads as reads
@@ -12,7 +12,7 @@ use Rattle.attach.proofs.layout.layout_content.Reads as layout-content-
 use Rattle.attach.proofs.lent.refuse.Reads as refuse-reads
 use Rattle.attach.proofs.summary.report_on.Reads as report-on-reads
 use Rattle.volume_table.proofs.choose_table.Reads as choose-table-reads
-use Rattle.volume_table.proofs.records_part.Reads as records-part-reads
+use Rattle.volume_table.proofs.taken_table.Reads as taken-table-reads
 
 layout-content-requires : tie.Need-layout-content-requires
 layout-content-requires c κs = (c .before .before .before .before .before .before .pre .chosen, omega arith)
@@ -28,16 +28,16 @@ cast-choose-table c =
 choose-table-requires : tie.Need-choose-table-requires
 choose-table-requires c κs = search needs
 
+enum-known-taken : tie.Need-enum-known-taken
+enum-known-taken c = search needs
+
 enum-told : tie.Need-enum-told
 enum-told c = search needs
 
-records-part-requires : tie.Need-records-part-requires
-records-part-requires c κs = search needs
-
-report-on-requires : tie.Need-report-on-requires
-report-on-requires c κs =
-    let t = c .before .before .before .before .before .before .choose-table in
-    first-past (c .before .before .before .before .before .before .before .before .before .before .before .before .before .before .before .before .before .pre) (c .before .before .before .before .before .before .before .before .before .before .layout-content .ensures) (c .before .before .before .before .before .before .before .layout-content2 .ensures) (t .result .taken) (t .ensures .0) (t .ensures .1) (c .before .before .before .before .enum-told .given .1) (c .before .before .before .records-part .ensures)
+refuse-requires : tie.Need-refuse-requires
+refuse-requires c κs =
+    let r = c .before .before .before .before .before .before .before .before .before .before .before .before .before .before .before .before .pre .room in
+    (r .few, (r .long-pebs, (r .long-map, r .long-states)))
 
 same-length : tie.Need-same-length
 same-length c = search needs
@@ -49,18 +49,28 @@ same-length-3 : tie.Need-same-length-3
 same-length-3 c = search needs
 
 returns : tie.Need-returns
-returns c = c .before .before .before .before .before .before .report-on .ensures
+returns c =
+    let z = c .before .before .before .before .before .before in
+    let k = z .before .before .before .before in
+    let t = k .before .before in
+    let l = t .before .before .before .before in
+    let d = l .before .before .before .before .before .before .before in
+    let a = d .args in
+    let e = z .refuse .ensures in
+    refused-ended (a .g) (a .image .now) (a .n) 11 0 (no-table (d .pre) (l .layout-content .ensures) (t .before .layout-content2 .ensures) (t .choose-table .result .taken) (t .choose-table .ensures .0) (k .enum-told .given .1))
+    (a .pebs .now) (a .pebs .now) (a .map .now) (a .map .now) (a .states .now) (a .states .now) refl refl refl (e .0) (e .1 .0) (e .1 .1 .0) (e .1 .1 .1)
 
-enum-told-2 : tie.Need-enum-told-2
-enum-told-2 c = search needs
+taken-table-requires : tie.Need-taken-table-requires
+taken-table-requires c κs = search needs
 
-records-part-requires-2 : tie.Need-records-part-requires-2
-records-part-requires-2 c κs = search needs
-
-report-on-requires-2 : tie.Need-report-on-requires-2
-report-on-requires-2 c κs =
-    let t = c .before .before .before .before .before .before .choose-table in
-    second-past (c .before .before .before .before .before .before .before .before .before .before .before .before .before .before .before .before .before .pre) (c .before .before .before .before .before .before .before .before .before .before .layout-content .ensures) (c .before .before .before .before .before .before .before .layout-content2 .ensures) (t .result .taken) (t .ensures .0) (t .ensures .1) (c .before .before .before .before .enum-told2 .given .1) (c .before .before .before .records-part2 .ensures)
+report-on-requires : tie.Need-report-on-requires
+report-on-requires c κs =
+    let s = c .before .before .before in
+    let k = s .before .before in
+    let t = k .before .before in
+    let l = t .before .before .before .before in
+    let d = l .before .before .before .before .before .before .before in
+    table-past (d .pre) (l .layout-content .ensures) (t .before .layout-content2 .ensures) (t .choose-table .result .taken) (t .choose-table .ensures .0) (t .choose-table .ensures .1) (k .taken .given .1) (s .taken-table .ensures)
 
 same-length-4 : tie.Need-same-length-4
 same-length-4 c = search needs
@@ -72,32 +82,7 @@ same-length-6 : tie.Need-same-length-6
 same-length-6 c = search needs
 
 returns-2 : tie.Need-returns-2
-returns-2 c = c .before .before .before .before .before .before .report-on2 .ensures
-
-enum-told-3 : tie.Need-enum-told-3
-enum-told-3 c = search needs
-
-refuse-requires : tie.Need-refuse-requires
-refuse-requires c κs =
-    let r = c .before .before .before .before .before .before .before .before .before .before .before .before .before .before .before .before .pre .room in
-    (r .few, (r .long-pebs, (r .long-map, r .long-states)))
-
-same-length-7 : tie.Need-same-length-7
-same-length-7 c = search needs
-
-same-length-8 : tie.Need-same-length-8
-same-length-8 c = search needs
-
-same-length-9 : tie.Need-same-length-9
-same-length-9 c = search needs
-
-returns-3 : tie.Need-returns-3
-returns-3 c =
-    let a = c .before .before .before .before .before .before .before .before .before .before .before .before .before .before .before .before .before .before .before .before .before .before .before .args in
-    let t = c .before .before .before .before .before .before .before .before .before .before .before .before .choose-table in
-    let z = c .before .before .before .before .before .before .refuse .ensures in
-    refused-ended (a .g) (a .image .now) (a .n) 11 0 (no-table (c .before .before .before .before .before .before .before .before .before .before .before .before .before .before .before .before .before .before .before .before .before .before .before .pre) (c .before .before .before .before .before .before .before .before .before .before .before .before .before .before .before .before .layout-content .ensures) (c .before .before .before .before .before .before .before .before .before .before .before .before .before .layout-content2 .ensures) (t .result .taken) (t .ensures .0) (c .before .before .before .before .before .before .before .before .before .before .enum-told3 .given .1))
-    (a .pebs .now) (a .pebs .now) (a .map .now) (a .map .now) (a .states .now) (a .states .now) refl refl refl (z .0) (z .1 .0) (z .1 .1 .0) (z .1 .1 .1)
+returns-2 c = c .before .before .before .before .before .before .report-on .ensures
 
 pub attach-chosen-spec : {M : Type 1} → statement M
 attach-chosen-spec =
@@ -107,23 +92,16 @@ attach-chosen-spec =
     layout-content-requires-2
     cast-choose-table
     choose-table-requires
+    enum-known-taken
     enum-told
-    records-part-requires
-    report-on-requires
+    refuse-requires
     same-length
     same-length-2
     same-length-3
     returns
-    enum-told-2
-    records-part-requires-2
-    report-on-requires-2
+    taken-table-requires
+    report-on-requires
     same-length-4
     same-length-5
     same-length-6
-    returns-2
-    enum-told-3
-    refuse-requires
-    same-length-7
-    same-length-8
-    same-length-9
-    returns-3)
+    returns-2)

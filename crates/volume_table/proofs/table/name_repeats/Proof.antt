@@ -2,11 +2,12 @@
 use mathlib.Core.Path.{_≡_, sym, _∙_}
 use mathlib.Core.Bool.{false}
 use Prim.Native.Nat.{_*_, _≤_, _-_}
+use native.Mathlib.Nat.{add-sub-cancel-left}
 use native.Mathlib.Omega.{arith}
 use borrow.Author.Needs.{needs}
 use Rattle.base.specs.Below.{anyBelow}
 use Rattle.base.proofs.Below.{any-intro}
-use Rattle.volume_table.proofs.Laws.{any-more}
+use Rattle.volume_table.proofs.Laws.{any-more, lent-length}
 use Rattle.volume_table.proofs.Tables.{empty-at, repeats, none-repeats, repeats-as}
 use Rattle.volume_table.proofs.table.name_repeats.Statement.{statement}
 use Rattle.volume_table.proofs.table.name_repeats.Tie as tie
@@ -16,49 +17,72 @@ use Rattle.base.proofs.same.Reads as same-reads
 use Rattle.volume_table.proofs.table.names_clash.Reads as names-clash-reads
 
 abbrev Inv-loop : tie.InvT-loop
-Inv-loop t j empty b i₀ i = (i ≤ j) × (anyBelow i (repeats t j) ≡ false)
+Inv-loop t j empty b s i₀ i = (i ≤ j) × (anyBelow i (repeats t j) ≡ false)
 
 abbrev μ-loop : tie.MeasureT-loop
-μ-loop t j empty b i₀ i = j - i
+μ-loop t j empty b s i₀ i = j - i
 
 -- is it the name of record i?
-judged : (c : tie.After-names-clash Inv-loop μ-loop) → c .names-clash .result ≡ repeats (c .before .before .before .before .before .before .before .before .args .t .now) (c .before .before .before .before .before .before .before .before .args .j) (c .before .before .loop .i)
+judged : (c : tie.After-names-clash Inv-loop μ-loop) → let l = c .before .before .before in let a = l .before .before .before .before .before .before .args in
+    c .names-clash .result ≡ repeats (a .t .now) (a .j) (l .loop .i)
 judged c =
-    let a = c .before .before .before .before .before .before .before .before .args in
-    repeats-as (a .t .now) (a .j) (c .before .before .loop .i) (empty-at (172 * a .j) (a .t .now) (c .before .before .before .before .before .before .before .before .pre .1 .1) (c .before .before .before .before .same .ensures)) (c .before .before .before .if1 .left) (c .names-clash .ensures)
+    let l = c .before .before .before in
+    let s = l .before .before in
+    let d = s .before .before .before .before in
+    let a = d .args in
+    repeats-as (a .t .now) (a .j) (l .loop .i) (empty-at (172 * a .j) (a .t .now) (d .pre .1 .1) (s .same .ensures)) (l .before .if1 .left) (rw (add-sub-cancel-left, add-sub-cancel-left) at (c .names-clash .ensures))
 
 mul-b : tie.Need-mul-b Inv-loop μ-loop
 mul-b c = search needs
 
-add-same : tie.Need-add-same Inv-loop μ-loop
-add-same c = search needs
+add-s : tie.Need-add-s Inv-loop μ-loop
+add-s c = search needs
 
-sub-same : tie.Need-sub-same Inv-loop μ-loop
-sub-same c = search needs
+sub-s : tie.Need-sub-s Inv-loop μ-loop
+sub-s c = search needs
 
-part-same-start : tie.Need-part-same-start Inv-loop μ-loop
-part-same-start c = search needs
+part-s-start : tie.Need-part-s-start Inv-loop μ-loop
+part-s-start c = search needs
 
-part-same-end : tie.Need-part-same-end Inv-loop μ-loop
-part-same-end c = search needs
+part-s-end : tie.Need-part-s-end Inv-loop μ-loop
+part-s-end c = search needs
 
 same-requires : tie.Need-same-requires Inv-loop μ-loop
 same-requires c κs = search needs
 
 returns : tie.Need-returns Inv-loop μ-loop
-returns c = let a = c .before .before .before .before .before .args in none-repeats (a .t .now) (a .j) (empty-at (172 * a .j) (a .t .now) (c .before .before .before .before .before .pre .1 .1) (c .before .same .ensures)) (c .if1 .taken)
+returns c = let d = c .before .before .before .before .before in let a = d .args in none-repeats (a .t .now) (a .j) (empty-at (172 * a .j) (a .t .now) (d .pre .1 .1) (c .before .same .ensures)) (c .if1 .taken)
 
 loop-holds : tie.Need-loop-holds Inv-loop μ-loop
 loop-holds c = search needs
 
-mul-names-clash : tie.Need-mul-names-clash Inv-loop μ-loop
-mul-names-clash c = search needs
+mul-a : tie.Need-mul-a Inv-loop μ-loop
+mul-a c = search needs
+
+add-names-clash : tie.Need-add-names-clash Inv-loop μ-loop
+add-names-clash c = search needs
+
+sub-names-clash : tie.Need-sub-names-clash Inv-loop μ-loop
+sub-names-clash c = search needs
+
+part-names-clash-start : tie.Need-part-names-clash-start Inv-loop μ-loop
+part-names-clash-start c = search needs
+
+part-names-clash-end : tie.Need-part-names-clash-end Inv-loop μ-loop
+part-names-clash-end c = search needs
 
 names-clash-requires : tie.Need-names-clash-requires Inv-loop μ-loop
-names-clash-requires c κs = search needs
+names-clash-requires c κs =
+    let l = c .before .before in
+    let d = l .before .before .before .before .before .before in
+    let a = d .args in
+    (lent-length (172 * l .loop .i) 172 (a .t .now) (omega arith), (lent-length (172 * a .j) 172 (a .t .now) (omega arith), d .pre .1 .1))
 
 returns-2 : tie.Need-returns-2 Inv-loop μ-loop
-returns-2 c = let a = c .before .before .before .before .before .before .before .before .before .args in sym (any-intro (a .j) (repeats (a .t .now) (a .j)) (c .before .before .before .loop .i) (omega arith) (sym (judged (c .before)) ∙ c .if2 .taken))
+returns-2 c =
+    let l = c .before .before .before .before in
+    let a = l .before .before .before .before .before .before .args in
+    sym (any-intro (a .j) (repeats (a .t .now) (a .j)) (l .loop .i) (omega arith) (sym (judged (c .before)) ∙ c .if2 .taken))
 
 add-i : tie.Need-add-i Inv-loop μ-loop
 add-i c = search needs
@@ -67,7 +91,10 @@ loop-less : tie.Need-loop-less Inv-loop μ-loop
 loop-less c = search needs
 
 loop-again : tie.Need-loop-again Inv-loop μ-loop
-loop-again c = let a = c .before .before .before .before .before .before .before .before .before .args in (omega arith, any-more (repeats (a .t .now) (a .j)) (c .before .before .before .loop .i) (c .before .before .before .loop .inv .1) (sym (judged (c .before)) ∙ c .if2 .left))
+loop-again c =
+    let l = c .before .before .before .before in
+    let a = l .before .before .before .before .before .before .args in
+    (omega arith, any-more (repeats (a .t .now) (a .j)) (l .loop .i) (l .loop .inv .1) (sym (judged (c .before)) ∙ c .if2 .left))
 
 returns-3 : tie.Need-returns-3 Inv-loop μ-loop
 returns-3 c = let e : c .before .loop .i ≡ c .before .before .before .before .before .before .before .args .j = omega arith in sym (rw e at (c .before .loop .inv .1))
@@ -79,14 +106,18 @@ name-repeats-spec =
     Inv-loop
     μ-loop
     mul-b
-    add-same
-    sub-same
-    part-same-start
-    part-same-end
+    add-s
+    sub-s
+    part-s-start
+    part-s-end
     same-requires
     returns
     loop-holds
-    mul-names-clash
+    mul-a
+    add-names-clash
+    sub-names-clash
+    part-names-clash-start
+    part-names-clash-end
     names-clash-requires
     returns-2
     add-i

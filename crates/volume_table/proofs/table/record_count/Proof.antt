@@ -6,9 +6,6 @@ use Rattle.volume_table.proofs.table.record_count.Tie as tie
 use Rattle.volume_table.proofs.table.record_count.Reads as reads
 use Rattle.volume_table.proofs.table.record_count.Lts as lts
 
-cast-fit : tie.Need-cast-fit
-cast-fit c = search needs
-
 returns : tie.Need-returns
 unfolding recordCount
 returns c = search needs
@@ -18,4 +15,4 @@ unfolding recordCount
 returns-2 c = search needs
 
 pub record-count-spec : {M : Type 1} → statement M
-record-count-spec = tie.close (tie.spec cast-fit returns returns-2)
+record-count-spec = tie.close (tie.spec returns returns-2)

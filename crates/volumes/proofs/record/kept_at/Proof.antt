@@ -6,7 +6,7 @@ use Rattle.volumes.proofs.record.kept_at.Statement.{statement}
 use Rattle.volumes.proofs.record.kept_at.Tie as tie
 use Rattle.volumes.proofs.record.kept_at.Reads as reads
 use Rattle.volumes.proofs.record.kept_at.Lts as lts
-use Rattle.field.proofs.read.Reads as read-reads
+use Rattle.volume_table.proofs.get_field.Reads as get-field-reads
 
 add-r : tie.Need-add-r
 add-r c = search needs
@@ -20,32 +20,32 @@ part-r-start c = search needs
 part-r-end : tie.Need-part-r-end
 part-r-end c = search needs
 
-read-requires : tie.Need-read-requires
-read-requires c κs = search needs
+get-field-requires : tie.Need-get-field-requires
+get-field-requires c κs = search needs
 
 cast-t9 : tie.Need-cast-t9
 cast-t9 c = search needs
 
-read-requires-2 : tie.Need-read-requires-2
-read-requires-2 c κs = search needs
+get-field-requires-2 : tie.Need-get-field-requires-2
+get-field-requires-2 c κs = search needs
 
 cast-t11 : tie.Need-cast-t11
 cast-t11 c = search needs
 
-read-requires-3 : tie.Need-read-requires-3
-read-requires-3 c κs = search needs
+get-field-requires-3 : tie.Need-get-field-requires-3
+get-field-requires-3 c κs = search needs
 
 cast-t13 : tie.Need-cast-t13
 cast-t13 c = search needs
 
-read-requires-4 : tie.Need-read-requires-4
-read-requires-4 c κs = search needs
+get-field-requires-4 : tie.Need-get-field-requires-4
+get-field-requires-4 c κs = search needs
 
 cast-t15 : tie.Need-cast-t15
 cast-t15 c = search needs
 
-read-requires-5 : tie.Need-read-requires-5
-read-requires-5 c κs = search needs
+get-field-requires-5 : tie.Need-get-field-requires-5
+get-field-requires-5 c κs = search needs
 
 cast-t17 : tie.Need-cast-t17
 cast-t17 c = search needs
@@ -53,7 +53,7 @@ cast-t17 c = search needs
 returns : tie.Need-returns
 returns c =
     let a = c .before .before .before .before .before .before .before .args in
-    kept-read (a .at) (a .t .now) (c .before .before .before .before .read .ensures .0) (c .before .before .before .read2 .ensures .0) (c .before .before .read3 .ensures .0) (c .before .read4 .ensures .0) (c .read5 .ensures .0)
+    kept-read (a .at) (a .t .now) (c .before .before .before .before .get-field .ensures .0) (c .before .before .before .get-field2 .ensures .0) (c .before .before .get-field3 .ensures .0) (c .before .get-field4 .ensures .0) (c .get-field5 .ensures .0)
 
 pub kept-at-spec : {M : Type 1} → statement M
 kept-at-spec =
@@ -63,14 +63,14 @@ kept-at-spec =
     sub-r
     part-r-start
     part-r-end
-    read-requires
+    get-field-requires
     cast-t9
-    read-requires-2
+    get-field-requires-2
     cast-t11
-    read-requires-3
+    get-field-requires-3
     cast-t13
-    read-requires-4
+    get-field-requires-4
     cast-t15
-    read-requires-5
+    get-field-requires-5
     cast-t17
     returns)
