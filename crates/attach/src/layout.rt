@@ -9,6 +9,7 @@ ghost use Rattle.report.specs.Report.{faces};
 ghost use Rattle.attach.specs.Layout.{isChosen, Found, Chosen};
 use geometry::Geometry;
 use header::LAYOUT_VOLUME;
+use report::class;
 
 // The PEB that is chosen for a volume's LEB; n if there is none.
 pub fn find_chosen(pebs: &[u32], map: &[u32], n: usize, volume: u32, lnum: u32) -> usize
@@ -29,7 +30,7 @@ fn is_chosen(pebs: &[u32], map: &[u32], i: usize, volume: u32, lnum: u32) -> boo
     requires { ⌜ (i < 4096) × ((i * 2 + 2 ≤ length (now pebs)) × (i * 3 + 3 ≤ length (now map))) ⌝ }
     ensures { λ r. ⌜ r ≡ isChosen (now (pebs .entry)) (now (map .entry)) volume lnum i ⌝ }
 {
-    if pebs[i * 2] != 1 {
+    if pebs[i * 2] != class::CHOSEN {
         return false;
     }
     if map[i * 3] != volume {

@@ -14,6 +14,7 @@ ghost use Rattle.attach.specs.Stage.{Ended, Room, Past8, Past10, outcome
 use geometry::Geometry;
 use geometry::GeometryRead;
 use report::Attached;
+use report::refusal;
 use scan::Sums;
 use volume_table::Taken;
 
@@ -35,7 +36,7 @@ fn attach_chosen(
     let choice = volume_table::choose_table(copy0, copy1, g.leb_size, g.unit, n as u32);
     let taken = choice.taken;
     let Taken::Leb(leb) = taken else {
-        return lent::refuse(11, 0, n, pebs, map, states);
+        return lent::refuse(refusal::NO_TABLE, 0, n, pebs, map, states);
     };
     let t = volume_table::taken_table(copy0, copy1, taken, g.leb_size);
     summary::report_on(
@@ -69,10 +70,17 @@ fn attach_with_heads(
     marking::link_copies(n, map, heads);
     let again = choice::first_repeat(image, g, n, map);
     if again < n {
-        return lent::refuse(9, again as u32, n, pebs, map, states);
+        return lent::refuse(
+            refusal::REPEATED_SEQUENCE,
+            again as u32,
+            n,
+            pebs,
+            map,
+            states,
+        );
     }
     if sums.unused {
-        return lent::refuse(10, 0, n, pebs, map, states);
+        return lent::refuse(refusal::EMPTY_IMAGE, 0, n, pebs, map, states);
     }
     marking::mark_chosen(image, g, n, map, heads, pebs);
     attach_chosen(image, g, n, sums, pebs, map, states)
@@ -144,25 +152,25 @@ fn attach_image(
     let n = image.len() / size;
     if image.len() % size != 0 {
         return Attached::Refused {
-            number: 3,
+            number: refusal::BAD_IMAGE_SIZE,
             place: 0,
         };
     }
     if n < 2 {
         return Attached::Refused {
-            number: 3,
+            number: refusal::BAD_IMAGE_SIZE,
             place: 0,
         };
     }
     if 4096 < n {
         return Attached::Refused {
-            number: 3,
+            number: refusal::BAD_IMAGE_SIZE,
             place: 0,
         };
     }
     if !long_enough(n, pebs, map, states) {
         return Attached::Refused {
-            number: 4,
+            number: refusal::SHORT_BUFFER,
             place: 0,
         };
     }
@@ -186,11 +194,11 @@ pub fn attach(
     match r {
         GeometryRead::Good(g) => return attach_image(image, g, pebs, map, states),
         GeometryRead::Malformed => return Attached::Refused {
-            number: 1,
+            number: refusal::MALFORMED_SLIP,
             place: 0,
         },
         GeometryRead::Outside => return Attached::Refused {
-            number: 2,
+            number: refusal::BAD_GEOMETRY,
             place: 0,
         },
     }

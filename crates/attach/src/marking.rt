@@ -10,6 +10,8 @@ ghost use Rattle.scan.specs.Pass.{firstWords};
 ghost use Rattle.choice.specs.Chain.{Chains};
 ghost use Rattle.attach.specs.Marking.{Linking, MarkedTo};
 use geometry::Geometry;
+use report::NO_WORD;
+use report::class;
 
 // The copies are linked, whatever the buckets' heads were before.
 pub fn link_copies(n: usize, map: &mut [u32], heads: &mut [u32])
@@ -33,14 +35,14 @@ fn choose_peb(
     requires { ⌜ (i < n) × ((Linking g (now image) n (now map) (now heads)) × MarkedTo g (now image) n (now map) (now pebs) i) ⌝ }
     ensures { λ _. ⌜ (MarkedTo g (now (image .entry)) n (now (map .entry)) (now (pebs .exit)) (i + 1)) × (drop (n * 2) (now (pebs .exit)) ≡ drop (n * 2) (now (pebs .entry))) ⌝ }
 {
-    if map[i * 3] == 0xFFFFFFFF {
+    if map[i * 3] == NO_WORD {
         return;
     }
     if choice::has_lower_copy(map, n, i) {
         return;
     }
     let peb = choice::chosen_peb(image, g, n, map, heads, i);
-    pebs[peb * 2] = 1;
+    pebs[peb * 2] = class::CHOSEN;
 }
 
 // Each copy's class: chosen or passed over.

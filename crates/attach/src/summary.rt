@@ -6,6 +6,7 @@ use crate::lent::refuse;
 use geometry::Geometry;
 use report::Attached;
 use report::Report;
+use report::refusal;
 use scan::Sums;
 
 // The mean of `count` counters; 0 where there is none.
@@ -40,7 +41,7 @@ pub fn report_on(
     let k = volumes::first_misfit(image, g, n, map, entries, t);
     if k < entries {
         let peb = map[k * 3 + 2];
-        return refuse(12, peb, n, pebs, map, states);
+        return refuse(refusal::ENTRY_MISFIT, peb, n, pebs, map, states);
     }
     volumes::fill_states(image, g, n, map, entries, t, states);
     let grade = grade::grade(pebs, states, n, mark);

@@ -7,6 +7,7 @@ ghost use Rattle.listing.specs.Text.{numbersPart, marksPart, attachedLin
 ghost use Rattle.listing.specs.Written.{Written};
 use crate::write::append;
 use crate::write::labelled;
+use report::NO_WORD;
 use report::Report;
 
 // The report's numbers: the first four.
@@ -57,7 +58,7 @@ fn counter_word(out: &mut [u8], at: usize, counter: u32) -> usize
     ensures text { λ r. ⌜ Written (now (out .entry)) at (counterWord counter) r (now (out .exit)) ⌝ }
     ensures end { λ r. ⌜ r ≤ at + 36 ⌝ }
 {
-    if counter == 0xFFFFFFFF {
+    if counter == NO_WORD {
         return append(out, at, b" lost");
     }
     labelled(out, at, b" ", counter as u64)

@@ -11,6 +11,7 @@ ghost use Rattle.plan.specs.Headers.{dataEnd, newSize};
 ghost use Rattle.moving.specs.Reported.{Fits, damagedAs, examined, renewedAs};
 use crate::Examined;
 use geometry::Geometry;
+use header::STATIC;
 use header::VidHeader;
 
 // The CRCs of the data at the old and at the new data size.
@@ -49,7 +50,7 @@ fn new_size(p: &[u8], g: Geometry, h: VidHeader) -> u32
     requires { ⌜ Fits g (now p) h ⌝ }
     ensures { λ r. ⌜ (r ≡ newSize g (copyOf g (now (p .entry)) h)) × (g .«data_start» + r ≤ length (now (p .entry))) ⌝ }
 {
-    if h.vol_type == 2 {
+    if h.vol_type == STATIC {
         return h.data_size;
     }
     content_size(p, g, h.data_pad)
@@ -94,7 +95,7 @@ fn is_damaged(h: VidHeader, matches: bool) -> bool
     if h.copy_flag != 0 {
         return true;
     }
-    h.vol_type == 2
+    h.vol_type == STATIC
 }
 
 // What the data of the copy with the header h say.
@@ -105,7 +106,7 @@ pub fn examine(p: &[u8], g: Geometry, h: VidHeader) -> Examined
     let size = new_size(p, g, h);
     let crcs = both_crcs(p, g, h.data_size, size);
     let damaged = is_damaged(h, crcs.old == h.data_crc);
-    if h.vol_type == 2 {
+    if h.vol_type == STATIC {
         return Examined {
             damaged,
             flag: 1,

@@ -14,6 +14,8 @@ use crate::EcSeen;
 use crate::Sums;
 use crate::VidSeen;
 use geometry::Geometry;
+use header::COMPAT_READ_ONLY;
+use header::COMPAT_REJECT;
 use header::EcHeader;
 use header::LAYOUT_VOLUME;
 use header::VidHeader;
@@ -112,7 +114,7 @@ fn good_vid_refusal(h: VidHeader) -> u32
     if is_mappable(h.volume) {
         return 0;
     }
-    if h.compat == 5 {
+    if h.compat == COMPAT_REJECT {
         return refusal::UNKNOWN_INTERNAL;
     }
     0
@@ -192,5 +194,5 @@ fn asks_read_only(h: VidHeader) -> bool
     if is_mappable(h.volume) {
         return false;
     }
-    h.compat == 2
+    h.compat == COMPAT_READ_ONLY
 }

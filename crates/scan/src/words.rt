@@ -15,6 +15,7 @@ ghost use Rattle.scan.specs.Pass.{smallCounter};
 use crate::EcSeen;
 use crate::VidSeen;
 use crate::totals::is_mappable;
+use header::COMPAT_DELETE;
 use header::VidHeader;
 use report::NO_WORD;
 use report::class;
@@ -38,7 +39,7 @@ fn good_class(h: VidHeader) -> u32
     if is_mappable(h.volume) {
         return class::PASSED_OVER;
     }
-    if h.compat == 1 {
+    if h.compat == COMPAT_DELETE {
         return class::TO_DELETE;
     }
     class::KEPT_ASIDE

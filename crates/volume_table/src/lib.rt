@@ -17,6 +17,11 @@ pub use table::records_part;
 pub use table::table_good;
 pub use table::taken_table;
 
+// The flags of a record.
+pub const AUTORESIZE: u8 = 1;
+
+pub const SKIP_CRC: u8 = 2;
+
 // Where a field stands in a record, and how many bytes it has.
 struct Field {
     at: usize,

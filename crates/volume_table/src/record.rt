@@ -8,6 +8,7 @@ ghost use Rattle.base.specs.Answers.{allOf};
 ghost use Rattle.volume_table.specs.Fields.{recordName, bytesIn};
 ghost use Rattle.volume_table.specs.Sums.{tallied};
 ghost use Rattle.volume_table.specs.Record.{recordOf, emptyRecord, nameEnds, recordRules, recordGood, judgeRecord, recordKind, shownRecord};
+use crate::AUTORESIZE;
 use crate::RecordKind;
 use crate::RecordRead;
 use crate::Tally;
@@ -27,6 +28,9 @@ use crate::fields::SUMMED_SIZE;
 use crate::fields::field_bytes;
 use crate::fields::get_field;
 use crate::fields::set_field;
+
+// Every flag but autoresize and skip CRC.
+const OTHER_FLAGS: u8 = 0xFC;
 
 // The 128 bytes of the name field.
 fn name_field(r: &[u8]) -> [u8; NAME_SIZE]
@@ -139,7 +143,7 @@ fn rules_hold(v: VolumeRecord, leb_size: u32, unit: u32) -> bool
     if !name_ends(name, v.name_length as usize) {
         return false;
     }
-    v.flags & 0xFC == 0
+    v.flags & OTHER_FLAGS == 0
 }
 
 // Is a record that is not empty good: its CRC, then its numbers and name?
@@ -194,7 +198,7 @@ pub fn tally_record(sum: Tally, r: &[u8], leb_size: u32, unit: u32, empty: &[u8]
 {
     let v = parse(r);
     let reserved = sum.reserved + v.reserved as u64;
-    let autoresize = sum.autoresize + (v.flags & 1) as u32;
+    let autoresize = sum.autoresize + (v.flags & AUTORESIZE) as u32;
     if base::same(r, empty) {
         return Tally {
             fine: true,

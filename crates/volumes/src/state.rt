@@ -17,6 +17,7 @@ use geometry::Geometry;
 use header::STATIC;
 use header::VID_USED_LEBS;
 use report::state;
+use volume_table::SKIP_CRC;
 
 // Are the data CRCs of a volume asked: is it static, with the skip flag clear?
 fn asks_crc(r: Kept) -> bool
@@ -25,7 +26,7 @@ fn asks_crc(r: Kept) -> bool
     if r.vol_type != STATIC {
         return false;
     }
-    r.flags & 2 != 2
+    r.flags & SKIP_CRC != SKIP_CRC
 }
 
 // Is a LEB of the static volume v missing? Its entries are distinct LEBs below used LEBs, so one is where there are fewer.
