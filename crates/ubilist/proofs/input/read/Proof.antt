@@ -68,7 +68,9 @@ same-length-2 : tie.Need-same-length-2 Inv-loop μ-loop
 same-length-2 c = search needs
 
 returns-2 : tie.Need-returns-2 Inv-loop μ-loop
-returns-2 c = omega (arith, ended-below _ _ _ _ (omega arith) (c .before .before .before .after-call .ensures) (c .before .t2 .given .1))
+returns-2 c =
+    let n = ended-below _ _ _ _ (omega arith) (c .before .before .before .after-call .ensures) (c .before .t2 .given .1) in
+    omega (arith, n)
 
 enum-told-2 : tie.Need-enum-told-2 Inv-loop μ-loop
 enum-told-2 c = search needs
