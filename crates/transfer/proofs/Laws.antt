@@ -39,8 +39,8 @@ unfolding afterBytes
 beyond room p n h k =
     let m = p .moved + n in rw (ne-eqb n 0 h, le-ltb m room (omega arith), ne-eqb m room (λ e. omega arith))
 
--- Going on, the bytes add up and leave room, and the calls that there can be are fewer; full, they are all that there is room for; only an answer
--- of 0 is the end
+-- Going on, the bytes add up and leave room, and the calls that there can be are fewer; full, they are all that there is
+-- room for; only an answer of 0 is the end
 abbrev pub Told : ℕ → Progress → ℤ → Transfer → Type 0
 Told room p z (On q) = (q .moved ≡ p .moved + bytesOf z) × ((q .moved < room) × (callsLeft room q < callsLeft room p))
 Told room p z Full = p .moved + bytesOf z ≡ room
@@ -117,8 +117,8 @@ goes room (c ∷ cs) p q h e =
     (afterCall room p (c .got) (c .interrupted)) (told room p (c .got) (c .interrupted) h) e in
     (omega (arith, g .0), g .1)
 
--- The bytes moved are the sum of the answers, and less than there is room for. Of the row with one call more: full, all answers add up to the room;
--- ended, its last answer was 0 and the others add up to what was moved
+-- The bytes moved are the sum of the answers, and less than there is room for. Of the row with one call more: full, all
+-- answers add up to the room; ended, its last answer was 0 and the others add up to what was moved
 pub row : (room : ℕ) (cs : List Call) (c : Call) (q : Progress) → 0 < room → afterCalls room (On begun) cs ≡ On q
     → (q .moved ≡ total cs) × ((q .moved < room) × Told room q (c .got) (afterCalls room (On begun) (cs ++ (c ∷ []))))
 row room cs c q h e =

@@ -12,7 +12,7 @@ use Rattle.transfer.specs.declared.Transfer.the-variants.{On, Full, Ende
 abbrev pub begun : Progress
 begun = record { moved = 0; tries = 1000000 }
 
--- n bytes more. None: that is the end. As many as there is room for: full; more than that is an answer that no call gives
+-- n bytes more. None: that is the end. As many as there is room for: full; more than that: no call answers so
 unfoldable pub afterBytes : ℕ → Progress → ℕ → Transfer
 afterBytes room p n =
     cond (eqb n 0) (Ended (p .moved))

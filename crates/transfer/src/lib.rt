@@ -32,7 +32,8 @@ pub fn begin() -> Progress
     }
 }
 
-// After a call that answered `got`, where there is room for `room` bytes in all; `interrupted` says whether `errno` was EINTR then.
+// After a call that answered `got`, where there is room for `room` bytes in all; `interrupted` says whether `errno` was
+// EINTR then.
 pub fn after_call(p: Progress, room: usize, got: isize, interrupted: bool) -> Transfer
     ensures { λ r. ⌜ r ≡ afterCall room p got interrupted ⌝ }
 {

@@ -1,4 +1,5 @@
-// Lists a dump: slip and image from standard input, the listing to standard output. Where one of the two fails, a line on standard error says so.
+// Lists a dump: slip and image from standard input, the listing to standard output. Where one of the two fails, a line
+// on standard error says so.
 mod input;
 mod output;
 

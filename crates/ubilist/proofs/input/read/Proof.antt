@@ -42,12 +42,15 @@ enum-known-t : tie.Need-enum-known-t Inv-loop μ-loop
 enum-known-t c = search needs
 
 loop-less : tie.Need-loop-less Inv-loop μ-loop
-loop-less c = on-next _ _ _ _ (omega arith) (c .before .before .before .after-call .ensures) (c .before .t .given .1) .1
+loop-less c =
+    let n = on-next _ _ _ _ (omega arith) (c .before .before .before .after-call .ensures) (c .before .t .given .1) in
+    omega (arith, n .0, n .1)
 
 loop-again : tie.Need-loop-again Inv-loop μ-loop
 loop-again c =
     let n = on-next _ _ _ _ (omega arith) (c .before .before .before .after-call .ensures) (c .before .t .given .1) in
-    (c .before .before .before .before .before .before .held .given ∙ c .before .before .before .before .before .before .before .before .before .loop .inv .0, omega (arith, n .0))
+    let l = c .before .before .before .before .before .before .before .before .before .loop in
+    (c .before .before .before .before .before .before .held .given ∙ l .inv .0, omega (arith, n .0))
 
 enum-told : tie.Need-enum-told Inv-loop μ-loop
 enum-told c = search needs
@@ -65,7 +68,9 @@ same-length-2 : tie.Need-same-length-2 Inv-loop μ-loop
 same-length-2 c = search needs
 
 returns-2 : tie.Need-returns-2 Inv-loop μ-loop
-returns-2 c = omega (arith, ended-below _ _ _ _ (omega arith) (c .before .before .before .after-call .ensures) (c .before .t2 .given .1))
+returns-2 c =
+    let n = ended-below _ _ _ _ (omega arith) (c .before .before .before .after-call .ensures) (c .before .t2 .given .1) in
+    omega (arith, n)
 
 enum-told-2 : tie.Need-enum-told-2 Inv-loop μ-loop
 enum-told-2 c = search needs

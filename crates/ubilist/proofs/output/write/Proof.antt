@@ -51,10 +51,14 @@ enum-known-t : tie.Need-enum-known-t Inv-loop μ-loop
 enum-known-t c = search needs
 
 loop-less : tie.Need-loop-less Inv-loop μ-loop
-loop-less c = on-next _ _ _ _ (c .before .before .before .before .before .before .before .loop .inv) (c .before .before .before .after-call .ensures) (c .before .t .given .1) .1
+loop-less c =
+    let l = c .before .before .before .before .before .before .before .loop in
+    on-next _ _ _ _ (l .inv) (c .before .before .before .after-call .ensures) (c .before .t .given .1) .1
 
 loop-again : tie.Need-loop-again Inv-loop μ-loop
-loop-again c = on-next _ _ _ _ (c .before .before .before .before .before .before .before .loop .inv) (c .before .before .before .after-call .ensures) (c .before .t .given .1) .0
+loop-again c =
+    let l = c .before .before .before .before .before .before .before .loop in
+    on-next _ _ _ _ (l .inv) (c .before .before .before .after-call .ensures) (c .before .t .given .1) .0
 
 enum-told : tie.Need-enum-told Inv-loop μ-loop
 enum-told c = search needs
