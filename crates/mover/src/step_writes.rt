@@ -31,8 +31,8 @@ pub fn erase(image: &mut [u8], at: usize, n: usize)
     base::fill(&mut image[at..at + n], n, 0xFF)
 }
 
-// A good VID header is made in `buffer`, then stored from `at` on, ascending: a stop in a store has to leave a prefix of its bytes, and
-// the fields of a header are not set in that order.
+// A good VID header is made in `buffer`, then stored from `at` on, ascending: a stop in a store has to leave a prefix
+// of its bytes, and the fields of a header are not set in that order.
 fn store_vid_by(h: VidHeader, leb_size: u32, buffer: &mut [u8], image: &mut [u8], at: usize)
     requires { ⌜ (length (now buffer) ≡ 64) × ((at + 64 ≤ length (now image)) × (isGood (judgeVid «leb_size» h) ≡ true)) ⌝ }
     ensures { λ _. ⌜ now (image .exit) ≡ put at (vidBytes h) (now (image .entry)) ⌝ }

@@ -1,5 +1,5 @@
--- A move that is finished at once (`finishing`, which `mover::finish` promises) is the course to the end that the theorem speaks of.
--- Assumes nothing.
+-- A move that is finished at once (`finishing`, which `mover::finish` promises) is the course to the end that the theorem
+-- speaks of. Assumes nothing.
 use mathlib.Core.Path.{_≡_, refl, sym, ap, _∙_}
 use mathlib.Core.List.{List}
 use Prim.Native.Nat.{ℕ, zero, suc, _+_, _-_, _≤_, _<_}
