@@ -1,21 +1,18 @@
 -- Laws of how attaching ends: lent words after it, the mean, refusals in their order. Assumes nothing.
 use mathlib.Core.Path.{_≡_, refl, sym, ap, ap₂, _∙_}
-use mathlib.Core.Bool.{Bool, true, false, _&&_, cond}
+use mathlib.Core.Bool.{Bool, true, false, cond}
 use mathlib.Core.Option.{Option, none, some}
 use mathlib.Core.List.{List, _++_}
 use Prim.Native.Nat.{ℕ, zero, suc, _+_, _*_, _-_, _≤_, _<_}
 use native.Mathlib.Omega.{arith}
-use borrow.Author.Tests.{leb-true}
 use lib.ListN.{length, take, drop, replicate, length-append, length-drop, length-replicate}
 use lib.Seq.{take-append-seam, drop-append-seam}
 use Rattle.base.specs.Below.{sumBelow, countBelow}
-use Rattle.base.specs.Lists.{part, eqs}
-use Rattle.base.proofs.Answers.{each-holds}
 use Rattle.geometry.specs.declared.Geometry.{Geometry}
 use Rattle.header.specs.declared.EcHeader.{EcHeader}
-use Rattle.header.specs.Fields.{Verdict, good, bad, newer, crcMatches}
-use Rattle.header.specs.Ec.{readEc, judgeEc, ecRules, ecFields, ecMagic}
-use Rattle.header.proofs.Laws.{read-good}
+use Rattle.header.specs.Fields.{Verdict, good, bad, newer}
+use Rattle.header.specs.Ec.{readEc}
+use Rattle.header.proofs.Laws.{ec-good}
 use Rattle.report.specs.View.{allFF, ecBlank, ecOf, goodEc, viewOf, viewsOf, pebAt, ecs}
 use Rattle.report.specs.Volumes.{refusal1112}
 use Rattle.report.specs.Report.{noWord, counterOr, hasCounter, counterAt, refusal, faces, places, records, taken}
@@ -46,13 +43,6 @@ filled-over k x x′ e t = e ∙ ap (λ (a : List ℕ). replicate k noWord ++ a)
 
 -- ---- counters
 
-read-small : (l : List ℕ) (h : EcHeader) → readEc l ≡ good h → h .counter ≤ 0x7FFFFFFF
-unfolding readEc judgeEc ecRules
-read-small l h e =
-    let r = read-good (eqs (part 0 4 l) ecMagic && crcMatches l) (ecFields l .version) (ecRules (ecFields l)) e in
-    let k = leb-true (ecFields l .counter) 0x7FFFFFFF (each-holds (ecRules (ecFields l)) (r .1) 0) in
-    rw (← (r .0)) k
-
 -- a good counter has 31 bits
 pub counter-small : (g : Geometry) (image : List ℕ) (i : ℕ) (h : EcHeader) → ecs (viewsOf g image) i ≡ some h → h .counter ≤ 0x7FFFFFFF
 unfolding viewOf
@@ -62,7 +52,7 @@ counter-small g image i h e = go (allFF (take 64 (pebAt g image i))) (readEc (ta
     go true v q e = absurd (let z : _≡_ {A = ℕ} 0 1 = cc in omega arith)
     go false bad q e = absurd (let z : _≡_ {A = ℕ} 0 1 = cc in omega arith)
     go false newer q e = absurd (let z : _≡_ {A = ℕ} 0 1 = cc in omega arith)
-    go false (good x) q e = let z : x ≡ h = cc in rw (← z) (read-small _ x q)
+    go false (good x) q e = let z : x ≡ h = cc in rw (← z) (ec-good (take 64 (pebAt g image i)) q .1)
 
 -- so the word of a lost counter is no good counter
 pub lost-word : (g : Geometry) (n : ℕ) (image : List ℕ) (i : ℕ) → i < n → counterAt g n (viewsOf g image) i ≡ noWord → hasCounter (ecs (viewsOf g image) i) ≡ false

@@ -1,6 +1,6 @@
 -- A PEB's copy, where it stands in the image. Assumes nothing.
 use mathlib.Core.Path.{_≡_, refl, sym, ap, ap₂, _∙_}
-use mathlib.Core.Bool.{Bool, true, false, _&&_, cond}
+use mathlib.Core.Bool.{Bool, true, false, cond}
 use mathlib.Core.Option.{some}
 use mathlib.Core.List.{List}
 use Prim.Native.Nat.{ℕ, _+_, _-_, _*_, _≤_, _<_, _^_}
@@ -10,16 +10,16 @@ use borrow.Author.Tests.{leb-true, ltb-true, eq-eqb}
 use lib.Dec.{eqb, ltb}
 use lib.ListN.{length, take, drop}
 use Rattle.base.specs.Answers.{allOf}
-use Rattle.base.specs.Lists.{part, eqs, Bytes}
+use Rattle.base.specs.Lists.{part, Bytes}
 use Rattle.base.proofs.Answers.{each-holds, and-left}
 use Rattle.base.proofs.Lists.{length-part, bytes-part, part-part}
 use Rattle.crc32.specs.Crc.{crcOf}
 use Rattle.geometry.specs.declared.Geometry.{Geometry}
 use Rattle.geometry.specs.Placed.{Placed}
 use Rattle.header.specs.declared.VidHeader.{VidHeader}
-use Rattle.header.specs.Fields.{crcMatches, Verdict, good, bad, newer}
-use Rattle.header.specs.Vid.{vidMagic, vidFields, vidRules, staticRule, judgeVid, readVid}
-use Rattle.header.proofs.Laws.{read-good}
+use Rattle.header.specs.Fields.{Verdict, good, bad, newer}
+use Rattle.header.specs.Vid.{vidFields, vidRules, staticRule, readVid}
+use Rattle.header.proofs.Laws.{vid-good}
 use Rattle.header.proofs.RoundTrip.{vid-read-fits}
 use Rattle.report.specs.View.{allFF, Copy, vidBlank, copyOf, vidOf, vidPart, viewOf, pebAt, viewsOf, goodVid, copies}
 use Rattle.report.proofs.First.{none-some}
@@ -32,21 +32,19 @@ module _ (g : Geometry) (p : List ℕ) (c : Copy) where
   abbrev fields : VidHeader
   fields = vidFields (vidPart g p)
 
-  abbrev rules : List Bool
-  rules = vidRules (g .«leb_size») fields
-
   of-verdict : (blank : Bool) (v : Verdict VidHeader) → readVid (g .«leb_size») (vidPart g p) ≡ v
-      → goodVid (cond blank vidBlank (vidOf g p v)) ≡ some c → (c ≡ copyOf g p fields) × (allOf rules ≡ true)
-  unfolding readVid judgeVid
+      → goodVid (cond blank vidBlank (vidOf g p v)) ≡ some c
+      → (c ≡ copyOf g p fields) × (allOf (vidRules (g .«leb_size») fields) ≡ true)
   of-verdict true v q e = none-some e
   of-verdict false bad q e = none-some e
   of-verdict false newer q e = none-some e
   of-verdict false (good h) q e =
-      let r = read-good (eqs (part 0 4 (vidPart g p)) vidMagic && crcMatches (vidPart g p)) (fields .version) rules q in
+      let r = vid-good (g .«leb_size») (vidPart g p) q in
       let z : copyOf g p h ≡ c = cc in
-      (rw (r .0) (sym z), r .1)
+      (rw (r .0) (sym z), rw (r .0) (r .1))
 
-  pub view-good : goodVid (viewOf g p .vid) ≡ some c → (c ≡ copyOf g p fields) × (allOf rules ≡ true)
+  pub view-good : goodVid (viewOf g p .vid) ≡ some c
+      → (c ≡ copyOf g p fields) × (allOf (vidRules (g .«leb_size») fields) ≡ true)
   unfolding viewOf
   view-good e = of-verdict (allFF (vidPart g p)) (readVid (g .«leb_size») (vidPart g p)) refl e
 

@@ -8,11 +8,15 @@ use lib.Dec.{eqb, leb}
 use lib.ListN.{take, drop}
 use borrow.Author.Tests.{ne-eqb, leb-true}
 use Rattle.base.specs.Answers.{allOf}
-use Rattle.base.proofs.Answers.{and-left, and-right}
+use Rattle.base.specs.Lists.{part, eqs}
+use Rattle.base.proofs.Answers.{and-left, and-right, each-holds}
 use Rattle.base.proofs.Lists.{table-from, every-entry}
 use Rattle.header.specs.declared.Field.{Field}
-use Rattle.header.specs.Fields.{fields, fieldOf, fieldAt, vidVersion, Verdict, good, bad, newer, byVersion, judged, isGood}
-use Rattle.header.specs.Vid.{vidFields, IsVidField, vidField}
+use Rattle.header.specs.declared.EcHeader.{EcHeader}
+use Rattle.header.specs.declared.VidHeader.{VidHeader}
+use Rattle.header.specs.Fields.{fields, fieldOf, fieldAt, crcMatches, vidVersion, Verdict, good, bad, newer, byVersion, judged, isGood}
+use Rattle.header.specs.Ec.{ecMagic, ecFields, ecRules, judgeEc, readEc}
+use Rattle.header.specs.Vid.{vidMagic, vidFields, IsVidField, vidField, vidRules, judgeVid, readVid}
 
 -- ---- the table
 
@@ -81,7 +85,19 @@ module _ {A : Type 0} {x h : A} where
   judged-good false false b e = absurd (let z : _≡_ {A = ℕ} 0 1 = cc in omega arith)
 
   -- `test` says that magic and CRC are right
-  pub read-good : (test : Bool) (version : ℕ) (rules : List Bool) → cond test (judged version rules x) bad ≡ good h
+  read-good : (test : Bool) (version : ℕ) (rules : List Bool) → cond test (judged version rules x) bad ≡ good h
       → (x ≡ h) × (allOf rules ≡ true)
   read-good true version rules e = judged-good (eqb version 1) (eqb version 0) (allOf rules) e
   read-good false version rules e = absurd (let z : _≡_ {A = ℕ} 0 1 = cc in omega arith)
+
+pub ec-good : (s : List ℕ) {h : EcHeader} → readEc s ≡ good h → (ecFields s ≡ h) × (h .counter ≤ 0x7FFFFFFF)
+unfolding readEc judgeEc ecRules
+ec-good s e =
+    let r = read-good (eqs (part 0 4 s) ecMagic && crcMatches s) (ecFields s .version) (ecRules (ecFields s)) e in
+    (r .0, rw (← (r .0)) (leb-true (ecFields s .counter) 0x7FFFFFFF (each-holds (ecRules (ecFields s)) (r .1) 0)))
+
+pub vid-good : (size : ℕ) (s : List ℕ) {h : VidHeader} → readVid size s ≡ good h → (vidFields s ≡ h) × (allOf (vidRules size h) ≡ true)
+unfolding readVid judgeVid
+vid-good size s e =
+    let r = read-good (eqs (part 0 4 s) vidMagic && crcMatches s) (vidFields s .version) (vidRules size (vidFields s)) e in
+    (r .0, rw (r .0) at (r .1))

@@ -12,8 +12,8 @@ use borrow.Author.Tests.{eqb-true, eq-eqb, leb-true}
 use lib.ListN.{length, take, drop, getD, length-take, length-drop}
 use Rattle.base.specs.Answers.{allOf, mapO}
 use Rattle.base.specs.Below.{firstBelow}
-use Rattle.base.specs.Lists.{part, eqs, Bytes}
-use Rattle.base.proofs.Answers.{clash, and-left, and-right, each-holds, cond-yes}
+use Rattle.base.specs.Lists.{Bytes}
+use Rattle.base.proofs.Answers.{clash, and-left, and-right, each-holds}
 use Rattle.base.proofs.Below.{first-hit}
 use Rattle.base.proofs.Highest.{max-most}
 use Rattle.base.proofs.Lists.{length-part, bytes-take, bytes-drop, bytes-part}
@@ -21,12 +21,11 @@ use Rattle.crc32.specs.Crc.{crcOf}
 use Rattle.geometry.specs.Geometry.{roundUp}
 use Rattle.geometry.specs.Placed.{Placed}
 use Rattle.geometry.specs.declared.Geometry.{Geometry}
-use Rattle.header.specs.Fields.{crcMatches, Verdict, good, bad, newer, judged}
-use Rattle.header.specs.Ec.{ecMagic, ecFields, ecRules, judgeEc, readEc, EcFits}
-use Rattle.header.specs.Vid.{implies, layoutVolume, vidMagic, vidFields, vidRules, layoutRule, judgeVid, readVid, VidFits}
+use Rattle.header.specs.Ec.{ecFields, EcFits}
+use Rattle.header.specs.Vid.{implies, layoutVolume, vidFields, vidRules, layoutRule, VidFits}
 use Rattle.header.specs.declared.EcHeader.{EcHeader}
-use Rattle.header.specs.declared.VidHeader.{VidHeader}
-use Rattle.header.proofs.RoundTrip.{ec-fields-are, ec-read-fits, vid-fields-are, vid-read-fits}
+use Rattle.header.proofs.Laws.{ec-good, vid-good}
+use Rattle.header.proofs.RoundTrip.{ec-read-fits, vid-read-fits}
 use Rattle.volume_table.specs.Table.{recordAt}
 use Rattle.volume_table.specs.declared.VolumeRecord.{VolumeRecord}
 use Rattle.volume_table.proofs.Good.{good-pads}
@@ -44,34 +43,6 @@ use Rattle.plan.proofs.Blocks.{peb-length}
 use Rattle.plan.proofs.Data.{end-within, round-within}
 use Rattle.plan.proofs.Seen.{Read, copy-read, ec-seen}
 use Rattle.plan.proofs.Accepted.{InMap}
-
--- ---- a good header meets its rules
-
-module _ {A : Type 0} where
-  not-good : {x : Verdict A} {h : A} → x ≡ bad → x ≡ good h → ⊥
-  not-good p q = let z : _≡_ {A = ℕ} 0 1 = cc in omega arith
-
-  rules-hold : (v : ℕ) (rules : List Bool) (x h : A) → judged v rules x ≡ good h → allOf rules ≡ true
-  rules-hold v rules x h e = go (eqb v 1) (eqb v 0) (allOf rules) refl e
-    where
-      go : (one zero r : Bool) → allOf rules ≡ r → cond one (cond r (good x) bad) (cond zero bad newer) ≡ good h → allOf rules ≡ true
-      go true zero true q e = q
-      go true zero false q e = absurd (not-good refl e)
-      go false true r q e = absurd (not-good refl e)
-      go false false r q e = absurd (let z : _≡_ {A = ℕ} 0 1 = cc in omega arith)
-
-vid-rules : (size : ℕ) (h : VidHeader) (s : List ℕ) → vidFields s ≡ h → readVid size s ≡ good h → allOf (vidRules size h) ≡ true
-unfolding readVid judgeVid
-vid-rules size h s f e =
-    let t = cond-yes (eqs (part 0 4 s) vidMagic && crcMatches s) (not-good refl) e .1 in
-    subst (λ (x : VidHeader). allOf (vidRules size x) ≡ true) f (rules-hold (vidFields s .version) (vidRules size (vidFields s)) (vidFields s) h t)
-
-ec-rules : (h : EcHeader) (s : List ℕ) → ecFields s ≡ h → readEc s ≡ good h → h .counter ≤ 0x7FFFFFFF
-unfolding readEc judgeEc ecRules
-ec-rules h s f e =
-    let t = cond-yes (eqs (part 0 4 s) ecMagic && crcMatches s) (not-good refl) e .1 in
-    let r = rules-hold (ecFields s .version) (ecRules (ecFields s)) (ecFields s) h t in
-    subst (λ (x : EcHeader). x .counter ≤ 0x7FFFFFFF) f (leb-true (ecFields s .counter) 0x7FFFFFFF (each-holds (ecRules (ecFields s)) r 0))
 
 -- ---- the numbers in an image
 
@@ -103,13 +74,13 @@ module _ (g : Geometry) (P : Placed g) (n : ℕ) (image : List ℕ) (bytes : Byt
     read = copy-read g (peb i) c is
 
     fields : vidFields (vidPart g (peb i)) ≡ c .header
-    fields = vid-fields-are (g .«leb_size») (c .header) (vidPart g (peb i)) (bytes-part (g .«vid_start») 64 (peb i) (peb-bytes i)) (vid-long i i<n) (read .reads)
+    fields = vid-good (g .«leb_size») (vidPart g (peb i)) (read .reads) .0
 
     pub copy-widths : VidFits (c .header)
     copy-widths = subst VidFits fields (vid-read-fits (vidPart g (peb i)) (bytes-part (g .«vid_start») 64 (peb i) (peb-bytes i)) (vid-long i i<n))
 
     pub copy-rules : allOf (vidRules (g .«leb_size») (c .header)) ≡ true
-    copy-rules = vid-rules (g .«leb_size») (c .header) (vidPart g (peb i)) fields (read .reads)
+    copy-rules = vid-good (g .«leb_size») (vidPart g (peb i)) (read .reads) .1
 
     body-is : c .body ≡ drop (g .«data_start») (peb i)
     unfolding copyOf
@@ -128,13 +99,13 @@ module _ (g : Geometry) (P : Placed g) (n : ℕ) (image : List ℕ) (bytes : Byt
   -- a good EC header
   module _ (i : ℕ) (i<n : i < n) (h : EcHeader) (is : ecs vs i ≡ some h) where
     ec-fields : ecFields (take 64 (peb i)) ≡ h
-    ec-fields = ec-fields-are h (take 64 (peb i)) (bytes-take 64 (peb i) (peb-bytes i)) (ec-long i i<n) (ec-seen g (peb i) h is)
+    ec-fields = ec-good (take 64 (peb i)) (ec-seen g (peb i) h is) .0
 
     pub ec-widths : EcFits h
     ec-widths = subst EcFits ec-fields (ec-read-fits (take 64 (peb i)) (bytes-take 64 (peb i) (peb-bytes i)) (ec-long i i<n))
 
     pub counter-most : h .counter ≤ 0x7FFFFFFF
-    counter-most = ec-rules h (take 64 (peb i)) ec-fields (ec-seen g (peb i) h is)
+    counter-most = ec-good (take 64 (peb i)) (ec-seen g (peb i) h is) .1
 
   -- the highest sequence
   sequence-most : (i : ℕ) → i < n → (x : Option Copy) → copies vs i ≡ x → sequenceOr0 x ≤ 256 ^ 8 - 1
