@@ -66,12 +66,16 @@ def crc_cases():
         add(b"\xff" * length, chance.below(8))
 
     # Long strings: all rests of a word, and around the lengths at which the
-    # program takes one block, two and three (2,448 bytes and 2,400 for each).
+    # program folds its first four words (568 bytes), and from which on it
+    # takes one block of 512 words, two and three (2,600 bytes and 2,048 for
+    # each).
     for length in range(4097, 4105):
         add(chance.bytes(length), next(offsets))
+    for length in range(548, 602):
+        add(chance.bytes(length), next(offsets))
     for blocks in (1, 2, 3):
-        for rest in (-9, -8, -1, 0, 1, 7, 8, 9):
-            add(chance.bytes(2448 + 2400 * blocks + rest), next(offsets))
+        for rest in (-17, -16, -9, -4, -1, 0, 1, 4, 8, 15, 16, 17):
+            add(chance.bytes(552 + 2048 * blocks + rest), next(offsets))
     add(chance.bytes(65000), next(offsets))
     for length in (5000, 20000):
         add(bytes(length), next(offsets))

@@ -1,12 +1,12 @@
 -- A word of a message may be folded: left out, and added to what follows. Assumes nothing.
-use mathlib.Core.Path.{_≡_, sym, ap, ap₂, _∙_}
+use mathlib.Core.Path.{_≡_, refl, sym, ap, ap₂, _∙_}
 use Prim.Native.Nat.{ℕ, _+_, _*_, _-_, _/_, _%_, _^_, _≤_, _<_}
 use mathlib.Core.List.{List, [], _∷_, _++_}
 use native.Mathlib.Nat.{mod-lt, mod-eq-of-lt}
 use native.Mathlib.Omega.{arith}
 use lib.Bits.{bitXor, xor-zero-l, xor-zero-r, xor-self, xor-comm, xor-lt}
 use lib.Pow.{pow-pos}
-use lib.ListN.{length, take, drop, set, length-drop}
+use lib.ListN.{length, take, drop, set, length-drop, length-set}
 use lib.Seq.{drop-drop}
 use Rattle.base.specs.Lists.{part, Bytes}
 use Rattle.base.proofs.Lists.{bytes-drop, length-part}
@@ -17,7 +17,7 @@ use Rattle.crc32.proofs.Xor.{xor-assoc}
 use Rattle.crc32.proofs.Laws.{crcBits-xor, crcBits-add, crcBits-shift, crcBits-split, crcBits-lt, crcFrom-word}
 use Rattle.crc32.proofs.LookUp.{four-lt, crcFrom-part}
 use Rattle.crc32.proofs.Sparse.{sumOf, crcBits-zero, sparse}
-use Rattle.crc32.proofs.Pending.{Below, folded, pending-high, low-take, pending-next, window}
+use Rattle.crc32.proofs.Pending.{Below, folded, pending-high, low-take, low-set, pending-next, window}
 
 -- ---- a folded word
 
@@ -86,16 +86,20 @@ module _ (p w i : ℕ) (s : List ℕ) (bs : Bytes s) (is : w ≡ bitXor (p % 2 ^
 
 -- ---- a turn of each loop
 
-module _ (b s : List ℕ) (j w : ℕ) (bs : Bytes s) (long : length b ≡ 649) (is : w ≡ bitXor (pending exponents (drop j b) % 2 ^ 32) (leOf (part (4 * j) 4 s))) where
-  pub fold-turn : j < 512 → 4 * (j + 1) + 552 ≤ length s →
-      crcFrom (pending exponents (part (j + 1) 137 (set b (j + 137) w))) (drop (4 * (j + 1)) s) ≡ crcFrom (pending exponents (part j 137 b)) (drop (4 * j) s)
-  fold-turn below h =
+-- w is word j of the bytes, with what is pending for it
+abbrev Sum : List ℕ → List ℕ → ℕ → ℕ → Type 0
+Sum b s j w = w ≡ bitXor (pending exponents (drop j b) % 2 ^ 32) (leOf (part (4 * j) 4 s))
+
+module _ (b s : List ℕ) (j w : ℕ) (bs : Bytes s) (is : Sum b s j w) where
+  word-folded : (i k : ℕ) → i ≡ j + 1 → k ≡ j + 137 → k < length b → 4 * i + 552 ≤ length s →
+      crcFrom (pending exponents (part i 137 (set b k w))) (drop (4 * i) s) ≡ crcFrom (pending exponents (part j 137 b)) (drop (4 * j) s)
+  word-folded i k ei ek below h =
       let l = part j 137 b in
       let n : length l ≡ 137 = length-part j 137 b (omega arith) in
       let e : 4 * (j + 1) ≡ 4 * j + 4 = omega arith in
       let f : w ≡ bitXor (pending exponents l % 2 ^ 32) (leOf (part (4 * j) 4 s)) =
       is ∙ ap (λ (x : ℕ). bitXor x (leOf (part (4 * j) 4 s))) (sym (low-take 137 0 85 exponents (drop j b) (omega arith) (omega arith))) in
-      rw (window j 137 b w (omega arith), pending-next l w exponents (rw n (omega arith)), n, e) (fold-step (pending exponents l) w (4 * j) s bs f (omega arith))
+      rw (ei, ek, window j 137 b w (omega arith), pending-next l w exponents (rw n (omega arith)), n, e) (fold-step (pending exponents l) w (4 * j) s bs f (omega arith))
 
   -- no word is folded any more
   pub reduce-turn : (c : ℕ) → j < 138 → 4 * (j + 1) ≤ length s →
@@ -107,6 +111,30 @@ module _ (b s : List ℕ) (j w : ℕ) (bs : Bytes s) (long : length b ≡ 649) (
       let f : w ≡ bitXor (pending exponents (drop j z) % 2 ^ 32) (leOf (part (4 * j) 4 s)) =
       is ∙ ap (λ (x : ℕ). bitXor x (leOf (part (4 * j) 4 s))) (sym (low-take 222 j 85 exponents b (omega arith) (omega arith))) in
       rw (← drop-drop 1 j z, ← pending-high exponents (drop j z), e) (word-step (pending exponents (drop j z)) w (4 * j) s bs f c (omega arith))
+
+-- a later word is stored
+still : (i k u w : ℕ) (b s : List ℕ) → i + 85 ≤ k → Sum b s i w → Sum (set b k u) s i w
+still i k u w b s h e = e ∙ ap (λ (x : ℕ). bitXor x (leOf (part (4 * i) 4 s))) (sym (low-set i k u b h))
+
+pub fold-turn : (b s : List ℕ) (j u v w x : ℕ) → Bytes s → length b ≡ 649 → j + 4 ≤ 512 → 4 * (j + 4) + 552 ≤ length s →
+    Sum b s j u → Sum b s (j + 1) v → Sum b s (j + 2) w → Sum b s (j + 3) x →
+    crcFrom (pending exponents (part (j + 4) 137 (set (set (set (set b (j + 137) u) (j + 138) v) (j + 139) w) (j + 140) x))) (drop (4 * (j + 4)) s)
+    ≡ crcFrom (pending exponents (part j 137 b)) (drop (4 * j) s)
+fold-turn b s j u v w x bs long below h eu ev ew ex =
+    let b₁ = set b (j + 137) u in
+    let b₂ = set b₁ (j + 138) v in
+    let b₃ = set b₂ (j + 139) w in
+    let n₁ : length b₁ ≡ 649 = length-set b (j + 137) u ∙ long in
+    let n₂ : length b₂ ≡ 649 = length-set b₁ (j + 138) v ∙ n₁ in
+    let n₃ : length b₃ ≡ 649 = length-set b₂ (j + 139) w ∙ n₂ in
+    let ev₁ = still (j + 1) (j + 137) u v b s (omega arith) ev in
+    let ew₂ = still (j + 2) (j + 138) v w b₁ s (omega arith) (still (j + 2) (j + 137) u w b s (omega arith) ew) in
+    let ex₃ =
+    still (j + 3) (j + 139) w x b₂ s (omega arith) (still (j + 3) (j + 138) v x b₁ s (omega arith) (still (j + 3) (j + 137) u x b s (omega arith) ex)) in
+    word-folded b₃ s (j + 3) x bs ex₃ (j + 4) (j + 140) (omega arith) (omega arith) (omega arith) (omega arith)
+    ∙ word-folded b₂ s (j + 2) w bs ew₂ (j + 3) (j + 139) (omega arith) (omega arith) (omega arith) (omega arith)
+    ∙ word-folded b₁ s (j + 1) v bs ev₁ (j + 2) (j + 138) (omega arith) (omega arith) (omega arith) (omega arith)
+    ∙ word-folded b s j u bs eu (j + 1) (j + 137) refl refl (omega arith) (omega arith)
 
 pub block-done : (s b b₁ b₂ : List ℕ) (i n : ℕ) → take 137 b₂ ≡ part n 137 b₁ →
     crcFrom (pending exponents (part n 137 b₁)) (drop (4 * n) (drop i s)) ≡ crcFrom (pending exponents (take 137 b)) (drop i s) →

@@ -9,7 +9,7 @@ use lib.Bits.{bitXor, xor-zero-l, xor-zero-r, xor-shr, xor-mod, xor-block}
 use lib.Pow.{high, low, pow-add, pow-pos}
 use lib.ListN.{length, take, drop, getD, set, replicate, length-drop, replicate-append-replicate}
 use native.Mathlib.Numerals.{add-one}
-use lib.Seq.{drop-at, drop-drop, drop-append-le, drop-set-add, drop-set-lt, getD-drop, getD-take, take-suc, take-suc-set, take-nil}
+use lib.Seq.{drop-at, drop-drop, drop-append-le, drop-set-add, drop-set-lt, getD-drop, getD-take, take-suc, take-suc-set, take-set-le, take-nil}
 use Rattle.base.specs.Lists.{part}
 use Rattle.crc32.specs.Fold.{wordsOf, exponents, pending, zeros}
 use Rattle.crc32.proofs.Xor.{xor-swap}
@@ -91,6 +91,13 @@ lowest-take n j k (e ∷ es) b l h = rw (getD-take n b (j + e) 0 (omega (arith, 
 
 pub low-take : (n j k : ℕ) (es b : List ℕ) → Below k es → j + k ≤ n → pending es (drop j (take n b)) % 2 ^ 32 ≡ pending es (drop j b) % 2 ^ 32
 low-take n j k es b l h = pending-low j es (take n b) ∙ lowest-take n j k es b l h ∙ sym (pending-low j es b)
+
+-- a later word makes no difference
+pub low-set : (i k w : ℕ) (b : List ℕ) → i + 85 ≤ k → pending exponents (drop i (set b k w)) % 2 ^ 32 ≡ pending exponents (drop i b) % 2 ^ 32
+low-set i k w b h =
+    sym (low-take k i 85 exponents (set b k w) (omega arith) h)
+    ∙ ap (λ (l : List ℕ). pending exponents (drop i l) % 2 ^ 32) (take-set-le k b k w (omega arith))
+    ∙ low-take k i 85 exponents b (omega arith) h
 
 -- what a word adds to the words after it, once it is the last of n
 unfoldable pub folded : ℕ → List ℕ → ℕ → ℕ

@@ -64,27 +64,21 @@ fn fold_block(kept: &mut [u32; 649], bytes: &[u8], n: usize)
     }
 }
 
-// Four words a turn: they do not depend on each other, and the compiler adds them at once.
+// Four words a turn. None of them is added to another, so that the compiler takes them at once.
 fn fold_four(kept: &mut [u32; 649], bytes: &[u8], j: usize)
     requires { ⌜ (length (now kept) ≡ 649) × ((j + 4 ≤ 512) × (4 * (j + 4) + 552 ≤ length (now bytes))) ⌝ }
     ensures { λ _. ⌜ (length (now (kept .exit)) ≡ 649)
         × (crcFrom (pending exponents (part (j + 4) 137 (now (kept .exit)))) (drop (4 * (j + 4)) (now (bytes .entry)))
         ≡ crcFrom (pending exponents (part j 137 (now (kept .entry)))) (drop (4 * j) (now (bytes .entry)))) ⌝ }
 {
-    fold_word(kept, bytes, j);
-    fold_word(kept, bytes, j + 1);
-    fold_word(kept, bytes, j + 2);
-    fold_word(kept, bytes, j + 3);
-}
-
-// Word j is folded.
-fn fold_word(kept: &mut [u32; 649], bytes: &[u8], j: usize)
-    requires { ⌜ (length (now kept) ≡ 649) × ((j < 512) × (4 * (j + 1) + 552 ≤ length (now bytes))) ⌝ }
-    ensures { λ _. ⌜ (length (now (kept .exit)) ≡ 649)
-        × (crcFrom (pending exponents (part (j + 1) 137 (now (kept .exit)))) (drop (4 * (j + 1)) (now (bytes .entry)))
-        ≡ crcFrom (pending exponents (part j 137 (now (kept .entry)))) (drop (4 * j) (now (bytes .entry)))) ⌝ }
-{
-    kept[j + 137] = sum_at(kept, bytes, j);
+    let a = sum_at(kept, bytes, j);
+    let b = sum_at(kept, bytes, j + 1);
+    let c = sum_at(kept, bytes, j + 2);
+    let d = sum_at(kept, bytes, j + 3);
+    kept[j + 137] = a;
+    kept[j + 138] = b;
+    kept[j + 139] = c;
+    kept[j + 140] = d;
 }
 
 // Word j of the bytes, with what the words that are kept add to it.

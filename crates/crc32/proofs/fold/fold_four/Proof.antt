@@ -1,52 +1,102 @@
 -- `crc32::fold::fold_four` meets its contract. Assumes nothing.
-use mathlib.Core.Path.{_≡_, _∙_}
-use Prim.Native.Nat.{ℕ, _+_}
+use Rattle.crc32.proofs.Folding.{fold-turn}
+use lib.ListN.{length-set}
 use native.Mathlib.Omega.{arith}
 use borrow.Author.Needs.{needs}
 use Rattle.crc32.proofs.fold.fold_four.Statement.{statement}
 use Rattle.crc32.proofs.fold.fold_four.Tie as tie
 
-fold-word-requires : tie.Need-fold-word-requires
-fold-word-requires c κs = search needs
+sum-at-requires : tie.Need-sum-at-requires
+sum-at-requires c κs = search needs
 
-add-fold-word : tie.Need-add-fold-word
-add-fold-word c = search needs
+add-sum-at : tie.Need-add-sum-at
+add-sum-at c = search needs
 
-fold-word-requires-2 : tie.Need-fold-word-requires-2
-fold-word-requires-2 c κs = search needs
+sum-at-requires-2 : tie.Need-sum-at-requires-2
+sum-at-requires-2 c κs = search needs
 
-add-fold-word-2 : tie.Need-add-fold-word-2
-add-fold-word-2 c = search needs
+add-sum-at-2 : tie.Need-add-sum-at-2
+add-sum-at-2 c = search needs
 
-fold-word-requires-3 : tie.Need-fold-word-requires-3
-fold-word-requires-3 c κs = search needs
+sum-at-requires-3 : tie.Need-sum-at-requires-3
+sum-at-requires-3 c κs = search needs
 
-add-fold-word-3 : tie.Need-add-fold-word-3
-add-fold-word-3 c = search needs
+add-sum-at-3 : tie.Need-add-sum-at-3
+add-sum-at-3 c = search needs
 
-fold-word-requires-4 : tie.Need-fold-word-requires-4
-fold-word-requires-4 c κs = search needs
+sum-at-requires-4 : tie.Need-sum-at-requires-4
+sum-at-requires-4 c κs = search needs
+
+add-kept : tie.Need-add-kept
+add-kept c = search needs
+
+mul-kept : tie.Need-mul-kept
+mul-kept c = search needs
+
+element-write-kept : tie.Need-element-write-kept
+element-write-kept c = search needs
+
+add-kept-2 : tie.Need-add-kept-2
+add-kept-2 c = search needs
+
+mul-kept-2 : tie.Need-mul-kept-2
+mul-kept-2 c = search needs
+
+element-write-kept-2 : tie.Need-element-write-kept-2
+element-write-kept-2 c = search needs
+
+add-kept-3 : tie.Need-add-kept-3
+add-kept-3 c = search needs
+
+mul-kept-3 : tie.Need-mul-kept-3
+mul-kept-3 c = search needs
+
+element-write-kept-3 : tie.Need-element-write-kept-3
+element-write-kept-3 c = search needs
+
+add-kept-4 : tie.Need-add-kept-4
+add-kept-4 c = search needs
+
+mul-kept-4 : tie.Need-mul-kept-4
+mul-kept-4 c = search needs
+
+element-write-kept-4 : tie.Need-element-write-kept-4
+element-write-kept-4 c = search needs
 
 returns : tie.Need-returns
 returns c =
     let k3 = c .before .before in
     let k2 = k3 .before .before in
     let k1 = k2 .before .before in
-    let j = k1 .before .before .before .args .j in
-    let e2 : j + 1 + 1 ≡ j + 2 = omega arith in
-    let e3 : j + 2 + 1 ≡ j + 3 = omega arith in
-    let e4 : j + 3 + 1 ≡ j + 4 = omega arith in
-    (c .fold-word4 .ensures .0, rw e4 at (c .fold-word4 .ensures .1) ∙ rw e3 at (k3 .fold-word3 .ensures .1) ∙ rw e2 at (k2 .fold-word2 .ensures .1) ∙ k1 .fold-word .ensures .1)
+    let s = k1 .before .before in
+    let a = s .before .args in
+    let pre = s .before .pre in (
+      simp length-set (pre .0),
+      fold-turn (a .kept .now) (a .bytes .now) (a .j) (k1 .sum-at .result) (k2 .sum-at2 .result) (k3 .sum-at3 .result) (c .sum-at4 .result) (λ k. s .shared-slice-known .given k .fits) (pre .0) (pre .1 .0) (pre .1 .1)
+          (k1 .sum-at .ensures) (k2 .sum-at2 .ensures) (k3 .sum-at3 .ensures) (c .sum-at4 .ensures),
+    )
 
 pub fold-four-spec : {M : Type 1} → statement M
 fold-four-spec =
     tie.close
     (tie.spec
-    fold-word-requires
-    add-fold-word
-    fold-word-requires-2
-    add-fold-word-2
-    fold-word-requires-3
-    add-fold-word-3
-    fold-word-requires-4
+    sum-at-requires
+    add-sum-at
+    sum-at-requires-2
+    add-sum-at-2
+    sum-at-requires-3
+    add-sum-at-3
+    sum-at-requires-4
+    add-kept
+    mul-kept
+    element-write-kept
+    add-kept-2
+    mul-kept-2
+    element-write-kept-2
+    add-kept-3
+    mul-kept-3
+    element-write-kept-3
+    add-kept-4
+    mul-kept-4
+    element-write-kept-4
     returns)

@@ -52,7 +52,6 @@ loop-again c =
     let s = c .before .before .before .before .before .before in
     let l = c .before .before .before .before .before .loop in
     let a = s .before .args in
-    let long = s .before .pre .1 .0 in
     let bs : Bytes (a .bytes .now) = λ k. s .shared-slice-known .given k .fits in
     let k1 = c .before .before .before .sum-at in
     let k2 = c .before .before .sum-at2 in
@@ -61,9 +60,9 @@ loop-again c =
     let c2 = crcBits 32 (bitXor c1 (k2 .result)) in
     let e2 : l .j + 1 + 1 ≡ l .j + 2 = omega arith in
     let e3 : l .j + 2 + 1 ≡ l .j + 3 = omega arith in
-    let r1 = reduce-turn (a .kept .now) (a .bytes .now) (l .j) (k1 .result) bs long (k1 .ensures) (l .c) (omega arith) (omega arith) in
-    let r2 = reduce-turn (a .kept .now) (a .bytes .now) (l .j + 1) (k2 .result) bs long (k2 .ensures) c1 (omega arith) (omega arith) in
-    let r3 = reduce-turn (a .kept .now) (a .bytes .now) (l .j + 2) (k3 .result) bs long (k3 .ensures) c2 (omega arith) (omega arith) in
+    let r1 = reduce-turn (a .kept .now) (a .bytes .now) (l .j) (k1 .result) bs (k1 .ensures) (l .c) (omega arith) (omega arith) in
+    let r2 = reduce-turn (a .kept .now) (a .bytes .now) (l .j + 1) (k2 .result) bs (k2 .ensures) c1 (omega arith) (omega arith) in
+    let r3 = reduce-turn (a .kept .now) (a .bytes .now) (l .j + 2) (k3 .result) bs (k3 .ensures) c2 (omega arith) (omega arith) in
     (omega arith, (omega arith, rw (c .three .ensures) (rw e3 at r3 ∙ rw e2 at r2 ∙ r1 ∙ l .inv .1 .1)))
 
 sub-by-words : tie.Need-sub-by-words Inv-loop μ-loop
