@@ -115,7 +115,8 @@ module _ {A : Type 0} where
   abbrev pub readHeader : List ℕ → (List ℕ → Verdict A) → List ℕ → Verdict A
   readHeader magic judge s = cond (eqs (part 0 4 s) magic && crcMatches s) (judge s) bad
 
-  -- a verdict as an answer: a newer header is refusal 5, "header version above 1"; its place, the PEB, is known to attaching alone
+  -- a verdict as an answer: a newer header is refusal 5, "header version above 1"; its place, the PEB, is known to
+  -- attaching alone
   abbrev pub verdictAnswer : Verdict A → Answer (Verdict A)
   verdictAnswer (good h) = given (good h)
   verdictAnswer bad = given bad

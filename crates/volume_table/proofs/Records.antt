@@ -11,7 +11,7 @@ use lib.Dec.{eqb, leb, lit≤}
 use lib.ListN.{length, take, getD, replicate}
 use Rattle.base.specs.Answers.{given, refused, allOf}
 use Rattle.base.specs.Below.{allBelow}
-use Rattle.base.specs.Lists.{eqs, put}
+use Rattle.base.specs.Lists.{put}
 use Rattle.base.proofs.Answers.{one-broken}
 use Rattle.base.proofs.Lists.{every-entry}
 use Rattle.field.specs.Be.{toBeOn, toBe}
@@ -90,11 +90,6 @@ module _ (size unit : ℕ) (r : List ℕ) where
   unfolding recordGood recordCrcMatches
   rules-decide p q e v g = g ∙ rw (← p, ← q, eq-eqb _ _ e, v)
 
--- the comparison with the empty record
-pub empty-test : (r : List ℕ) {e : List ℕ} {b : Bool} → e ≡ emptyRecord → b ≡ eqs r e → b ≡ isEmpty r
-unfolding isEmpty
-empty-test r p q = rw p at q
-
 -- the record at the start of a longer slice
 pub record-start : (s : List ℕ) → recordOf (take 172 s) ≡ recordOf s
 unfolding recordOf
@@ -115,35 +110,34 @@ pub read-short : (size unit : ℕ) (s : List ℕ) {v : VolumeRecord} → length 
 unfolding judgeRecord shownRecord
 read-short size unit s h p = (rw (lt-ltb _ _ h), p ∙ rw (lt-ltb _ _ h))
 
--- `b` is the comparison with the empty record, `g` whether the record is good
-module _ (size unit : ℕ) (s : List ℕ) {v : VolumeRecord} {e : List ℕ} {b : Bool}
-    (h : 172 ≤ length s) (p : v ≡ recordOf (take 172 s)) (q : e ≡ emptyRecord) (c : b ≡ eqs (take 172 s) e) where
+-- `b` is whether the record is empty, `g` whether it is good
+module _ (size unit : ℕ) (s : List ℕ) {v : VolumeRecord} {b : Bool} (h : 172 ≤ length s) (p : v ≡ recordOf (take 172 s)) (c : b ≡ isEmpty (take 172 s)) where
   shown : v ≡ shownRecord s
   unfolding shownRecord
   shown = p ∙ rw (le-ltb _ _ h) (record-start s)
 
   pub read-empty : b ≡ true → (given empty ≡ judgeRecord size unit s) × (v ≡ shownRecord s)
   unfolding judgeRecord
-  read-empty t = (rw (le-ltb _ _ h, ← (empty-test (take 172 s) q c), t), shown)
+  read-empty t = (rw (le-ltb _ _ h, ← c, t), shown)
 
   module _ {g : Bool} (f : b ≡ false) (k : g ≡ recordGood size unit (take 172 s)) where
     pub read-good : g ≡ true → (given good ≡ judgeRecord size unit s) × (v ≡ shownRecord s)
     unfolding judgeRecord
-    read-good t = (rw (le-ltb _ _ h, ← (empty-test (take 172 s) q c), f, ← k, t), shown)
+    read-good t = (rw (le-ltb _ _ h, ← c, f, ← k, t), shown)
 
     pub read-bad : g ≡ false → (given bad ≡ judgeRecord size unit s) × (v ≡ shownRecord s)
     unfolding judgeRecord
-    read-bad t = (rw (le-ltb _ _ h, ← (empty-test (take 172 s) q c), f, ← k, t), shown)
+    read-bad t = (rw (le-ltb _ _ h, ← c, f, ← k, t), shown)
 
 -- ---- the sums with one record more
 
-pub fine-empty : (size unit : ℕ) (r : List ℕ) {e : List ℕ} {b : Bool} → e ≡ emptyRecord → b ≡ eqs r e → b ≡ true → true ≡ emptyOrGood size unit r
+pub fine-empty : (size unit : ℕ) (r : List ℕ) {b : Bool} → b ≡ isEmpty r → b ≡ true → true ≡ emptyOrGood size unit r
 unfolding emptyOrGood
-fine-empty size unit r p q t = rw (← (empty-test r p q), t)
+fine-empty size unit r p t = rw (← p, t)
 
-pub fine-other : (size unit : ℕ) (r : List ℕ) {e : List ℕ} {b g : Bool} → e ≡ emptyRecord → b ≡ eqs r e → b ≡ false → g ≡ recordGood size unit r → g ≡ emptyOrGood size unit r
+pub fine-other : (size unit : ℕ) (r : List ℕ) {b g : Bool} → b ≡ isEmpty r → b ≡ false → g ≡ recordGood size unit r → g ≡ emptyOrGood size unit r
 unfolding emptyOrGood
-fine-other size unit r p q t g = g ∙ rw (← (empty-test r p q), t)
+fine-other size unit r p t g = g ∙ rw (← p, t)
 
 pub tallied-as : (size unit : ℕ) (s : Tally) (r : List ℕ) {v : VolumeRecord} {f : Bool} → v ≡ recordOf r → f ≡ emptyOrGood size unit r
     → record { fine = f; reserved = s .reserved + v .reserved; autoresize = s .autoresize + bitAnd (v .flags) 1 } ≡ tallied size unit s r

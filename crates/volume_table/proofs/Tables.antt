@@ -23,7 +23,6 @@ use Rattle.volume_table.specs.Sums.{tallied, TallyOf}
 use Rattle.volume_table.specs.Table.{recordCount, recordsPart, recordAt, emptyOrGood, nameOf, sameNames, autoresizes, tableRules, tableTests, tableGood, takenLeb, takenRecords, recordsTaken, copiesMark}
 use Rattle.volume_table.specs.declared.Tally.{Tally}
 use Rattle.volume_table.proofs.Laws.{all-broken, all-more, not-above, above-zero}
-use Rattle.volume_table.proofs.Records.{empty-test}
 
 -- ---- the records' part
 
@@ -61,9 +60,9 @@ name-front r p q = rw (sub-zero, p, q)
 
 -- ---- two records with one name
 
--- a record where it stands, compared with the empty one
-pub empty-at : (at : ℕ) (t : List ℕ) {e : List ℕ} {b : Bool} → e ≡ emptyRecord → b ≡ eqs (take (at + 172 - at) (drop at t)) e → b ≡ isEmpty (part at 172 t)
-empty-at at t p q = empty-test (part at 172 t) p (rw add-sub-cancel-left at q)
+-- a record where it stands
+pub empty-at : (at : ℕ) (t : List ℕ) {b : Bool} → b ≡ isEmpty (take (at + 172 - at) (drop at t)) → b ≡ isEmpty (part at 172 t)
+empty-at at t q = rw add-sub-cancel-left at q
 
 pub other-name : (a b : List ℕ) → eqs (nameOf a) (nameOf b) ≡ false → false ≡ not (isEmpty a) && eqs (nameOf a) (nameOf b)
 other-name a b p = rw (p, and-false)

@@ -6,13 +6,13 @@ use Rattle.base.specs.Lists.{part}
 use Rattle.field.specs.Be.{beOf}
 use Rattle.volume_table.specs.declared.Field.{Field}
 
--- one table of offsets and widths: "reserved PEBs 0-3, alignment 4-7, data pad 8-11, type 12, update marker 13, name length 14-15,
--- name 16-143, flags 144, .. CRC of 0-167 at 168-171"
+-- one table of offsets and widths: "reserved PEBs 0-3, alignment 4-7, data pad 8-11, type 12, update marker 13,
+-- name length 14-15, name 16-143, flags 144, .. CRC of 0-167 at 168-171"
 abbrev pub recordFields : List Field
 recordFields =
-    record { at = 0; width = 4 } ∷ record { at = 4; width = 4 } ∷ record { at = 8; width = 4 } ∷ record { at = 12; width = 1 }
-    ∷ record { at = 13; width = 1 } ∷ record { at = 14; width = 2 } ∷ record { at = 16; width = 128 } ∷ record { at = 144; width = 1 }
-    ∷ record { at = 168; width = 4 } ∷ []
+    record { at = 0; width = 4 } ∷ record { at = 4; width = 4 } ∷ record { at = 8; width = 4 }
+    ∷ record { at = 12; width = 1 } ∷ record { at = 13; width = 1 } ∷ record { at = 14; width = 2 }
+    ∷ record { at = 16; width = 128 } ∷ record { at = 144; width = 1 } ∷ record { at = 168; width = 4 } ∷ []
 
 -- the fields' numbers in the table
 abbrev pub recordReserved : ℕ

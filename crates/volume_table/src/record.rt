@@ -7,7 +7,7 @@ ghost use lib.ListN.{length};
 ghost use Rattle.base.specs.Answers.{allOf};
 ghost use Rattle.volume_table.specs.Fields.{recordName, bytesIn};
 ghost use Rattle.volume_table.specs.Sums.{tallied};
-ghost use Rattle.volume_table.specs.Record.{recordOf, emptyRecord, nameEnds, recordRules, recordGood, judgeRecord, recordKind, shownRecord};
+ghost use Rattle.volume_table.specs.Record.{recordOf, emptyRecord, isEmpty, nameEnds, recordRules, recordGood, judgeRecord, recordKind, shownRecord};
 use crate::AUTORESIZE;
 use crate::RecordKind;
 use crate::RecordRead;
@@ -69,6 +69,14 @@ pub fn empty_record() -> [u8; RECORD_SIZE]
     base::store(&mut r, 0, &zeroes);
     set_field(&mut r, RECORD_CRC, sum as u64);
     r
+}
+
+// Is a record empty? It is compared whole: reserved 0 alone does not make it so.
+pub fn is_empty(r: &[u8], empty: &[u8]) -> bool
+    requires { ⌜ (length (now r) ≡ 172) × (now empty ≡ emptyRecord) ⌝ }
+    ensures { λ b. ⌜ b ≡ isEmpty (now (r .entry)) ⌝ }
+{
+    base::same(r, empty)
 }
 
 // Does the name have n bytes, none of them zero, and a zero after them?
@@ -172,7 +180,7 @@ pub fn read_record(bytes: &[u8], leb_size: u32, unit: u32) -> RecordRead
     let r = &bytes[0..RECORD_SIZE];
     let record = parse(r);
     let empty = empty_record();
-    if base::same(r, &empty) {
+    if is_empty(r, &empty) {
         return RecordRead {
             kind: RecordKind::Empty,
             record,
@@ -192,14 +200,15 @@ pub fn read_record(bytes: &[u8], leb_size: u32, unit: u32) -> RecordRead
 
 // The sums with one record more.
 pub fn tally_record(sum: Tally, r: &[u8], leb_size: u32, unit: u32, empty: &[u8]) -> Tally
-    requires { ⌜ (length (now r) ≡ 172) × ((now empty ≡ emptyRecord) × ((sum .reserved < 2 ^ 40) × (sum .autoresize < 128))) ⌝ }
+    requires { ⌜ (length (now r) ≡ 172) × ((now empty ≡ emptyRecord)
+        × ((sum .reserved < 2 ^ 40) × (sum .autoresize < 128))) ⌝ }
     ensures { λ t. ⌜ (t ≡ tallied «leb_size» unit sum (now (r .entry)))
         × ((t .reserved < sum .reserved + 2 ^ 32) × (t .autoresize ≤ sum .autoresize + 1)) ⌝ }
 {
     let v = parse(r);
     let reserved = sum.reserved + v.reserved as u64;
     let autoresize = sum.autoresize + (v.flags & AUTORESIZE) as u32;
-    if base::same(r, empty) {
+    if is_empty(r, empty) {
         return Tally {
             fine: true,
             reserved,

@@ -18,6 +18,7 @@ use crate::fields::RECORD_SIZE;
 use crate::fields::field_bytes;
 use crate::fields::get_field;
 use crate::record::empty_record;
+use crate::record::is_empty;
 use crate::record::tally_record;
 
 // "at most 128"
@@ -66,17 +67,18 @@ fn names_clash(r: &[u8], s: &[u8], empty: &[u8]) -> bool
     if !base::same(name_of(r), name_of(s)) {
         return false;
     }
-    !base::same(r, empty)
+    !is_empty(r, empty)
 }
 
 // Does record j, if it is not empty, have the name of one before it?
 fn name_repeats(t: &[u8], j: usize, empty: &[u8]) -> bool
     requires { ⌜ (j < 128) × ((172 * j + 172 ≤ length (now t)) × (now empty ≡ emptyRecord)) ⌝ }
-    ensures { λ r. ⌜ r ≡ anyBelow j (λ (i : ℕ). sameNames (recordAt (now (t .entry)) i) (recordAt (now (t .entry)) j)) ⌝ }
+    ensures { λ r. ⌜ r ≡ anyBelow j (λ (i : ℕ).
+        sameNames (recordAt (now (t .entry)) i) (recordAt (now (t .entry)) j)) ⌝ }
 {
     let b = RECORD_SIZE * j;
     let s = &t[b..b + RECORD_SIZE];
-    if base::same(s, empty) {
+    if is_empty(s, empty) {
         return false;
     }
     let mut i: usize = 0;

@@ -5,7 +5,7 @@ use Rattle.volume_table.proofs.record.read_record.Statement.{statement}
 use Rattle.volume_table.proofs.record.read_record.Tie as tie
 use Rattle.volume_table.proofs.record.read_record.Reads as reads
 use Rattle.volume_table.proofs.record.read_record.Lts as lts
-use Rattle.base.proofs.same.Reads as same-reads
+use Rattle.volume_table.proofs.record.is_empty.Reads as is-empty-reads
 use Rattle.volume_table.proofs.record.empty_record.Reads as empty-record-reads
 use Rattle.volume_table.proofs.record.is_good.Reads as is-good-reads
 use Rattle.volume_table.proofs.record.parse.Reads as parse-reads
@@ -34,16 +34,16 @@ parse-requires-2 c κs = search needs
 empty-record-requires : tie.Need-empty-record-requires
 empty-record-requires c κs = search needs
 
-slice-aggregate-same : tie.Need-slice-aggregate-same
-slice-aggregate-same c = search needs
+slice-aggregate-is-empty : tie.Need-slice-aggregate-is-empty
+slice-aggregate-is-empty c = search needs
 
-same-requires : tie.Need-same-requires
-same-requires c κs = search needs
+is-empty-requires : tie.Need-is-empty-requires
+is-empty-requires c κs = search needs
 
 returns-2 : tie.Need-returns-2
 returns-2 c =
     let a = c .before .before .before .before .before .before .before .before .args in
-    read-empty (a .leb-size) (a .unit) (a .bytes .now) (c .before .before .before .before .before .before .if1 .left) (c .before .before .before .before .parse2 .ensures) (c .before .before .before .empty-record .ensures) (c .before .same .ensures) (c .if2 .taken)
+    read-empty (a .leb-size) (a .unit) (a .bytes .now) (c .before .before .before .before .before .before .if1 .left) (c .before .before .before .before .parse2 .ensures) (c .before .is-empty .ensures) (c .if2 .taken)
 
 is-good-requires : tie.Need-is-good-requires
 is-good-requires c κs = search needs
@@ -51,13 +51,13 @@ is-good-requires c κs = search needs
 returns-3 : tie.Need-returns-3
 returns-3 c =
     let a = c .before .before .before .before .before .before .before .before .before .before .args in
-    read-good (a .leb-size) (a .unit) (a .bytes .now) (c .before .before .before .before .before .before .before .before .if1 .left) (c .before .before .before .before .before .before .parse2 .ensures) (c .before .before .before .before .before .empty-record .ensures) (c .before .before .before .same .ensures)
+    read-good (a .leb-size) (a .unit) (a .bytes .now) (c .before .before .before .before .before .before .before .before .if1 .left) (c .before .before .before .before .before .before .parse2 .ensures) (c .before .before .before .is-empty .ensures)
     (c .before .before .if2 .left) (c .before .is-good .ensures) (c .if3 .taken)
 
 returns-4 : tie.Need-returns-4
 returns-4 c =
     let a = c .before .before .before .before .before .before .before .before .before .before .args in
-    read-bad (a .leb-size) (a .unit) (a .bytes .now) (c .before .before .before .before .before .before .before .before .if1 .left) (c .before .before .before .before .before .before .parse2 .ensures) (c .before .before .before .before .before .empty-record .ensures) (c .before .before .before .same .ensures)
+    read-bad (a .leb-size) (a .unit) (a .bytes .now) (c .before .before .before .before .before .before .before .before .if1 .left) (c .before .before .before .before .before .before .parse2 .ensures) (c .before .before .before .is-empty .ensures)
     (c .before .before .if2 .left) (c .before .is-good .ensures) (c .if3 .left)
 
 pub read-record-spec : {M : Type 1} → statement M
@@ -72,8 +72,8 @@ read-record-spec =
     part-r-end
     parse-requires-2
     empty-record-requires
-    slice-aggregate-same
-    same-requires
+    slice-aggregate-is-empty
+    is-empty-requires
     returns-2
     is-good-requires
     returns-3

@@ -7,7 +7,7 @@ use Rattle.volume_table.proofs.record.tally_record.Statement.{statement
 use Rattle.volume_table.proofs.record.tally_record.Tie as tie
 use Rattle.volume_table.proofs.record.tally_record.Reads as reads
 use Rattle.volume_table.proofs.record.tally_record.Lts as lts
-use Rattle.base.proofs.same.Reads as same-reads
+use Rattle.volume_table.proofs.record.is_empty.Reads as is-empty-reads
 use Rattle.volume_table.proofs.record.is_good.Reads as is-good-reads
 use Rattle.volume_table.proofs.record.parse.Reads as parse-reads
 
@@ -26,13 +26,13 @@ cast-autoresize c = omega (arith, and-le-r (c .before .before .before .parse .re
 add-autoresize : tie.Need-add-autoresize
 add-autoresize c = omega (arith, and-le-r (c .before .before .before .before .parse .result .flags) 1)
 
-same-requires : tie.Need-same-requires
-same-requires c κs = search needs
+is-empty-requires : tie.Need-is-empty-requires
+is-empty-requires c κs = search needs
 
 returns : tie.Need-returns
 returns c =
     let a = c .before .before .before .before .before .before .before .before .before .args in
-    (tallied-as (a .leb-size) (a .unit) (a .sum) (a .r .now) (c .before .before .before .before .before .before .parse .ensures) (fine-empty (a .leb-size) (a .unit) (a .r .now) (c .before .before .before .before .before .before .before .before .before .pre .1 .0) (c .before .same .ensures) (c .if1 .taken)), (omega arith, omega (arith, and-le-r (c .before .before .before .before .before .before .parse .result .flags) 1)))
+    (tallied-as (a .leb-size) (a .unit) (a .sum) (a .r .now) (c .before .before .before .before .before .before .parse .ensures) (fine-empty (a .leb-size) (a .unit) (a .r .now) (c .before .is-empty .ensures) (c .if1 .taken)), (omega arith, omega (arith, and-le-r (c .before .before .before .before .before .before .parse .result .flags) 1)))
 
 is-good-requires : tie.Need-is-good-requires
 is-good-requires c κs = search needs
@@ -40,7 +40,7 @@ is-good-requires c κs = search needs
 returns-2 : tie.Need-returns-2
 returns-2 c =
     let a = c .before .before .before .before .before .before .before .before .before .before .args in
-    (tallied-as (a .leb-size) (a .unit) (a .sum) (a .r .now) (c .before .before .before .before .before .before .before .parse .ensures) (fine-other (a .leb-size) (a .unit) (a .r .now) (c .before .before .before .before .before .before .before .before .before .before .pre .1 .0) (c .before .before .same .ensures) (c .before .if1 .left) (c .is-good .ensures)), (omega arith, omega (arith, and-le-r (c .before .before .before .before .before .before .before .parse .result .flags) 1)))
+    (tallied-as (a .leb-size) (a .unit) (a .sum) (a .r .now) (c .before .before .before .before .before .before .before .parse .ensures) (fine-other (a .leb-size) (a .unit) (a .r .now) (c .before .before .is-empty .ensures) (c .before .if1 .left) (c .is-good .ensures)), (omega arith, omega (arith, and-le-r (c .before .before .before .before .before .before .before .parse .result .flags) 1)))
 
 pub tally-record-spec : {M : Type 1} → statement M
 tally-record-spec =
@@ -51,7 +51,7 @@ tally-record-spec =
     add-reserved
     cast-autoresize
     add-autoresize
-    same-requires
+    is-empty-requires
     returns
     is-good-requires
     returns-2)

@@ -13,7 +13,7 @@ use Rattle.volume_table.proofs.table.name_repeats.Statement.{statement}
 use Rattle.volume_table.proofs.table.name_repeats.Tie as tie
 use Rattle.volume_table.proofs.table.name_repeats.Reads as reads
 use Rattle.volume_table.proofs.table.name_repeats.Lts as lts
-use Rattle.base.proofs.same.Reads as same-reads
+use Rattle.volume_table.proofs.record.is_empty.Reads as is-empty-reads
 use Rattle.volume_table.proofs.table.names_clash.Reads as names-clash-reads
 
 abbrev Inv-loop : tie.InvT-loop
@@ -30,7 +30,7 @@ judged c =
     let s = l .before .before in
     let d = s .before .before .before .before in
     let a = d .args in
-    repeats-as (a .t .now) (a .j) (l .loop .i) (empty-at (172 * a .j) (a .t .now) (d .pre .1 .1) (s .same .ensures)) (l .before .if1 .left) (rw (add-sub-cancel-left, add-sub-cancel-left) at (c .names-clash .ensures))
+    repeats-as (a .t .now) (a .j) (l .loop .i) (empty-at (172 * a .j) (a .t .now) (s .is-empty .ensures)) (l .before .if1 .left) (rw (add-sub-cancel-left, add-sub-cancel-left) at (c .names-clash .ensures))
 
 mul-b : tie.Need-mul-b Inv-loop μ-loop
 mul-b c = search needs
@@ -47,11 +47,13 @@ part-s-start c = search needs
 part-s-end : tie.Need-part-s-end Inv-loop μ-loop
 part-s-end c = search needs
 
-same-requires : tie.Need-same-requires Inv-loop μ-loop
-same-requires c κs = search needs
+is-empty-requires : tie.Need-is-empty-requires Inv-loop μ-loop
+is-empty-requires c κs =
+    let d = c .before .before .before in
+    (lent-length (172 * d .args .j) 172 (d .args .t .now) (omega arith), d .pre .1 .1)
 
 returns : tie.Need-returns Inv-loop μ-loop
-returns c = let d = c .before .before .before .before .before in let a = d .args in none-repeats (a .t .now) (a .j) (empty-at (172 * a .j) (a .t .now) (d .pre .1 .1) (c .before .same .ensures)) (c .if1 .taken)
+returns c = let d = c .before .before .before .before .before in let a = d .args in none-repeats (a .t .now) (a .j) (empty-at (172 * a .j) (a .t .now) (c .before .is-empty .ensures)) (c .if1 .taken)
 
 loop-holds : tie.Need-loop-holds Inv-loop μ-loop
 loop-holds c = search needs
@@ -110,7 +112,7 @@ name-repeats-spec =
     sub-s
     part-s-start
     part-s-end
-    same-requires
+    is-empty-requires
     returns
     loop-holds
     mul-a

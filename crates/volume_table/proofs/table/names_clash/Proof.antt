@@ -3,13 +3,13 @@ use mathlib.Core.Path.{ap₂, _∙_}
 use borrow.Author.Needs.{needs}
 use Rattle.base.specs.Lists.{eqs}
 use Rattle.volume_table.proofs.Laws.{was-false, was-true}
-use Rattle.volume_table.proofs.Records.{empty-test}
 use Rattle.volume_table.proofs.Tables.{other-name, one-name}
 use Rattle.volume_table.proofs.table.names_clash.Statement.{statement}
 use Rattle.volume_table.proofs.table.names_clash.Tie as tie
 use Rattle.volume_table.proofs.table.names_clash.Reads as reads
 use Rattle.volume_table.proofs.table.names_clash.Lts as lts
 use Rattle.base.proofs.same.Reads as same-reads
+use Rattle.volume_table.proofs.record.is_empty.Reads as is-empty-reads
 use Rattle.volume_table.proofs.table.name_of.Reads as name-of-reads
 
 name-of-requires : tie.Need-name-of-requires
@@ -26,14 +26,14 @@ returns c =
     let a = c .before .before .before .before .before .before .before .args in
     other-name (a .r .now) (a .s .now) (was-false (c .before .same .ensures ∙ ap₂ eqs (c .before .before .before .name-of .ensures) (c .before .before .name-of2 .ensures)) (c .if1 .taken))
 
-same-requires-2 : tie.Need-same-requires-2
-same-requires-2 c κs = search needs
+is-empty-requires : tie.Need-is-empty-requires
+is-empty-requires c κs = search needs
 
 returns-2 : tie.Need-returns-2
 returns-2 c =
     let a = c .before .before .before .before .before .before .before .before .args in
     one-name (a .r .now) (a .s .now) (was-true (c .before .before .same .ensures ∙ ap₂ eqs (c .before .before .before .before .name-of .ensures) (c .before .before .before .name-of2 .ensures)) (c .before .if1 .left))
-    (empty-test (a .r .now) (c .before .before .before .before .before .before .before .before .pre .1 .1) (c .same2 .ensures))
+    (c .is-empty .ensures)
 
 pub names-clash-spec : {M : Type 1} → statement M
-names-clash-spec = tie.close (tie.spec name-of-requires name-of-requires-2 same-requires returns same-requires-2 returns-2)
+names-clash-spec = tie.close (tie.spec name-of-requires name-of-requires-2 same-requires returns is-empty-requires returns-2)
