@@ -16,8 +16,8 @@ use Rattle.plan.specs.declared.Plan.{Plan}
 use Rattle.powercut.specs.Calls.{Course, toEnd, toStop, Call}
 use Rattle.powercut.specs.Book.{ecAt, vidAt, runAt, headerWhole, runWhole, begun}
 
--- 64 bytes in a header's place, which are whole or not: of 0xFF alone nothing is asked (01 counts nothing stored as half-stored; to ask
--- less makes the claim stronger); any others that are not whole have a CRC field unlike the CRC of bytes 0-59
+-- 64 bytes in a header's place, which are whole or not: those that are not have a CRC field unlike the CRC of bytes
+-- 0-59. 0xFF alone need not be named: its CRC field never matches, so the premise is the same with and without it
 abbrev pub unlike : Bool → List ℕ → Bool
 unlike isWhole h = isWhole || (allFF h || not (crcMatches h))
 
