@@ -84,7 +84,8 @@ fn fold_four(kept: &mut [u32; 649], bytes: &[u8], j: usize)
 // Word j of the bytes, with what the words that are kept add to it.
 fn sum_at(kept: &[u32; 649], bytes: &[u8], j: usize) -> u32
     requires { ⌜ (length (now kept) ≡ 649) × ((j < 512) × (4 * (j + 1) ≤ length (now bytes))) ⌝ }
-    ensures { λ r. ⌜ r ≡ bitXor (pending exponents (drop j (now (kept .entry))) % 2 ^ 32) (leOf (part (4 * j) 4 (now (bytes .entry)))) ⌝ }
+    ensures { λ r. ⌜ r ≡ bitXor (pending exponents (drop j (now (kept .entry))) % 2 ^ 32)
+        (leOf (part (4 * j) 4 (now (bytes .entry)))) ⌝ }
 {
     let farther = word_at(kept, j + 29) ^ (word_at(kept, j + 8) ^ word_at(kept, j));
     let all = word_at(kept, j + 84) ^ (word_at(kept, j + 80) ^ (word_at(kept, j + 70) ^ farther));
@@ -102,7 +103,8 @@ fn word_at(kept: &[u32; 649], i: usize) -> u32
 // The 137 words from n on become the first.
 fn slide(kept: &mut [u32; 649], n: usize)
     requires { ⌜ (length (now kept) ≡ 649) × (n ≤ 512) ⌝ }
-    ensures { λ _. ⌜ (length (now (kept .exit)) ≡ 649) × (take 137 (now (kept .exit)) ≡ part n 137 (now (kept .entry))) ⌝ }
+    ensures { λ _. ⌜ (length (now (kept .exit)) ≡ 649)
+        × (take 137 (now (kept .exit)) ≡ part n 137 (now (kept .entry))) ⌝ }
 {
     let mut j: usize = 0;
     while j < 137 {
@@ -114,7 +116,8 @@ fn slide(kept: &mut [u32; 649], n: usize)
 // Nothing was folded after the first 137 words.
 fn clear(kept: &mut [u32; 649])
     requires { ⌜ length (now kept) ≡ 649 ⌝ }
-    ensures { λ _. ⌜ (length (now (kept .exit)) ≡ 649) × (take 222 (now (kept .exit)) ≡ take 137 (now (kept .entry)) ++ zeros 85) ⌝ }
+    ensures { λ _. ⌜ (length (now (kept .exit)) ≡ 649)
+        × (take 222 (now (kept .exit)) ≡ take 137 (now (kept .entry)) ++ zeros 85) ⌝ }
 {
     let mut j: usize = 0;
     while j < 85 {
@@ -125,7 +128,8 @@ fn clear(kept: &mut [u32; 649])
 
 // The 138 words for which something may be pending, and the rest, by the table. No other word is left to add to.
 fn reduce(t: &[u32; 384], kept: &[u32; 649], bytes: &[u8]) -> u32
-    requires { ⌜ (now t ≡ crcRows) × ((length (now kept) ≡ 649) × ((drop 137 (take 222 (now kept)) ≡ zeros 85) × (552 ≤ length (now bytes)))) ⌝ }
+    requires { ⌜ (now t ≡ crcRows)
+        × ((length (now kept) ≡ 649) × ((drop 137 (take 222 (now kept)) ≡ zeros 85) × (552 ≤ length (now bytes)))) ⌝ }
     ensures { λ r. ⌜ r ≡ crcFrom (pending exponents (take 222 (now (kept .entry)))) (now (bytes .entry)) ⌝ }
 {
     let mut c: u32 = 0;

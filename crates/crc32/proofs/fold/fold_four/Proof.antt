@@ -1,7 +1,6 @@
 -- `crc32::fold::fold_four` meets its contract. Assumes nothing.
 use Rattle.crc32.proofs.Folding.{fold-turn}
 use lib.ListN.{length-set}
-use native.Mathlib.Omega.{arith}
 use borrow.Author.Needs.{needs}
 use Rattle.crc32.proofs.fold.fold_four.Statement.{statement}
 use Rattle.crc32.proofs.fold.fold_four.Tie as tie

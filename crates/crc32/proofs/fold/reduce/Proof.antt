@@ -6,7 +6,7 @@ use Rattle.base.proofs.Lists.{to-end}
 use mathlib.Core.Path.{_≡_, refl, _∙_}
 use Prim.Native.Nat.{_+_, _*_, _%_, _-_, _≤_}
 use native.Mathlib.Omega.{arith}
-use lib.ListN.{length, drop, take}
+use lib.ListN.{drop, take}
 use lib.Bits.{bitXor, xor-zero-l, xor-zero-r}
 use Rattle.crc32.specs.Crc.{crcBits, crcFrom}
 use Rattle.crc32.specs.Fold.{exponents, pending}

@@ -1,7 +1,7 @@
 -- `crc32::fold::slide` meets its contract. Assumes nothing.
 use Rattle.crc32.proofs.Pending.{slide-low, slide-rest}
 use mathlib.Core.Path.{_≡_, refl}
-use Prim.Native.Nat.{_+_, _-_, _≤_}
+use Prim.Native.Nat.{_-_, _≤_}
 use native.Mathlib.Omega.{arith}
 use lib.ListN.{length, take, drop, length-set}
 use Rattle.base.specs.Lists.{part}
