@@ -16,7 +16,7 @@ four-requires-3 c κs = search needs
 returns : tie.Need-returns
 returns c =
     let a = c .before .before .before .args in
-    cc (three-words (a .a) (a .b) (a .c))
+    rw (c .before .before .four .ensures, c .before .four2 .ensures, c .four3 .ensures) (three-words (a .a) (a .b) (a .c))
 
 pub three-spec : {M : Type 1} → statement M
 three-spec =
