@@ -13,23 +13,43 @@ use crate::words::by_words;
 use crate::words::read_four;
 use crate::words::three;
 
+// The degree of the multiple: a folded word is added to words up to so many places later.
+const DEGREE: usize = 137;
+
+// The most words of a block.
+const BLOCK: usize = 512;
+
+// Room for the words that still count and for a block.
+const ROOM: usize = 649;
+
+// The words after the last block, in threes and at least as many as the degree; and their bytes.
+const REST: usize = 138;
+
+const REST_BYTES: usize = 552;
+
+// The bytes of a whole block and the rest.
+const FULL: usize = 2600;
+
+// The fewest bytes that are folded: four words, and the rest.
+pub const LEAST: usize = 568;
+
 // The state is what is pending for the first word.
 pub fn by_folding(t: &[u32; 384], state: u32, bytes: &[u8]) -> u32
     requires { ⌜ (now t ≡ crcRows) × (568 ≤ length (now bytes)) ⌝ }
     ensures { λ r. ⌜ r ≡ crcFrom state (now (bytes .entry)) ⌝ }
 {
-    let mut kept = [0u32; 649];
+    let mut kept = [0u32; ROOM];
     kept[0] = state;
     in_blocks(t, &mut kept, bytes)
 }
 
 // Blocks are folded while 138 words come after them; these go through the table.
-fn in_blocks(t: &[u32; 384], kept: &mut [u32; 649], bytes: &[u8]) -> u32
+fn in_blocks(t: &[u32; 384], kept: &mut [u32; ROOM], bytes: &[u8]) -> u32
     requires { ⌜ (now t ≡ crcRows) × ((length (now kept) ≡ 649) × (552 ≤ length (now bytes))) ⌝ }
     ensures { λ r. ⌜ r ≡ crcFrom (pending exponents (take 137 (now (kept .entry)))) (now (bytes .entry)) ⌝ }
 {
     let mut i: usize = 0;
-    while 568 <= bytes.len() - i {
+    while LEAST <= bytes.len() - i {
         let n = block_length(bytes.len() - i);
         fold_block(kept, &bytes[i..], n);
         slide(kept, n);
@@ -44,14 +64,14 @@ fn block_length(left: usize) -> usize
     requires { ⌜ 568 ≤ left ⌝ }
     ensures { λ n. ⌜ (4 ≤ n) × ((n ≤ 512) × ((n % 4 ≡ 0) × (4 * n + 552 ≤ left))) ⌝ }
 {
-    if 2600 <= left {
-        return 512;
+    if FULL <= left {
+        return BLOCK;
     }
-    (left - 552) / 16 * 4
+    (left - REST_BYTES) / 16 * 4
 }
 
 // The next n words are folded, and kept after the 137 before them.
-fn fold_block(kept: &mut [u32; 649], bytes: &[u8], n: usize)
+fn fold_block(kept: &mut [u32; ROOM], bytes: &[u8], n: usize)
     requires { ⌜ (length (now kept) ≡ 649) × ((n ≤ 512) × ((n % 4 ≡ 0) × (4 * n + 552 ≤ length (now bytes)))) ⌝ }
     ensures { λ _. ⌜ (length (now (kept .exit)) ≡ 649)
         × (crcFrom (pending exponents (part n 137 (now (kept .exit)))) (drop (4 * n) (now (bytes .entry)))
@@ -65,7 +85,7 @@ fn fold_block(kept: &mut [u32; 649], bytes: &[u8], n: usize)
 }
 
 // Four words a turn. None of them is added to another, so that the compiler takes them at once.
-fn fold_four(kept: &mut [u32; 649], bytes: &[u8], j: usize)
+fn fold_four(kept: &mut [u32; ROOM], bytes: &[u8], j: usize)
     requires { ⌜ (length (now kept) ≡ 649) × ((j + 4 ≤ 512) × (4 * (j + 4) + 552 ≤ length (now bytes))) ⌝ }
     ensures { λ _. ⌜ (length (now (kept .exit)) ≡ 649)
         × (crcFrom (pending exponents (part (j + 4) 137 (now (kept .exit)))) (drop (4 * (j + 4)) (now (bytes .entry)))
@@ -82,7 +102,7 @@ fn fold_four(kept: &mut [u32; 649], bytes: &[u8], j: usize)
 }
 
 // Word j of the bytes, with what the words that are kept add to it.
-fn sum_at(kept: &[u32; 649], bytes: &[u8], j: usize) -> u32
+fn sum_at(kept: &[u32; ROOM], bytes: &[u8], j: usize) -> u32
     requires { ⌜ (length (now kept) ≡ 649) × ((j < 512) × (4 * (j + 1) ≤ length (now bytes))) ⌝ }
     ensures { λ r. ⌜ r ≡ bitXor (pending exponents (drop j (now (kept .entry))) % 2 ^ 32)
         (leOf (part (4 * j) 4 (now (bytes .entry)))) ⌝ }
@@ -93,7 +113,7 @@ fn sum_at(kept: &[u32; 649], bytes: &[u8], j: usize) -> u32
 }
 
 // Word i. A function of its own, since a result is known to be below 2^32, and an element is not.
-fn word_at(kept: &[u32; 649], i: usize) -> u32
+fn word_at(kept: &[u32; ROOM], i: usize) -> u32
     requires { ⌜ i < 649 ⌝ }
     ensures { λ r. ⌜ r ≡ getD (now (kept .entry)) i 0 ⌝ }
 {
@@ -101,40 +121,40 @@ fn word_at(kept: &[u32; 649], i: usize) -> u32
 }
 
 // The 137 words from n on become the first.
-fn slide(kept: &mut [u32; 649], n: usize)
+fn slide(kept: &mut [u32; ROOM], n: usize)
     requires { ⌜ (length (now kept) ≡ 649) × (n ≤ 512) ⌝ }
     ensures { λ _. ⌜ (length (now (kept .exit)) ≡ 649)
         × (take 137 (now (kept .exit)) ≡ part n 137 (now (kept .entry))) ⌝ }
 {
     let mut j: usize = 0;
-    while j < 137 {
+    while j < DEGREE {
         kept[j] = kept[n + j];
         j += 1;
     }
 }
 
 // Nothing was folded after the first 137 words.
-fn clear(kept: &mut [u32; 649])
+fn clear(kept: &mut [u32; ROOM])
     requires { ⌜ length (now kept) ≡ 649 ⌝ }
     ensures { λ _. ⌜ (length (now (kept .exit)) ≡ 649)
         × (take 222 (now (kept .exit)) ≡ take 137 (now (kept .entry)) ++ zeros 85) ⌝ }
 {
     let mut j: usize = 0;
     while j < 85 {
-        kept[137 + j] = 0;
+        kept[DEGREE + j] = 0;
         j += 1;
     }
 }
 
 // The 138 words for which something may be pending, and the rest, by the table. No other word is left to add to.
-fn reduce(t: &[u32; 384], kept: &[u32; 649], bytes: &[u8]) -> u32
+fn reduce(t: &[u32; 384], kept: &[u32; ROOM], bytes: &[u8]) -> u32
     requires { ⌜ (now t ≡ crcRows)
         × ((length (now kept) ≡ 649) × ((drop 137 (take 222 (now kept)) ≡ zeros 85) × (552 ≤ length (now bytes)))) ⌝ }
     ensures { λ r. ⌜ r ≡ crcFrom (pending exponents (take 222 (now (kept .entry)))) (now (bytes .entry)) ⌝ }
 {
     let mut c: u32 = 0;
     let mut j: usize = 0;
-    while j < 138 {
+    while j < REST {
         c = three(
             t,
             c ^ sum_at(kept, bytes, j),
@@ -143,5 +163,5 @@ fn reduce(t: &[u32; 384], kept: &[u32; 649], bytes: &[u8]) -> u32
         );
         j += 3;
     }
-    by_words(t, c, &bytes[552..])
+    by_words(t, c, &bytes[REST_BYTES..])
 }

@@ -25,8 +25,7 @@ pub fn update(state: u32, bytes: &[u8]) -> u32
 {
     // Lent once: a constant that is indexed is copied at each use.
     let t = &TABLE;
-    // Folding needs 138 words after the four that it leaves out.
-    if bytes.len() < 568 {
+    if bytes.len() < fold::LEAST {
         return by_words(t, state, bytes);
     }
     by_folding(t, state, bytes)
