@@ -15,6 +15,7 @@ status is 1.
 
 import errno
 import os
+import resource
 import shutil
 import subprocess
 import sys
@@ -32,7 +33,7 @@ from images import BLANK, Flash  # noqa: E402
 from listing import MOST_INPUT, SLIP_SIZE, listing  # noqa: E402
 from samples import bench_dump, small_dump  # noqa: E402
 
-SKIPPED = "skipped: calls that fail on demand, as there is no C compiler (cc)"
+SKIPPED = "skipped: calls that fail on demand, as there is no C compiler"
 COMPILERS = ("cc", "gcc", "clang")
 
 # What the program printed, what it said, and how it ended.
@@ -43,6 +44,9 @@ Outcome = namedtuple("Outcome", "output errors status")
 Trial = namedtuple("Trial", "what outcome output error")
 
 SAYS_NOTHING, ANY = 0, -1
+
+# Bytes of a listing, fewer than it has.
+LIMIT = 33
 
 
 # -------------------------------------------------------------------- dumps
@@ -90,12 +94,13 @@ def even_dump():
 
 # ------------------------------------------------------------------ running
 
-def run(command, data=None, stdin=None, stdout=subprocess.PIPE, faults=None):
+def run(command, data=None, stdin=None, stdout=subprocess.PIPE, faults=None,
+        **more):
     """The outcome, given bytes through a pipe or a file as standard input."""
     process = subprocess.Popen(
         command, stdin=subprocess.PIPE if stdin is None else stdin,
         stdout=stdout, stderr=subprocess.PIPE,
-        env=dict(os.environ, **(faults or {})))
+        env=dict(os.environ, **(faults or {})), **more)
     try:
         # Input that the program does not read is no error.
         output, errors = process.communicate(data, timeout=SECONDS)
@@ -143,6 +148,28 @@ def run_without_waiting(program, data, ended):
         os.close(theirs)
         if not ended:
             os.close(ours)
+
+
+def run_unread(program, data):
+    """With a pipe as standard output whose other end is closed."""
+    theirs, ours = os.pipe()
+    os.close(theirs)
+    try:
+        return run([program], data, stdout=ours, restore_signals=False)
+    finally:
+        os.close(ours)
+
+
+def run_limited(program, data):
+    """With a file as standard output that must not grow beyond LIMIT."""
+    def limit():
+        resource.setrlimit(resource.RLIMIT_FSIZE, (LIMIT, LIMIT))
+
+    with tempfile.TemporaryFile() as taken:
+        outcome = run([program], data, stdout=taken, restore_signals=False,
+                      preexec_fn=limit)
+        taken.seek(0)
+        return outcome._replace(output=taken.read())
 
 
 def run_by_shell(program, redirection, data=None):
@@ -200,6 +227,12 @@ def failed_outputs(program):
     with open("/dev/full", "wb") as full:
         yield Trial("a full device as standard output",
                     run([program], data, stdout=full), b"", errno.ENOSPC)
+    # Python ignores the signals of these two, and so does then the program.
+    yield Trial("a pipe that nobody reads as standard output",
+                run_unread(program, data), b"", errno.EPIPE)
+    yield Trial("a file that must not grow beyond %d bytes" % LIMIT,
+                run_limited(program, data), listing(data)[:LIMIT],
+                errno.EFBIG)
     yield Trial("standard output closed",
                 run_by_shell(program, ">&-", data), b"", errno.EBADF)
     yield Trial("standard output open for reading only",

@@ -9,6 +9,7 @@ use crate::write::append;
 use crate::write::labelled;
 use report::NO_WORD;
 use report::Report;
+use report::state::ABSENT;
 
 // The report's numbers: the first four.
 fn numbers_part(out: &mut [u8], r: Report) -> usize
@@ -91,7 +92,7 @@ fn vol_line(out: &mut [u8], at: usize, volume: u32, state: u32) -> usize
     ensures text { λ r. ⌜ Written (now (out .entry)) at (volLine volume state) r (now (out .exit)) ⌝ }
     ensures end { λ r. ⌜ r ≤ at + 128 ⌝ }
 {
-    if state == 0 {
+    if state == ABSENT {
         return at;
     }
     let a = labelled(out, at, b"vol ", volume as u64);

@@ -11,14 +11,20 @@ use geometry::GeometryRead;
 use report::Attached;
 use report::refusal;
 
+// The bytes of a slip.
+const SLIP_SIZE: usize = 20;
+
+// The most bytes of slip and image: 60 KiB.
+const MOST_INPUT: usize = 61440;
+
 // Where the slip ends: after 20 bytes, or with the input.
 fn slip_end(input: &[u8]) -> usize
     ensures { λ r. ⌜ SplitAt (now (input .entry)) r ⌝ }
 {
-    if input.len() < 20 {
+    if input.len() < SLIP_SIZE {
         return input.len();
     }
-    20
+    SLIP_SIZE
 }
 
 // Is there more input than the program holds?
@@ -28,7 +34,7 @@ fn too_much(input: &[u8], more: bool) -> bool
     if more {
         return true;
     }
-    61440 < input.len()
+    MOST_INPUT < input.len()
 }
 
 // More input than is held: refusal 1, 2 or 3.

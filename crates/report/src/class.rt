@@ -12,7 +12,7 @@ pub const PASSED_OVER: u32 = 2;
 // both headers all 0xFF
 pub const BLANK: u32 = 3;
 
-// a bad VID header, or a lost EC header with VID bytes all 0xFF
+// a bad VID header that is not all 0xFF; or VID bytes all 0xFF, and an EC header that is lost and not all 0xFF
 pub const UNREADABLE: u32 = 4;
 
 // a block that may be deleted

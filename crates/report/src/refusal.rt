@@ -1,4 +1,4 @@
-// Refusal numbers, in the order of checking.
+// Refusal numbers, in the order of checking. A step's 18 and a header writer's 19 are cases of their answers.
 
 // the slip is malformed
 pub const MALFORMED_SLIP: u32 = 1;

@@ -3,7 +3,7 @@
 // no record
 pub const ABSENT: u32 = 0;
 
-// whole
+// none of the others
 pub const GOOD: u32 = 1;
 
 // the update marker is set

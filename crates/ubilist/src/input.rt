@@ -1,8 +1,12 @@
 // The dump from standard input.
-ghost use Rattle.ubilist.specs.Input.{within};
+ghost use mathlib.Core.Path.{_≡_};
+ghost use Rattle.ubilist.specs.Input.{inputOf, within};
 use transfer::Transfer;
 
-// One byte more than the program holds, to tell whether there is more.
+// The bytes that the program holds: 60 KiB.
+pub const HELD: usize = 61440;
+
+// One byte more, to tell whether there is more.
 const MOST: usize = 61441;
 
 pub enum Input {
@@ -22,12 +26,22 @@ pub fn read(held: &mut [u8]) -> Input
     loop {
         let got = read_some(held, p.moved);
         let t = transfer::after_call(p, MOST, got, os::errno() == libc::EINTR);
-        match t {
-            Transfer::On(next) => p = next,
-            Transfer::Full => return Input::More,
-            Transfer::Ended(n) => return Input::Whole(n),
-            Transfer::Failed => return Input::Failed,
-        }
+        let Transfer::On(next) = t else {
+            return input_of(t);
+        };
+        p = next;
+    }
+}
+
+// What a row of calls has come to. Where another call is due, it is no input yet.
+fn input_of(t: Transfer) -> Input
+    ensures { λ r. ⌜ r ≡ inputOf t ⌝ }
+{
+    match t {
+        Transfer::Full => return Input::More,
+        Transfer::Ended(n) => return Input::Whole(n),
+        Transfer::Failed => return Input::Failed,
+        Transfer::On(p) => return Input::Failed,
     }
 }
 

@@ -7,7 +7,7 @@ use input::Input;
 use listing::Rendered;
 
 fn main() {
-    let mut held = [0u8; 61440];
+    let mut held = [0u8; input::HELD];
     let mut out = [0u8; 16384];
     let i = input::read(&mut held);
     match i {
@@ -17,10 +17,10 @@ fn main() {
     }
 }
 
-// No listing is longer than the buffer: listing-short of crates/listing/proofs/Bounds.antt.
+// No listing is longer than the buffer (listing-short of crates/listing/proofs/Bounds.antt); if one were, that would be said.
 fn print_listing(input: &[u8], more: bool, out: &mut [u8]) {
     let Rendered::Text(n) = listing::list(input, more, out) else {
-        return;
+        return output::say(b"ubilist: the listing is too long\n");
     };
     output::print(&out[0..n]);
 }

@@ -12,7 +12,8 @@ pub fn print(text: &[u8]) {
     }
 }
 
-fn say(line: &[u8]) {
+// One line to standard error.
+pub fn say(line: &[u8]) {
     io::write_all(libc::STDERR_FILENO, line);
 }
 

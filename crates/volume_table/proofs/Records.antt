@@ -34,7 +34,7 @@ fits i = leb-true _ _ (every-entry (λ (f : Field). leb (f .at + f .width) 172) 
 -- ---- the empty record
 
 -- 168 zeroes stored in the record, then their CRC
-pub zeroes-summed : {a b : List ℕ} {k : ℕ} → k ≡ crcOf (replicate 168 0) → a ≡ put 0 (replicate 168 0) (replicate 172 0) → b ≡ put 168 (toBe 4 k) a → b ≡ emptyRecord
+pub zeroes-summed : {a b : List ℕ} {k : ℕ} → k ≡ crcOf (replicate 168 0) → a ≡ put 0 (replicate 168 0) (replicate 172 0xFF) → b ≡ put 168 (toBe 4 k) a → b ≡ emptyRecord
 unfolding emptyRecord toBeOn
 zeroes-summed p q r = rw (r, q, p)
 

@@ -65,7 +65,7 @@ pub fn empty_record() -> [u8; RECORD_SIZE]
 {
     let zeroes = [0u8; SUMMED_SIZE];
     let sum = crc32::crc32(&zeroes);
-    let mut r = [0u8; RECORD_SIZE];
+    let mut r = [0xFFu8; RECORD_SIZE];
     base::store(&mut r, 0, &zeroes);
     set_field(&mut r, RECORD_CRC, sum as u64);
     r

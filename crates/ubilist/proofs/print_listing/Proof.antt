@@ -6,6 +6,7 @@ use Rattle.ubilist.proofs.print_listing.Tie as tie
 use Rattle.ubilist.proofs.print_listing.Reads as reads
 use Rattle.ubilist.proofs.print_listing.Lts as lts
 use Rattle.ubilist.proofs.output.print.Reads as print-reads
+use Rattle.ubilist.proofs.output.say.Reads as say-reads
 use Rattle.listing.proofs.list.Reads as list-reads
 
 list-requires : tie.Need-list-requires

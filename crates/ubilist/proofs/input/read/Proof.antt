@@ -1,13 +1,17 @@
 -- `ubilist::input::read` meets its contract: the calls that there can be are fewer in each turn. Assumes nothing.
 use mathlib.Core.Path.{_≡_, refl, sym, _∙_, subst}
-use Prim.Native.Nat.{_<_}
+use Prim.Native.Nat.{ℕ, _<_}
 use borrow.Author.Needs.{needs}
 use native.Mathlib.Omega.{arith}
 use lib.Dec.{lit<}
 use lib.ListN.{length}
 use Rattle.transfer.specs.Transfer.{callsLeft}
 use Rattle.transfer.specs.declared.Progress.{Progress}
+use Rattle.transfer.specs.declared.Transfer.{Transfer}
+use Rattle.transfer.specs.declared.Transfer.the-variants.{On, Full, Ended, Failed}
 use Rattle.transfer.proofs.Laws.{on-next, ended-below}
+use Rattle.ubilist.specs.declared.input.Input.{Input}
+use Rattle.ubilist.specs.Input.{inputOf, within}
 use Rattle.ubilist.proofs.input.read.Statement.{statement}
 use Rattle.ubilist.proofs.input.read.Tie as tie
 use Rattle.ubilist.proofs.input.read.Reads as reads
@@ -15,7 +19,15 @@ use Rattle.ubilist.proofs.input.read.Lts as lts
 use Rattle.os.proofs.errno.Reads as errno-reads
 use Rattle.transfer.proofs.after_call.Reads as after-call-reads
 use Rattle.transfer.proofs.begin.Reads as begin-reads
+use Rattle.ubilist.proofs.input.input_of.Reads as input-of-reads
 use Rattle.ubilist.proofs.input.read_some.Reads as read-some-reads
+
+-- an input that has ended is no longer than what is held
+ended-within : (t : Transfer) → ((n : ℕ) → t ≡ Ended n → n < 61441) → within (inputOf t) 61440
+ended-within (On p) h = tt
+ended-within Full h = tt
+ended-within (Ended n) h = omega (arith, h n refl)
+ended-within Failed h = tt
 
 abbrev Inv-loop : tie.InvT-loop
 Inv-loop held₀ p₀ held p = (length held ≡ length held₀) × (p .moved < 61441)
@@ -41,6 +53,18 @@ after-call-requires c κs = search needs
 enum-known-t : tie.Need-enum-known-t Inv-loop μ-loop
 enum-known-t c = search needs
 
+input-of-requires : tie.Need-input-of-requires Inv-loop μ-loop
+input-of-requires c κs = search needs
+
+same-length : tie.Need-same-length Inv-loop μ-loop
+same-length c = search needs
+
+returns : tie.Need-returns Inv-loop μ-loop
+returns c =
+    let below : (n : ℕ) → c .before .before .after-call .result ≡ Ended n → n < 61441 =
+    λ n e. ended-below _ _ _ _ (omega arith) (c .before .before .after-call .ensures) e in
+    subst (λ (i : Input). within i 61440) (sym (c .input-of .ensures)) (ended-within (c .before .before .after-call .result) below)
+
 loop-less : tie.Need-loop-less Inv-loop μ-loop
 loop-less c =
     let n = on-next _ _ _ _ (omega arith) (c .before .before .before .after-call .ensures) (c .before .t .given .1) in
@@ -51,35 +75,6 @@ loop-again c =
     let n = on-next _ _ _ _ (omega arith) (c .before .before .before .after-call .ensures) (c .before .t .given .1) in
     let l = c .before .before .before .before .before .before .before .before .before .loop in
     (c .before .before .before .before .before .before .held .given ∙ l .inv .0, omega (arith, n .0))
-
-enum-told : tie.Need-enum-told Inv-loop μ-loop
-enum-told c = search needs
-
-same-length : tie.Need-same-length Inv-loop μ-loop
-same-length c = search needs
-
-returns : tie.Need-returns Inv-loop μ-loop
-returns c = search needs
-
-enum-known-t-2 : tie.Need-enum-known-t-2 Inv-loop μ-loop
-enum-known-t-2 c = search needs
-
-same-length-2 : tie.Need-same-length-2 Inv-loop μ-loop
-same-length-2 c = search needs
-
-returns-2 : tie.Need-returns-2 Inv-loop μ-loop
-returns-2 c =
-    let n = ended-below _ _ _ _ (omega arith) (c .before .before .before .after-call .ensures) (c .before .t2 .given .1) in
-    omega (arith, n)
-
-enum-told-2 : tie.Need-enum-told-2 Inv-loop μ-loop
-enum-told-2 c = search needs
-
-same-length-3 : tie.Need-same-length-3 Inv-loop μ-loop
-same-length-3 c = search needs
-
-returns-3 : tie.Need-returns-3 Inv-loop μ-loop
-returns-3 c = search needs
 
 pub read-spec : {M : Type 1} → statement M
 read-spec =
@@ -93,14 +88,8 @@ read-spec =
     errno-requires
     after-call-requires
     enum-known-t
-    loop-less
-    loop-again
-    enum-told
+    input-of-requires
     same-length
     returns
-    enum-known-t-2
-    same-length-2
-    returns-2
-    enum-told-2
-    same-length-3
-    returns-3)
+    loop-less
+    loop-again)
