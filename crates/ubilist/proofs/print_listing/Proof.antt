@@ -18,6 +18,12 @@ enum-known-n c = search needs
 enum-told : tie.Need-enum-told
 enum-told c = search needs
 
+slice-aggregate-say : tie.Need-slice-aggregate-say
+slice-aggregate-say c = search needs
+
+say-requires : tie.Need-say-requires
+say-requires c κs = search needs
+
 same-length : tie.Need-same-length
 same-length c = search needs
 
@@ -49,6 +55,8 @@ print-listing-spec =
     list-requires
     enum-known-n
     enum-told
+    slice-aggregate-say
+    say-requires
     same-length
     returns
     sub-print
