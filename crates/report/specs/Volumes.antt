@@ -14,7 +14,7 @@ use Rattle.header.specs.Vid.{layoutVolume}
 use Rattle.volume_table.specs.Record.{recordOf}
 use Rattle.volume_table.specs.Table.{recordAt, takenLeb, takenRecords, copiesMark}
 use Rattle.volume_table.specs.declared.VolumeRecord.{VolumeRecord}
-use Rattle.report.specs.View.{Copy}
+use Rattle.report.specs.View.{Copy, Medium}
 use Rattle.report.specs.Scan.{Refusal, when, differs}
 use Rattle.report.specs.Choice.{sound, chosen}
 
@@ -60,18 +60,20 @@ abbrev pub layoutContent : Option Face → List ℕ
 layoutContent none = []
 layoutContent (some f) = f .content
 
-module _ (g : Geometry) (n : ℕ) (fs : Faces) where
-  -- "LEB 0's table is taken if mapped and good, else LEB 1's"
-  unfoldable pub tableLeb : Answer ℕ
-  tableLeb = takenLeb (g .«leb_size») (g .unit) n (layoutContent (fs layoutVolume 0)) (layoutContent (fs layoutVolume 1))
+-- a question about both layout copies, asked with the LEB size, the unit and the PEB count
+abbrev pub ofLayout : {A : Type 0} → (ℕ → ℕ → ℕ → List ℕ → List ℕ → A) → Medium → Faces → A
+ofLayout f m fs =
+    f (m .geometry .«leb_size») (m .geometry .unit) (m .count) (layoutContent (fs layoutVolume 0)) (layoutContent (fs layoutVolume 1))
 
-  -- the records of the table taken
-  unfoldable pub tableRecords : List ℕ
-  tableRecords = takenRecords (g .«leb_size») (g .unit) n (layoutContent (fs layoutVolume 0)) (layoutContent (fs layoutVolume 1))
+-- "LEB 0's table is taken if mapped and good, else LEB 1's"; the records of the table taken; "Copies mark"
+unfoldable pub tableLeb : Medium → Faces → Answer ℕ
+tableLeb = ofLayout takenLeb
 
-  -- "Copies mark"
-  unfoldable pub tableMark : ℕ
-  tableMark = copiesMark (g .«leb_size») (g .unit) n (layoutContent (fs layoutVolume 0)) (layoutContent (fs layoutVolume 1))
+unfoldable pub tableRecords : Medium → Faces → List ℕ
+tableRecords = ofLayout takenRecords
+
+unfoldable pub tableMark : Medium → Faces → ℕ
+tableMark = ofLayout copiesMark
 
 -- the record of a volume; none where it "is empty or absent": in a good table exactly the empty ones reserve 0, and past the records
 -- there are no bytes, which reserve 0 too

@@ -12,6 +12,8 @@ pub struct Report {
     pub entries: u32,
     pub mean: u32,
     pub highest: u64,
+    // the image sequence that the EC headers are compared with, 0 if there is none
+    pub image_seq: u32,
     pub read_only: bool,
     // the layout LEB, 0 or 1, whose table is taken
     pub table: u32,
