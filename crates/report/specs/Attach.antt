@@ -1,4 +1,5 @@
--- 01 'The report' and 'Refusal numbers': what attaching answers, and what the lent tables hold afterwards. Assumes nothing.
+-- 01 'The report' and 'Refusal numbers': what attaching answers, and what the lent tables hold afterwards. Assumes
+-- nothing.
 use Prim.Native.Nat.{ℕ, _-_, _*_, _/_, _%_}
 use mathlib.Core.Bool.{Bool, cond}
 use mathlib.Core.Option.{Option, none, some}
@@ -26,7 +27,8 @@ unfoldable pub imageRules : Geometry → List ℕ → List Bool
 imageRules g image =
     eqb (length image % g .«peb_size») 0 ∷ leb 2 (pebCount g image) ∷ leb (pebCount g image) 4096 ∷ []
 
--- the words that the report needs of each lent table: "Per PEB two u32 words", "up to 3 times PEB count in the map", "128 words"
+-- the words that the report needs of each lent table: "Per PEB two u32 words", "up to 3 times PEB count in the map",
+-- "128 words"
 abbrev pub pebWordsNeeded : ℕ → ℕ
 pebWordsNeeded n = n * 2
 
@@ -59,7 +61,8 @@ pub record AttachRequest : Type 0 where
 abbrev pub request : List ℕ → AttachRequest
 request slip = record { slip = slip }
 
--- what attaching comes to: a refusal 1 to 4, which changes nothing lent; a refusal 5 to 12 of an image of so many PEBs; or a report
+-- what attaching comes to: a refusal 1 to 4, which changes nothing lent; a refusal 5 to 12 of an image of so many PEBs;
+-- or a report
 pub data Outcome : Type 0 where
   early : ℕ → Outcome
   late : ℕ → Refusal → Outcome
@@ -91,6 +94,7 @@ answerOr x (refused k p) = x
 -- the report's numbers
 unfoldable pub reportOf : Medium → Report
 reportOf m = record {
+  geometry = m .geometry;
   «peb_count» = m .count;
   entries = length (entries m);
   mean = meanOf m;
@@ -141,4 +145,5 @@ tablesAfter (late n r) t =
     lent (over (replicate (pebWordsNeeded n) noWord) (t .pebs)) (over (replicate (mapWordsNeeded n) noWord) (t .map))
     (over (replicate stateWordsNeeded noWord) (t .states))
 tablesAfter (whole m) t =
-    lent (over (pebWords m) (t .pebs)) (over (mapWords (m .count) (entries m)) (t .map)) (over (stateWords m) (t .states))
+    lent (over (pebWords m) (t .pebs)) (over (mapWords (m .count) (entries m)) (t .map))
+    (over (stateWords m) (t .states))

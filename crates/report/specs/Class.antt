@@ -4,10 +4,10 @@ use mathlib.Core.Bool.{Bool, _||_, cond}
 use lib.Dec.{eqb}
 use Rattle.report.specs.View.{Copy, EcView, ecGood, ecNewer, ecBlank, ecLost, VidView, vidGood, vidNewer, vidBlank, vidBad, isMappable}
 
--- "Classes: 0 free (good EC, VID bytes all 0xFF); .. 3 blank (both headers all 0xFF); 4 unreadable (VID bad and not all 0xFF, or VID
--- all 0xFF with an EC lost and not all 0xFF); 5 to delete; 6 kept aside"; "Other internal volumes: compatibility 1, class 5; 2,
--- class 6 ..; 4, class 6". f gives the class of a copy of a user or layout LEB, which depends on the other PEBs. A newer header, and
--- compatibility 5 here, refuse the image
+-- "Classes: 0 free (good EC, VID bytes all 0xFF); .. 3 blank (both headers all 0xFF); 4 unreadable (VID bad and not all
+-- 0xFF, or VID all 0xFF with an EC lost and not all 0xFF); 5 to delete; 6 kept aside"; "Other internal volumes:
+-- compatibility 1, class 5; 2, class 6 ..; 4, class 6". f gives the class of a copy of a user or layout LEB, which
+-- depends on the other PEBs. A newer header, and compatibility 5 here, refuse the image
 abbrev pub classBy : (Copy → ℕ) → EcView → VidView → ℕ
 classBy f e (vidGood c) = cond (isMappable (c .header .volume)) (f c) (cond (eqb (c .header .compat) 1) 5 6)
 classBy f (ecGood h) vidBlank = 0

@@ -37,14 +37,16 @@ abbrev pub isPlace : Option ℕ → ℕ → Bool
 isPlace none i = false
 isPlace (some p) i = eqb p i
 
--- "A chosen user copy whose record is empty or absent, or whose LEB is not below reserved, becomes class 5": does it stay?
+-- "A chosen user copy whose record is empty or absent, or whose LEB is not below reserved, becomes class 5": does it
+-- stay?
 abbrev pub staysIn : List ℕ → ℕ → ℕ → Bool
 staysIn t v l = eqb v layoutVolume || ltb l (reservedOf (recordFor t v))
 
 -- "1 chosen; 2 passed over", or class 5 if it was chosen and does not stay
 abbrev pub copyClass : List ℕ → Places → ℕ → Copy → ℕ
 copyClass t ps i c =
-    cond (isPlace (ps (c .header .volume) (c .header .lnum)) i) (cond (staysIn t (c .header .volume) (c .header .lnum)) 1 5) 2
+    cond (isPlace (ps (c .header .volume) (c .header .lnum)) i)
+    (cond (staysIn t (c .header .volume) (c .header .lnum)) 1 5) 2
 
 abbrev pub classOf : List ℕ → Places → ℕ → EcView → VidView → ℕ
 classOf t ps i = classBy (copyClass t ps i)
@@ -62,11 +64,12 @@ hasCounter (some h) = true
 abbrev pub mayBeLost : ℕ → Bool
 mayBeLost class = eqb class 3
 
--- "mean (floor of good counters' sum over their number, 0 if none; otherwise it lies between the lowest and the highest good counter)":
--- a division by 0 gives 0, and the rest is proofs/Mean.antt
+-- "mean (floor of good counters' sum over their number, 0 if none; otherwise it lies between the lowest and the highest
+-- good counter)": a division by 0 gives 0, and the rest is proofs/Mean.antt
 unfoldable pub meanOf : Medium → ℕ
 meanOf m =
-    sumBelow (m .count) (λ (i : ℕ). counterOr 0 (ecs (m .views) i)) / countBelow (m .count) (λ (i : ℕ). hasCounter (ecs (m .views) i))
+    sumBelow (m .count) (λ (i : ℕ). counterOr 0 (ecs (m .views) i))
+    / countBelow (m .count) (λ (i : ℕ). hasCounter (ecs (m .views) i))
 
 abbrev pub sequenceOr0 : Option Copy → ℕ
 sequenceOr0 none = 0
@@ -116,7 +119,8 @@ module _ (m : Medium) where
   unfoldable pub stateAt : ℕ → ℕ
   stateAt v = stateOf records faces v
 
-  -- "Grade is 0 exactly if no PEB is class 4, only class 3 has lost counters, copies mark is 0, and no state is 2 or 3; else 1."
+  -- "Grade is 0 exactly if no PEB is class 4, only class 3 has lost counters, copies mark is 0, and no state is 2 or 3;
+  -- else 1."
   unfoldable pub gradeOf : ℕ
   gradeOf =
       cond

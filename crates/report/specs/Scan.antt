@@ -33,7 +33,8 @@ imageSeq n vs = mapO (λ (x : ℕ × EcHeader). x .1 .«image_seq») (firstBelow
 abbrev pub ecRefusal : Geometry → Option ℕ → EcView → Option ℕ
 ecRefusal g seq ecNewer = some 5
 ecRefusal g seq (ecGood h) =
-    orElse (when (not (eqb (h .«vid_start») (g .«vid_start») && eqb (h .«data_start») (g .«data_start»))) 6) (when (differs seq (h .«image_seq»)) 7)
+    orElse (when (not (eqb (h .«vid_start») (g .«vid_start») && eqb (h .«data_start») (g .«data_start»))) 6)
+    (when (differs seq (h .«image_seq»)) 7)
 ecRefusal g seq ecBlank = none
 ecRefusal g seq ecLost = none
 
@@ -54,7 +55,8 @@ atPeb x = record { number = x .1; place = x .0 }
 -- "5 to 8 go PEB by PEB"; the place is the PEB
 unfoldable pub refusal5678 : Medium → Option Refusal
 refusal5678 m =
-    mapO atPeb (firstBelow (m .count) (λ (i : ℕ). viewRefusal (m .geometry) (imageSeq (m .count) (m .views)) (m .views i)))
+    mapO atPeb
+    (firstBelow (m .count) (λ (i : ℕ). viewRefusal (m .geometry) (imageSeq (m .count) (m .views)) (m .views i)))
 
 -- 10 "every PEB is class 0 or 3"
 unfoldable pub refusal10 : Medium → Option Refusal

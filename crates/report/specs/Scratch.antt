@@ -1,5 +1,5 @@
--- What attaching keeps in the lent words before the report is done. Contracts of inner functions cite it; no public promise does.
--- Assumes nothing.
+-- What attaching keeps in the lent words before the report is done. Contracts of inner functions cite it; no public
+-- promise does. Assumes nothing.
 use Prim.Native.Nat.{ℕ}
 use mathlib.Core.Bool.{cond}
 use mathlib.Core.List.{List, [], _∷_}
@@ -30,4 +30,5 @@ markedClass ps i = classBy (λ (c : Copy). cond (isPlace (ps (c .header .volume)
 
 -- class and counter of each PEB then
 abbrev pub markedWords : Places → ℕ → Views → List ℕ
-markedWords ps n vs = concatBelow n (λ (i : ℕ). markedClass ps i (vs i .ec) (vs i .vid) ∷ counterOr noWord (ecs vs i) ∷ [])
+markedWords ps n vs =
+    concatBelow n (λ (i : ℕ). markedClass ps i (vs i .ec) (vs i .vid) ∷ counterOr noWord (ecs vs i) ∷ [])

@@ -1,4 +1,5 @@
--- What a PEB, judged alone, says. All that attaching knows of an image it knows through the views of its PEBs. Assumes nothing.
+-- What a PEB, judged alone, says. All that attaching knows of an image it knows through the views of its PEBs. Assumes
+-- nothing.
 use Prim.Native.Nat.{ℕ, _*_}
 use mathlib.Core.Bool.{Bool, true, _&&_, _||_, cond}
 use mathlib.Core.Option.{Option, none, some}
@@ -19,8 +20,8 @@ unfoldable pub allFF : List ℕ → Bool
 allFF [] = true
 allFF (b ∷ bs) = eqb b 0xFF && allFF bs
 
--- a good VID header with its data: whether "its data CRC matches the CRC of its first data-size bytes", and the bytes from the data
--- start on
+-- a good VID header with its data: whether "its data CRC matches the CRC of its first data-size bytes", and the bytes
+-- from the data start on
 pub record Copy : Type 0 where
   pub header : VidHeader
   pub matches : Bool
