@@ -87,6 +87,10 @@ module _ (image : List ℕ) (room : ℕ → Bool) where
 unfoldable pub attaching : AttachRequest → List ℕ → (ℕ → Bool) → Outcome
 attaching r image room = byGeometry image room (slipGeometry (r .slip))
 
+-- into these lent tables
+abbrev pub attachingInto : AttachRequest → List ℕ → Tables → Outcome
+attachingInto r image t = attaching r image (longEnough t)
+
 abbrev pub answerOr : ℕ → Answer ℕ → ℕ
 answerOr x (given k) = k
 answerOr x (refused k p) = x
