@@ -10,9 +10,6 @@ use Rattle.geometry.proofs.Laws.{slip-length}
 use Rattle.geometry.proofs.slip.read_slip.Statement.{statement}
 use Rattle.geometry.proofs.slip.read_slip.Tie as tie
 
-well-formed-requires : tie.Need-well-formed-requires
-well-formed-requires c κs = search needs
-
 -- past the test the slip is well formed
 formed : (c : tie.Else1) → wellFormed (c .before .before .before .args .slip .now) ≡ true
 formed c = sym (c .before .well-formed .ensures) ∙ not-false (c .before .well-formed .result) (c .if1 .left)
@@ -27,23 +24,11 @@ returns c = rw (← (c .before .well-formed .ensures), not-true (c .before .well
 read-requires : tie.Need-read-requires
 read-requires c κs = omega (arith, twenty c)
 
-cast-peb-size : tie.Need-cast-peb-size
-cast-peb-size c = search needs
-
 read-requires-2 : tie.Need-read-requires-2
 read-requires-2 c κs = omega (arith, twenty (c .before))
 
-cast-unit : tie.Need-cast-unit
-cast-unit c = search needs
-
 read-requires-3 : tie.Need-read-requires-3
 read-requires-3 c κs = omega (arith, twenty (c .before .before))
-
-cast-sub-unit : tie.Need-cast-sub-unit
-cast-sub-unit c = search needs
-
-check-geometry-requires : tie.Need-check-geometry-requires
-check-geometry-requires c κs = search needs
 
 returns-2 : tie.Need-returns-2
 unfolding slipGeometry valueAt
@@ -53,13 +38,13 @@ pub read-slip-spec : {M : Type 1} → statement M
 read-slip-spec =
     tie.close
     (tie.spec
-    well-formed-requires
+    (λ c κs. search needs)
     returns
     read-requires
-    cast-peb-size
+    (λ c. search needs)
     read-requires-2
-    cast-unit
+    (λ c. search needs)
     read-requires-3
-    cast-sub-unit
-    check-geometry-requires
+    (λ c. search needs)
+    (λ c κs. search needs)
     returns-2)
