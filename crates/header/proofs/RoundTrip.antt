@@ -18,7 +18,7 @@ use Rattle.crc32.specs.Crc.{crcOf}
 use Rattle.crc32.proofs.Laws.{crcOf-lt}
 use Rattle.header.specs.declared.EcHeader.{EcHeader}
 use Rattle.header.specs.declared.VidHeader.{VidHeader}
-use Rattle.header.specs.Fields.{fieldOf, fieldAt, crcMatches, Verdict, good, bad, newer, byVersion, isGood, verdictAnswer, lentHeader, headerBytes, headerWritten, headerOut}
+use Rattle.header.specs.Fields.{crcMatches, Verdict, good, bad, newer, byVersion, isGood, verdictAnswer, lentHeader, headerBytes, headerWritten, headerOut}
 use Rattle.header.specs.Ec.{ecMagic, ecFields, ecRules, judgeEc, readEc, ecRead, ecHead, ecBytes, ecWritten, ecOut, EcFits, EcPadded}
 use Rattle.header.specs.Vid.{vidMagic, vidFields, vidRules, judgeVid, readVid, vidRead, vidHead, vidBytes, vidWritten, vidOut, VidFits, VidPadded}
 use Rattle.header.proofs.Writes.{ec-64, vid-64}
@@ -98,7 +98,7 @@ module _ (l : List ℕ) (b : Bytes l) (long : 64 ≤ length l) where
 
     -- the 64 bytes, once the first 60 are known
     whole : (head : List ℕ) → take 60 l ≡ head → headerBytes head ≡ take 64 l
-    unfolding crcMatches fieldAt fieldOf
+    unfolding crcMatches
     whole head e =
         let s = eqb-true (crcOf (take 60 l)) (beOf (part 60 4 l)) (and-right (eqs (part 0 4 l) magic) (crcMatches l) t) in
         sym (join 60 4 l e (piece 60 4 (crcOf head) (omega arith) (sym s ∙ ap crcOf e)))
@@ -114,7 +114,7 @@ module _ (h : EcHeader) (t : List ℕ) where
   ec-head-bytes = bytes-each (ecHead h) (search (each-append, each-toBe, each-zero, each-ec-magic) depth 12)
 
   ec-crcMatches : crcMatches (ecBytes h ++ t) ≡ true
-  unfolding crcMatches fieldAt fieldOf ecBytes ecHead toBeOn
+  unfolding crcMatches ecBytes ecHead toBeOn
   ec-crcMatches = eq-eqb (crcOf (ecHead h)) _ (sym (read-back-fits 4 (crcOf (ecHead h)) (crcOf-lt (ecHead h) ec-head-bytes)))
 
   ec-magic : eqs (part 0 4 (ecBytes h ++ t)) ecMagic ≡ true
@@ -126,7 +126,7 @@ module _ (h : EcHeader) (t : List ℕ) where
   ec-long = le-ltb (length (ecBytes h ++ t)) 64 (omega arith)
 
   ec-fields-back : EcFits h → ecFields (ecBytes h ++ t) ≡ h
-  unfolding ecFields fieldAt fieldOf ecBytes ecHead toBeOn
+  unfolding ecFields ecBytes ecHead toBeOn
   ec-fields-back f = λ i. record {
     version = read-back-fits 1 (h .version) (f .version) i;
     counter = read-back-fits 8 (h .counter) (f .counter) i;
@@ -162,7 +162,7 @@ module _ (h : EcHeader) (l : List ℕ) (b : Bytes l) (long : 64 ≤ length l) (r
   ec-fields-are = same-fields (ecFields l .version) (allOf (ecRules (ecFields l))) (ec-tests .1)
 
   ec-head-is : EcPadded l → take 60 l ≡ ecHead h
-  unfolding ecHead ecFields fieldAt fieldOf
+  unfolding ecHead ecFields
   ec-head-is z =
       let e = ec-fields-are in
       join 28 32 l
@@ -199,7 +199,7 @@ ec-read-written l out h b r z long =
 
 -- what is read is as large as its bytes allow
 pub ec-read-fits : (l : List ℕ) → Bytes l → 64 ≤ length l → EcFits (ecFields l)
-unfolding ecFields fieldAt fieldOf
+unfolding ecFields
 ec-read-fits l b long = record {
   version = field-lt 4 1 l (omega arith) b;
   counter = field-lt 8 8 l (omega arith) b;
@@ -219,7 +219,7 @@ module _ (h : VidHeader) (t : List ℕ) where
   vid-head-bytes = bytes-each (vidHead h) (search (each-append, each-toBe, each-zero, each-vid-magic) depth 24)
 
   vid-crcMatches : crcMatches (vidBytes h ++ t) ≡ true
-  unfolding crcMatches fieldAt fieldOf vidBytes vidHead toBeOn
+  unfolding crcMatches vidBytes vidHead toBeOn
   vid-crcMatches = eq-eqb (crcOf (vidHead h)) _ (sym (read-back-fits 4 (crcOf (vidHead h)) (crcOf-lt (vidHead h) vid-head-bytes)))
 
   vid-magic : eqs (part 0 4 (vidBytes h ++ t)) vidMagic ≡ true
@@ -231,7 +231,7 @@ module _ (h : VidHeader) (t : List ℕ) where
   vid-long = le-ltb (length (vidBytes h ++ t)) 64 (omega arith)
 
   vid-fields-back : VidFits h → vidFields (vidBytes h ++ t) ≡ h
-  unfolding vidFields fieldAt fieldOf vidBytes vidHead toBeOn
+  unfolding vidFields vidBytes vidHead toBeOn
   vid-fields-back f = λ i. record {
     version = read-back-fits 1 (h .version) (f .version) i;
     «vol_type» = read-back-fits 1 (h .«vol_type») (f .vol-type) i;
@@ -273,7 +273,7 @@ module _ (size : ℕ) (h : VidHeader) (l : List ℕ) (b : Bytes l) (long : 64 �
   vid-fields-are = same-fields (vidFields l .version) (allOf (vidRules size (vidFields l))) (vid-tests .1)
 
   vid-head-is : VidPadded l → take 60 l ≡ vidHead h
-  unfolding vidHead vidFields fieldAt fieldOf
+  unfolding vidHead vidFields
   vid-head-is z =
       let e = vid-fields-are in
       join 48 12 l
@@ -324,7 +324,7 @@ vid-read-written size l out h b r z long =
 
 -- what is read is as large as its bytes allow
 pub vid-read-fits : (l : List ℕ) → Bytes l → 64 ≤ length l → VidFits (vidFields l)
-unfolding vidFields fieldAt fieldOf
+unfolding vidFields
 vid-read-fits l b long = record {
   version = field-lt 4 1 l (omega arith) b;
   vol-type = field-lt 5 1 l (omega arith) b;

@@ -22,12 +22,6 @@ pub const AUTORESIZE: u8 = 1;
 
 pub const SKIP_CRC: u8 = 2;
 
-// Where a field stands in a record, and how many bytes it has.
-struct Field {
-    at: usize,
-    width: usize,
-}
-
 // A volume record: its numbers beside the name's 128 bytes.
 pub struct VolumeRecord {
     pub reserved: u32,
