@@ -73,18 +73,21 @@ module _ {A : Type 0} (h : A) where
 
 -- ---- a header that is read as good has the fields in its place, and all rules hold
 
+pub bad-not : {A : Type 0} {h : A} → bad ≡ good h → ⊥
+bad-not e = let z : _≡_ {A = ℕ} 0 1 = cc in omega arith
+
 module _ {A : Type 0} {x h : A} where
   judged-good : (one zero b : Bool) → cond one (cond b (good x) bad) (cond zero bad newer) ≡ good h → (x ≡ h) × (b ≡ true)
   judged-good true zero true e = (cc, refl)
-  judged-good true zero false e = absurd (let z : _≡_ {A = ℕ} 0 1 = cc in omega arith)
-  judged-good false true b e = absurd (let z : _≡_ {A = ℕ} 0 1 = cc in omega arith)
+  judged-good true zero false e = absurd (bad-not e)
+  judged-good false true b e = absurd (bad-not e)
   judged-good false false b e = absurd (let z : _≡_ {A = ℕ} 0 1 = cc in omega arith)
 
   -- `test` says that magic and CRC are right
-  read-good : (test : Bool) (version : ℕ) (rules : List Bool) → cond test (judged version rules x) bad ≡ good h
+  pub read-good : (test : Bool) (version : ℕ) (rules : List Bool) → cond test (judged version rules x) bad ≡ good h
       → (x ≡ h) × (allOf rules ≡ true)
   read-good true version rules e = judged-good (eqb version 1) (eqb version 0) (allOf rules) e
-  read-good false version rules e = absurd (let z : _≡_ {A = ℕ} 0 1 = cc in omega arith)
+  read-good false version rules e = absurd (bad-not e)
 
 pub ec-good : (s : List ℕ) {h : EcHeader} → readEc s ≡ good h → (ecFields s ≡ h) × (h .counter ≤ 0x7FFFFFFF)
 unfolding readEc judgeEc ecRules

@@ -44,23 +44,23 @@ pub const VID_SEQUENCE: usize = 15;
 const HEADER_CRC: usize = 16;
 
 const FIELDS: [Field; 17] = [
-    Field { at: 4, width: 1 },
-    Field { at: 8, width: 8 },
-    Field { at: 16, width: 4 },
-    Field { at: 20, width: 4 },
-    Field { at: 24, width: 4 },
-    Field { at: 4, width: 1 },
-    Field { at: 5, width: 1 },
-    Field { at: 6, width: 1 },
-    Field { at: 7, width: 1 },
-    Field { at: 8, width: 4 },
-    Field { at: 12, width: 4 },
-    Field { at: 20, width: 4 },
-    Field { at: 24, width: 4 },
-    Field { at: 28, width: 4 },
-    Field { at: 32, width: 4 },
-    Field { at: 40, width: 8 },
-    Field { at: 60, width: 4 },
+    Field { at: 4, width: 1 }, // EC_VERSION
+    Field { at: 8, width: 8 }, // EC_COUNTER
+    Field { at: 16, width: 4 }, // EC_VID_START
+    Field { at: 20, width: 4 }, // EC_DATA_START
+    Field { at: 24, width: 4 }, // EC_IMAGE_SEQ
+    Field { at: 4, width: 1 }, // VID_VERSION
+    Field { at: 5, width: 1 }, // VID_TYPE
+    Field { at: 6, width: 1 }, // VID_COPY_FLAG
+    Field { at: 7, width: 1 }, // VID_COMPAT
+    Field { at: 8, width: 4 }, // VID_VOLUME
+    Field { at: 12, width: 4 }, // VID_LNUM
+    Field { at: 20, width: 4 }, // VID_DATA_SIZE
+    Field { at: 24, width: 4 }, // VID_USED_LEBS
+    Field { at: 28, width: 4 }, // VID_DATA_PAD
+    Field { at: 32, width: 4 }, // VID_DATA_CRC
+    Field { at: 40, width: 8 }, // VID_SEQUENCE
+    Field { at: 60, width: 4 }, // HEADER_CRC
 ];
 
 // Field i of the table.

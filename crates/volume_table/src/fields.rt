@@ -33,21 +33,21 @@ pub const RECORD_FLAGS: usize = 7;
 pub const RECORD_CRC: usize = 8;
 
 const RECORD_FIELDS: [Field; 9] = [
-    Field { at: 0, width: 4 },
-    Field { at: 4, width: 4 },
-    Field { at: 8, width: 4 },
-    Field { at: 12, width: 1 },
-    Field { at: 13, width: 1 },
-    Field { at: 14, width: 2 },
+    Field { at: 0, width: 4 }, // RECORD_RESERVED
+    Field { at: 4, width: 4 }, // RECORD_ALIGNMENT
+    Field { at: 8, width: 4 }, // RECORD_DATA_PAD
+    Field { at: 12, width: 1 }, // RECORD_TYPE
+    Field { at: 13, width: 1 }, // RECORD_MARKER
+    Field { at: 14, width: 2 }, // RECORD_NAME_LENGTH
     Field {
         at: 16,
         width: NAME_SIZE,
-    },
-    Field { at: 144, width: 1 },
+    }, // RECORD_NAME
+    Field { at: 144, width: 1 }, // RECORD_FLAGS
     Field {
         at: SUMMED_SIZE,
         width: 4,
-    },
+    }, // RECORD_CRC
 ];
 
 // Field i of the table.
