@@ -2,6 +2,7 @@
 mod fields;
 mod record;
 mod table;
+mod write;
 
 pub use fields::RECORD_DATA_PAD;
 pub use fields::RECORD_FLAGS;
@@ -16,6 +17,7 @@ pub use table::record_count;
 pub use table::records_part;
 pub use table::table_good;
 pub use table::taken_table;
+pub use write::write_record;
 
 // The flags of a record.
 pub const AUTORESIZE: u8 = 1;
