@@ -5,7 +5,8 @@ use Prim.Native.Nat.{ℕ, zero, suc, _+_, _-_, _≤_}
 use native.Mathlib.Nat.{add-assoc, zero-add}
 use native.Mathlib.Omega.{arith}
 use lib.ListN.{length, take, drop, replicate, length-append, length-take, length-drop, take-append-drop}
-use lib.Seq.{take-append-seam, drop-append-seam, take-at, drop-at, take-append-le, drop-append-le, take-append-add, drop-append-add, length-take-le, drop-drop, drop-length}
+use lib.Seq.{take-append-seam, drop-append-seam, take-at, drop-at, take-append-le, drop-append-le, take-append-add}
+use lib.Seq.{drop-append-add, length-take-le, drop-drop, drop-length}
 use Rattle.base.specs.Lists.{part, put, Bytes}
 use Rattle.base.proofs.Lists as lists
 use Rattle.base.proofs.Lists.{bytes-take, bytes-drop}

@@ -2,7 +2,8 @@
 use mathlib.Core.Path.{_≡_, refl, sym, ap, _∙_, subst}
 use Prim.Native.Nat.{ℕ, zero, suc, _+_, _*_, _/_, _%_, _^_, _-_, _≤_, _<_}
 use mathlib.Core.List.{List, [], _∷_, _++_, append-assoc, append-nil}
-use native.Mathlib.Nat.{pow-suc, pow-le-pow-right, one-le-pow, mod-one, mod-eq-of-lt, suc-add, not-suc-le-zero, add-suc, zero-add, add-zero, mul-comm, mul-assoc, one-mul}
+use native.Mathlib.Nat.{pow-suc, pow-le-pow-right, one-le-pow, mod-one, mod-eq-of-lt, suc-add, not-suc-le-zero, add-suc}
+use native.Mathlib.Nat.{zero-add, add-zero, mul-comm, mul-assoc, one-mul}
 use native.Mathlib.Numerals.{add-one, sub-one}
 use native.Mathlib.Omega.{arith}
 use mathlib.Core.Bool.{Bool, true, _&&_}

@@ -18,36 +18,12 @@ use Rattle.crc32.specs.Crc.{crcOf}
 use Rattle.crc32.proofs.Laws.{crcOf-lt}
 use Rattle.header.specs.declared.EcHeader.{EcHeader}
 use Rattle.header.specs.declared.VidHeader.{VidHeader}
-use Rattle.header.specs.Fields.{
-  crcMatches,
-  Verdict,
-  good,
-  bad,
-  newer,
-  judged,
-  isGood,
-  readHeader,
-  verdictAnswer,
-  lentHeader,
-  headerBytes,
-  headerWritten,
-  headerOut,
-}
-use Rattle.header.specs.Ec.{ecMagic, ecFields, ecRules, judgeEc, readEc, ecRead, ecHead, ecBytes, ecWritten, ecOut, EcFits, EcPadded}
-use Rattle.header.specs.Vid.{
-  vidMagic,
-  vidFields,
-  vidRules,
-  judgeVid,
-  readVid,
-  vidRead,
-  vidHead,
-  vidBytes,
-  vidWritten,
-  vidOut,
-  VidFits,
-  VidPadded,
-}
+use Rattle.header.specs.Fields.{crcMatches, Verdict, good, bad, newer, judged, isGood, readHeader, verdictAnswer}
+use Rattle.header.specs.Fields.{lentHeader, headerBytes, headerWritten, headerOut}
+use Rattle.header.specs.Ec.{ecMagic, ecFields, ecRules, judgeEc, readEc, ecRead, ecHead, ecBytes, ecWritten}
+use Rattle.header.specs.Ec.{ecOut, EcFits, EcPadded}
+use Rattle.header.specs.Vid.{vidMagic, vidFields, vidRules, judgeVid, readVid, vidRead, vidHead, vidBytes}
+use Rattle.header.specs.Vid.{vidWritten, vidOut, VidFits, VidPadded}
 use Rattle.header.proofs.Laws.{bad-not, read-good}
 use Rattle.header.proofs.Writes.{ec-64, vid-64}
 

@@ -9,7 +9,8 @@ use Rattle.base.specs.Answers.{Answer, given, refused}
 use Rattle.base.specs.Lists.{part}
 use Rattle.field.specs.Be.{toBe}
 use Rattle.field.specs.Fields.{numberIn}
-use Rattle.header.specs.Fields.{ecVersion, ecCounter, ecVidStart, ecDataStart, ecImageSeq, Verdict, good, bad, judged, readHeader, lentHeader, headerBytes, headerWritten, headerOut}
+use Rattle.header.specs.Fields.{ecVersion, ecCounter, ecVidStart, ecDataStart, ecImageSeq, Verdict, good, bad}
+use Rattle.header.specs.Fields.{judged, readHeader, lentHeader, headerBytes, headerWritten, headerOut}
 use Rattle.header.specs.declared.EcHeader.{EcHeader}
 use Rattle.header.specs.declared.EcRead.{EcRead}
 use Rattle.header.specs.declared.EcRead.the-variants.{Good, Lost, Newer, Short}

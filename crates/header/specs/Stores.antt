@@ -6,7 +6,9 @@ use lib.ListN.{take, drop, replicate}
 use Rattle.base.specs.Lists.{put}
 use Rattle.field.specs.Fields.{stored}
 use Rattle.crc32.specs.Crc.{crcOf}
-use Rattle.header.specs.Fields.{headerCrc, ecVersion, ecCounter, ecVidStart, ecDataStart, ecImageSeq, vidVersion, vidType, vidCopyFlag, vidCompat, vidVolume, vidLnum, vidDataSize, vidUsedLebs, vidDataPad, vidDataCrc, vidSequence}
+use Rattle.header.specs.Fields.{headerCrc, ecVersion, ecCounter, ecVidStart, ecDataStart, ecImageSeq, vidVersion}
+use Rattle.header.specs.Fields.{vidType, vidCopyFlag, vidCompat, vidVolume, vidLnum, vidDataSize, vidUsedLebs}
+use Rattle.header.specs.Fields.{vidDataPad, vidDataCrc, vidSequence}
 use Rattle.header.specs.declared.EcHeader.{EcHeader}
 use Rattle.header.specs.declared.VidHeader.{VidHeader}
 

@@ -9,28 +9,9 @@ use Rattle.base.specs.Answers.{Answer, given, refused}
 use Rattle.base.specs.Lists.{part}
 use Rattle.field.specs.Be.{toBe}
 use Rattle.field.specs.Fields.{numberIn}
-use Rattle.header.specs.Fields.{
-  vidVersion,
-  vidType,
-  vidCopyFlag,
-  vidCompat,
-  vidVolume,
-  vidLnum,
-  vidDataSize,
-  vidUsedLebs,
-  vidDataPad,
-  vidDataCrc,
-  vidSequence,
-  Verdict,
-  good,
-  bad,
-  judged,
-  readHeader,
-  lentHeader,
-  headerBytes,
-  headerWritten,
-  headerOut,
-}
+use Rattle.header.specs.Fields.{vidVersion, vidType, vidCopyFlag, vidCompat, vidVolume, vidLnum, vidDataSize}
+use Rattle.header.specs.Fields.{vidUsedLebs, vidDataPad, vidDataCrc, vidSequence, Verdict, good, bad, judged}
+use Rattle.header.specs.Fields.{readHeader, lentHeader, headerBytes, headerWritten, headerOut}
 use Rattle.header.specs.declared.VidHeader.{VidHeader}
 use Rattle.header.specs.declared.VidRead.{VidRead}
 use Rattle.header.specs.declared.VidRead.the-variants.{Good, Bad, Newer, Short}

@@ -18,7 +18,8 @@ use Rattle.crc32.specs.Crc.{crcOf}
 use Rattle.field.specs.Fields.{row, numberIn}
 use Rattle.field.proofs.Laws.{rows-fit}
 use Rattle.volume_table.specs.Fields.{recordFields, recordCrc}
-use Rattle.volume_table.specs.Record.{nameEnds, recordRules, recordOf, recordCrcMatches, recordGood, emptyRecord, isEmpty, empty, good, bad, judgeRecord, shownRecord}
+use Rattle.volume_table.specs.Record.{nameEnds, recordRules, recordOf, recordCrcMatches, recordGood, emptyRecord}
+use Rattle.volume_table.specs.Record.{isEmpty, empty, good, bad, judgeRecord, shownRecord}
 use Rattle.volume_table.specs.Sums.{tallied}
 use Rattle.volume_table.specs.Table.{emptyOrGood}
 use Rattle.volume_table.specs.declared.Tally.{Tally}

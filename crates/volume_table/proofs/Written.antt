@@ -14,7 +14,8 @@ use Rattle.field.specs.Be.{beOf, toBeOn, toBe}
 use Rattle.field.proofs.Laws.{read-back-fits, each-toBe, length-toBe}
 use Rattle.crc32.specs.Crc.{crcOf}
 use Rattle.crc32.proofs.Laws.{crcOf-lt}
-use Rattle.volume_table.specs.Record.{recordOf, recordCrcMatches, recordNumbers, recordTail, recordHead, recordBytes, recordOut, RecordFits}
+use Rattle.volume_table.specs.Record.{recordOf, recordCrcMatches, recordNumbers, recordTail, recordHead}
+use Rattle.volume_table.specs.Record.{recordBytes, recordOut, RecordFits}
 use Rattle.volume_table.specs.Stores.{sizesStored, kindStored, nameStored, crcStored}
 use Rattle.volume_table.specs.declared.VolumeRecord.{VolumeRecord}
 

@@ -12,7 +12,8 @@ use Rattle.base.specs.Lists.{eqs, Bytes}
 use Rattle.field.specs.Be.{toBe}
 use Rattle.field.specs.Fields.{bytesIn, numberIn}
 use Rattle.crc32.specs.Crc.{crcOf}
-use Rattle.volume_table.specs.Fields.{recordReserved, recordAlignment, recordDataPad, recordType, recordMarker, recordNameLength, recordName, recordFlags, recordCrc}
+use Rattle.volume_table.specs.Fields.{recordReserved, recordAlignment, recordDataPad, recordType, recordMarker}
+use Rattle.volume_table.specs.Fields.{recordNameLength, recordName, recordFlags, recordCrc}
 use Rattle.volume_table.specs.declared.VolumeRecord.{VolumeRecord}
 use Rattle.volume_table.specs.declared.RecordKind.{RecordKind}
 use Rattle.volume_table.specs.declared.RecordKind.the-variants.{Empty, Good, Bad, Short}

@@ -5,7 +5,8 @@ use lib.ListN.{take}
 use Rattle.base.specs.Lists.{put}
 use Rattle.field.specs.Fields.{stored}
 use Rattle.crc32.specs.Crc.{crcOf}
-use Rattle.volume_table.specs.Fields.{recordReserved, recordAlignment, recordDataPad, recordType, recordMarker, recordNameLength, recordName, recordFlags, recordCrc}
+use Rattle.volume_table.specs.Fields.{recordReserved, recordAlignment, recordDataPad, recordType, recordMarker}
+use Rattle.volume_table.specs.Fields.{recordNameLength, recordName, recordFlags, recordCrc}
 use Rattle.volume_table.specs.declared.VolumeRecord.{VolumeRecord}
 
 unfoldable pub sizesStored : VolumeRecord → List ℕ → List ℕ
