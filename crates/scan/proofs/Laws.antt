@@ -7,7 +7,7 @@ use native.Mathlib.Nat.{suc-add}
 use native.Mathlib.Numerals.{add-one}
 use native.Mathlib.Omega.{arith}
 use borrow.Author.Tests.{eq-eqb, ne-eqb, eqb-true, le-ltb}
-use lib.Dec.{eqb, ltb}
+use lib.Dec.{eqb}
 use lib.ListN.{length, drop, getD, set}
 use lib.Seq.{drop-cons, drop-length}
 use Rattle.base.specs.Answers.{Answer, given, refused}

@@ -4,8 +4,6 @@ use Prim.Native.Nat.{_-_}
 use Rattle.scan.proofs.Passes.{sums-none}
 use Rattle.scan.proofs.run.no_sums.Statement.{statement}
 use Rattle.scan.proofs.run.no_sums.Tie as tie
-use Rattle.scan.proofs.run.no_sums.Reads as reads
-use Rattle.scan.proofs.run.no_sums.Lts as lts
 
 returns : tie.Need-returns
 returns c = λ vs. sums-none vs _ refl refl refl refl refl refl

@@ -11,10 +11,6 @@ use Rattle.scan.proofs.Turns.{small-view}
 use Rattle.scan.proofs.Passes.{Passing, passing-none, pass-on, pass-refused, pass-whole, peb-part}
 use Rattle.scan.proofs.run.pass.Statement.{statement}
 use Rattle.scan.proofs.run.pass.Tie as tie
-use Rattle.scan.proofs.run.pass.Reads as reads
-use Rattle.scan.proofs.run.pass.Lts as lts
-use Rattle.scan.proofs.run.no_sums.Reads as no-sums-reads
-use Rattle.scan.proofs.run.pass_peb.Reads as pass-peb-reads
 
 abbrev Inv-loop : tie.InvT-loop
 Inv-loop image g n pebs₀ map₀ size s₀ i₀ pebs map s i =
@@ -22,12 +18,6 @@ Inv-loop image g n pebs₀ map₀ size s₀ i₀ pebs map s i =
 
 abbrev μ-loop : tie.MeasureT-loop
 μ-loop image g n pebs₀ map₀ size s₀ i₀ pebs map s i = n - i
-
-cast-size : tie.Need-cast-size Inv-loop μ-loop
-cast-size c = search needs
-
-no-sums-requires : tie.Need-no-sums-requires Inv-loop μ-loop
-no-sums-requires c κs = search needs
 
 loop-holds : tie.Need-loop-holds Inv-loop μ-loop
 loop-holds c =
@@ -46,12 +36,6 @@ mul-at c = record { fits = omega (arith, small-place c) }
 
 add-pass-peb : tie.Need-add-pass-peb Inv-loop μ-loop
 add-pass-peb c = record { fits = omega (arith, small-place c, c .before .before .before .before .before .before .before .pre .0 .peb-most) }
-
-sub-pass-peb : tie.Need-sub-pass-peb Inv-loop μ-loop
-sub-pass-peb c = search needs
-
-part-pass-peb-start : tie.Need-part-pass-peb-start Inv-loop μ-loop
-part-pass-peb-start c = search needs
 
 part-pass-peb-end : tie.Need-part-pass-peb-end Inv-loop μ-loop
 part-pass-peb-end c = omega (arith, within c)
@@ -79,12 +63,6 @@ pass-peb-requires c κs =
 cast-t22 : tie.Need-cast-t22 Inv-loop μ-loop
 cast-t22 c = omega (arith, c .before .before .before .before .before .before .before .before .before .before .before .loop-test .taken, c .before .before .before .before .before .before .before .before .before .before .before .before .before .before .before .before .before .before .pre .1 .1 .0)
 
-same-length : tie.Need-same-length Inv-loop μ-loop
-same-length c = search needs
-
-same-length-2 : tie.Need-same-length-2 Inv-loop μ-loop
-same-length-2 c = search needs
-
 returns : tie.Need-returns Inv-loop μ-loop
 returns c =
     let a = c .before .before .before .before .before .before .before .before .before .before .before .before .before .before .before .before .before .before .args in
@@ -96,9 +74,6 @@ returns c =
 
 add-i : tie.Need-add-i Inv-loop μ-loop
 add-i c = record { fits = omega (arith, c .before .before .before .before .before .before .before .before .before .before .before .loop-test .taken, c .before .before .before .before .before .before .before .before .before .before .before .before .before .before .before .before .before .before .pre .1 .1 .0) }
-
-loop-less : tie.Need-loop-less Inv-loop μ-loop
-loop-less c = search needs
 
 loop-again : tie.Need-loop-again Inv-loop μ-loop
 loop-again c =
@@ -136,21 +111,21 @@ pass-spec =
     (tie.spec
     Inv-loop
     μ-loop
-    cast-size
-    no-sums-requires
+    (λ c. search needs)
+    (λ c κs. search needs)
     loop-holds
     mul-at
     add-pass-peb
-    sub-pass-peb
-    part-pass-peb-start
+    (λ c. search needs)
+    (λ c. search needs)
     part-pass-peb-end
     pass-peb-requires
     cast-t22
-    same-length
-    same-length-2
+    (λ c. search needs)
+    (λ c. search needs)
     returns
     add-i
-    loop-less
+    (λ c. search needs)
     loop-again
     same-length-3
     same-length-4

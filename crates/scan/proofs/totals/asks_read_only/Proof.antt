@@ -1,15 +1,8 @@
 -- `scan::totals::asks_read_only` meets its contract. Assumes nothing.
 use Prim.Native.Nat.{_-_}
 use borrow.Author.Needs.{needs}
-use borrow.Author.Needs.{needs}
 use Rattle.scan.proofs.totals.asks_read_only.Statement.{statement}
 use Rattle.scan.proofs.totals.asks_read_only.Tie as tie
-use Rattle.scan.proofs.totals.asks_read_only.Reads as reads
-use Rattle.scan.proofs.totals.asks_read_only.Lts as lts
-use Rattle.scan.proofs.totals.is_mappable.Reads as is-mappable-reads
-
-is-mappable-requires : tie.Need-is-mappable-requires
-is-mappable-requires c κs = search needs
 
 returns : tie.Need-returns
 returns c = rw (← (c .before .is-mappable .ensures), c .if1 .taken)
@@ -18,4 +11,4 @@ returns-2 : tie.Need-returns-2
 returns-2 c = rw (← (c .before .before .is-mappable .ensures), c .before .if1 .left)
 
 pub asks-read-only-spec : {M : Type 1} → statement M
-asks-read-only-spec = tie.close (tie.spec is-mappable-requires returns returns-2)
+asks-read-only-spec = tie.close (tie.spec (λ c κs. search needs) returns returns-2)

@@ -3,8 +3,6 @@ use Prim.Native.Nat.{_-_}
 use borrow.Author.Tests.{eq-eqb, ne-eqb, not-true, not-false}
 use Rattle.scan.proofs.totals.good_ec_refusal.Statement.{statement}
 use Rattle.scan.proofs.totals.good_ec_refusal.Tie as tie
-use Rattle.scan.proofs.totals.good_ec_refusal.Reads as reads
-use Rattle.scan.proofs.totals.good_ec_refusal.Lts as lts
 
 returns : tie.Need-returns
 returns c = rw (ne-eqb _ _ (c .if1 .taken))

@@ -3,18 +3,11 @@ use Prim.Native.Nat.{_-_}
 use borrow.Author.Needs.{needs}
 use mathlib.Core.Bool.{or-false}
 use native.Mathlib.Nat.{max-zero}
-use borrow.Author.Needs.{needs}
 use Rattle.scan.proofs.totals.with_idle.Statement.{statement}
 use Rattle.scan.proofs.totals.with_idle.Tie as tie
-use Rattle.scan.proofs.totals.with_idle.Reads as reads
-use Rattle.scan.proofs.totals.with_idle.Lts as lts
-use Rattle.scan.proofs.totals.both.Reads as both-reads
-
-both-requires : tie.Need-both-requires
-both-requires c κs = search needs
 
 returns : tie.Need-returns
 returns c = rw (c .both .ensures, max-zero, or-false)
 
 pub with-idle-spec : {M : Type 1} → statement M
-with-idle-spec = tie.close (tie.spec both-requires returns)
+with-idle-spec = tie.close (tie.spec (λ c κs. search needs) returns)

@@ -3,8 +3,6 @@ use Prim.Native.Nat.{_-_}
 use borrow.Author.Tests.{eq-eqb, ne-eqb}
 use Rattle.scan.proofs.words.is_idle.Statement.{statement}
 use Rattle.scan.proofs.words.is_idle.Tie as tie
-use Rattle.scan.proofs.words.is_idle.Reads as reads
-use Rattle.scan.proofs.words.is_idle.Lts as lts
 
 returns : tie.Need-returns
 returns c = rw (eq-eqb _ _ (c .if1 .taken))
