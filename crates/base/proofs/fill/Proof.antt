@@ -1,6 +1,6 @@
 -- `base::fill` meets its contract: after i turns the first i bytes are set. Assumes nothing.
 use mathlib.Core.Path.{_≡_}
-use Prim.Native.Nat.{_≤_, _-_, _+_}
+use Prim.Native.Nat.{_≤_, _-_}
 use native.Mathlib.Omega.{arith}
 use borrow.Author.Needs.{needs}
 use mathlib.Core.List.{_++_}
@@ -8,8 +8,6 @@ use borrow.Author.Fill.{fill-more}
 use lib.ListN.{length, length-set, drop, replicate}
 use Rattle.base.proofs.fill.Statement.{statement}
 use Rattle.base.proofs.fill.Tie as tie
-use Rattle.base.proofs.fill.Reads as reads
-use Rattle.base.proofs.fill.Lts as lts
 
 abbrev Inv-loop : tie.InvT-loop
 Inv-loop out₀ n value i₀ out i = (i ≤ n) × ((length out ≡ length out₀) × (out ≡ replicate i value ++ drop i out₀))

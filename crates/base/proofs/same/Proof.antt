@@ -8,8 +8,6 @@ use Rattle.base.specs.Lists.{eqs}
 use Rattle.base.proofs.Lists.{eqs-lengths, eqs-go, eqs-stop, eqs-end}
 use Rattle.base.proofs.same.Statement.{statement}
 use Rattle.base.proofs.same.Tie as tie
-use Rattle.base.proofs.same.Reads as reads
-use Rattle.base.proofs.same.Lts as lts
 
 abbrev Inv-loop : tie.InvT-loop
 Inv-loop a b i₀ i = (length a ≡ length b) × ((i ≤ length a) × (eqs (drop i a) (drop i b) ≡ eqs a b))

@@ -9,8 +9,6 @@ use lib.Seq.{paste, paste-zero, paste-suc}
 use Rattle.base.proofs.Lists.{paste-all}
 use Rattle.base.proofs.store.Statement.{statement}
 use Rattle.base.proofs.store.Tie as tie
-use Rattle.base.proofs.store.Reads as reads
-use Rattle.base.proofs.store.Lts as lts
 
 abbrev Inv-loop : tie.InvT-loop
 Inv-loop out₀ at bytes i₀ out i = (i ≤ length bytes) × ((length out ≡ length out₀) × (out ≡ paste out₀ at bytes i))

@@ -8,8 +8,6 @@ use Rattle.field.specs.Be.{beFrom, beOf}
 use Rattle.field.proofs.Laws.{beOf-next, grows, below-eight}
 use Rattle.field.proofs.read.Statement.{statement}
 use Rattle.field.proofs.read.Tie as tie
-use Rattle.field.proofs.read.Reads as reads
-use Rattle.field.proofs.read.Lts as lts
 
 abbrev Inv-loop : tie.InvT-loop
 Inv-loop s at width v₀ i₀ v i = (i ≤ width) × ((v < 256 ^ i) × (v ≡ beOf (part at i s)))

@@ -1,13 +1,11 @@
 -- `field::write` meets its contract: what is left to store, at the slice as it is, is what was to be stored at first. Assumes nothing.
 use mathlib.Core.Path.{_≡_, refl, _∙_, sym}
-use Prim.Native.Nat.{_≤_, _-_}
+use Prim.Native.Nat.{_≤_}
 use native.Mathlib.Omega.{arith}
 use lib.ListN.{length, length-set}
 use Rattle.field.proofs.Laws.{leftTo, store-step, store-all, store-none}
 use Rattle.field.proofs.write.Statement.{statement}
 use Rattle.field.proofs.write.Tie as tie
-use Rattle.field.proofs.write.Reads as reads
-use Rattle.field.proofs.write.Lts as lts
 
 abbrev Inv-loop : tie.InvT-loop
 Inv-loop s₀ at width value v₀ i₀ s v i = (i ≤ width) × ((length s ≡ length s₀) × (leftTo at i v s ≡ leftTo at width value s₀))

@@ -1,19 +1,14 @@
 -- `geometry::rules::check_geometry` meets its contract: one broken rule refuses, else the geometry is the one of the rules. Assumes nothing.
 use mathlib.Core.Path.{_≡_, sym, _∙_}
-use Prim.Native.Nat.{_<_, _-_}
+use Prim.Native.Nat.{_<_}
 use native.Mathlib.Omega.{arith}
 use borrow.Author.Needs.{needs}
 use mathlib.Core.Bool.{true}
 use borrow.Author.Tests.{not-true, not-false, lt-leb, ne-eqb}
 use Rattle.geometry.specs.Geometry.{goodUnit, geometryRules}
 use Rattle.geometry.proofs.Laws.{unit-range, outside, inside, too-short}
-use borrow.Author.Needs.{needs}
 use Rattle.geometry.proofs.rules.check_geometry.Statement.{statement}
 use Rattle.geometry.proofs.rules.check_geometry.Tie as tie
-use Rattle.geometry.proofs.rules.check_geometry.Reads as reads
-use Rattle.geometry.proofs.rules.check_geometry.Lts as lts
-use Rattle.geometry.proofs.rules.is_unit.Reads as is-unit-reads
-use Rattle.geometry.proofs.rules.round_up.Reads as round-up-reads
 
 -- both units, past their tests
 unit-good : (c : tie.Else2) → goodUnit (c .before .before .before .before .args .unit) ≡ true

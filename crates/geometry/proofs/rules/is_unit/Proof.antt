@@ -1,6 +1,6 @@
 -- `geometry::rules::is_unit` meets its contract: no power of two below the k-th is n. Assumes nothing.
 use mathlib.Core.Path.{_≡_, sym}
-use Prim.Native.Nat.{ℕ, _≤_, _<_, _-_, _+_, _*_, _^_}
+use Prim.Native.Nat.{ℕ, _≤_, _-_, _+_, _*_, _^_}
 use native.Mathlib.Omega.{arith}
 use borrow.Author.Needs.{needs}
 use native.Mathlib.Nat.{pow-suc, pow-le-pow-right}
@@ -12,8 +12,6 @@ use Rattle.geometry.specs.Geometry.{goodUnit}
 use Rattle.geometry.proofs.Laws.{power-more, power-found}
 use Rattle.geometry.proofs.rules.is_unit.Statement.{statement}
 use Rattle.geometry.proofs.rules.is_unit.Tie as tie
-use Rattle.geometry.proofs.rules.is_unit.Reads as reads
-use Rattle.geometry.proofs.rules.is_unit.Lts as lts
 
 abbrev Inv-loop : tie.InvT-loop
 Inv-loop n power₀ k₀ power k = (k ≤ 13) × ((power ≡ 2 ^ k) × (anyBelow k (λ (j : ℕ). eqb n (2 ^ j)) ≡ false))

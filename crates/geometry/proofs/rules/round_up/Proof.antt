@@ -1,15 +1,11 @@
 -- `geometry::rules::round_up` meets its contract. Assumes nothing.
 use mathlib.Core.Path.{refl}
-use Prim.Native.Nat.{_-_}
 use native.Mathlib.Omega.{arith}
 use borrow.Author.Needs.{needs}
 use Rattle.geometry.specs.Geometry.{roundUp}
 use Rattle.geometry.proofs.Laws.{round-below}
-use borrow.Author.Needs.{needs}
 use Rattle.geometry.proofs.rules.round_up.Statement.{statement}
 use Rattle.geometry.proofs.rules.round_up.Tie as tie
-use Rattle.geometry.proofs.rules.round_up.Reads as reads
-use Rattle.geometry.proofs.rules.round_up.Lts as lts
 
 sub-result : tie.Need-sub-result
 sub-result c = search needs

@@ -1,6 +1,5 @@
 -- `geometry::slip::read_slip` meets its contract. Assumes nothing.
 use mathlib.Core.Path.{_≡_, sym, _∙_}
-use Prim.Native.Nat.{_-_}
 use native.Mathlib.Omega.{arith}
 use borrow.Author.Needs.{needs}
 use mathlib.Core.Bool.{true}
@@ -8,14 +7,8 @@ use lib.ListN.{length}
 use borrow.Author.Tests.{not-true, not-false}
 use Rattle.geometry.specs.Slip.{valueAt, wellFormed, slipGeometry}
 use Rattle.geometry.proofs.Laws.{slip-length}
-use borrow.Author.Needs.{needs}
 use Rattle.geometry.proofs.slip.read_slip.Statement.{statement}
 use Rattle.geometry.proofs.slip.read_slip.Tie as tie
-use Rattle.geometry.proofs.slip.read_slip.Reads as reads
-use Rattle.geometry.proofs.slip.read_slip.Lts as lts
-use Rattle.field.proofs.read.Reads as read-reads
-use Rattle.geometry.proofs.rules.check_geometry.Reads as check-geometry-reads
-use Rattle.geometry.proofs.slip.well_formed.Reads as well-formed-reads
 
 well-formed-requires : tie.Need-well-formed-requires
 well-formed-requires c κs = search needs

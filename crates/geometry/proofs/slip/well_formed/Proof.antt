@@ -1,17 +1,12 @@
 -- `geometry::slip::well_formed` meets its contract: one field that is not the next one of a slip is enough. Assumes nothing.
 use mathlib.Core.Path.{sym, _∙_}
-use Prim.Native.Nat.{_-_}
 use borrow.Author.Needs.{needs}
 use borrow.Author.Tests.{not-true, not-false, ne-eqb}
 use Rattle.field.specs.Be.{toBeOn}
 use Rattle.geometry.specs.Slip.{hasField, slipRules}
 use Rattle.geometry.proofs.Laws.{malformed, last-field}
-use borrow.Author.Needs.{needs}
 use Rattle.geometry.proofs.slip.well_formed.Statement.{statement}
 use Rattle.geometry.proofs.slip.well_formed.Tie as tie
-use Rattle.geometry.proofs.slip.well_formed.Reads as reads
-use Rattle.geometry.proofs.slip.well_formed.Lts as lts
-use Rattle.base.proofs.same.Reads as same-reads
 
 returns : tie.Need-returns
 unfolding slipRules

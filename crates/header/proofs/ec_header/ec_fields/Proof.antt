@@ -1,15 +1,10 @@
 -- `header::ec_header::ec_fields` meets its contract. Assumes nothing.
-use Prim.Native.Nat.{_-_}
 use native.Mathlib.Omega.{arith}
 use borrow.Author.Needs.{needs}
 use Rattle.header.specs.Fields.{fieldOf}
 use Rattle.header.specs.Ec.{ecFields}
-use borrow.Author.Needs.{needs}
 use Rattle.header.proofs.ec_header.ec_fields.Statement.{statement}
 use Rattle.header.proofs.ec_header.ec_fields.Tie as tie
-use Rattle.header.proofs.ec_header.ec_fields.Reads as reads
-use Rattle.header.proofs.ec_header.ec_fields.Lts as lts
-use Rattle.header.proofs.fields.get.Reads as get-reads
 
 get-requires : tie.Need-get-requires
 get-requires c κs = search needs

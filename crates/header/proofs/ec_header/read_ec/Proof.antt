@@ -1,17 +1,10 @@
 -- `header::ec_header::read_ec` meets its contract. Assumes nothing.
 use mathlib.Core.Path.{_∙_}
-use Prim.Native.Nat.{_-_}
 use borrow.Author.Needs.{needs}
 use borrow.Author.Tests.{lt-ltb, le-ltb, not-true, not-false}
 use Rattle.header.specs.Ec.{readEc, ecRead}
-use borrow.Author.Needs.{needs}
 use Rattle.header.proofs.ec_header.read_ec.Statement.{statement}
 use Rattle.header.proofs.ec_header.read_ec.Tie as tie
-use Rattle.header.proofs.ec_header.read_ec.Reads as reads
-use Rattle.header.proofs.ec_header.read_ec.Lts as lts
-use Rattle.header.proofs.ec_header.ec_fields.Reads as ec-fields-reads
-use Rattle.header.proofs.ec_header.judge_ec.Reads as judge-ec-reads
-use Rattle.header.proofs.fields.is_header.Reads as is-header-reads
 
 returns : tie.Need-returns
 unfolding ecRead

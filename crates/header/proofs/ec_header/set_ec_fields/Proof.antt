@@ -1,13 +1,8 @@
 -- `header::ec_header::set_ec_fields` meets its contract. Assumes nothing.
-use Prim.Native.Nat.{_-_}
 use borrow.Author.Needs.{needs}
 use Rattle.header.specs.Stores.{ecStored}
-use borrow.Author.Needs.{needs}
 use Rattle.header.proofs.ec_header.set_ec_fields.Statement.{statement}
 use Rattle.header.proofs.ec_header.set_ec_fields.Tie as tie
-use Rattle.header.proofs.ec_header.set_ec_fields.Reads as reads
-use Rattle.header.proofs.ec_header.set_ec_fields.Lts as lts
-use Rattle.header.proofs.fields.set.Reads as set-reads
 
 cast-set : tie.Need-cast-set
 cast-set c = search needs

@@ -1,21 +1,14 @@
 -- `header::ec_header::write_ec` meets its contract. Assumes nothing.
 use mathlib.Core.Path.{sym, _∙_}
-use Prim.Native.Nat.{_≤_, _-_}
+use Prim.Native.Nat.{_≤_}
 use native.Mathlib.Omega.{arith}
 use borrow.Author.Needs.{needs}
 use lib.ListN.{length}
 use borrow.Author.Tests.{lt-ltb, le-ltb, not-true, not-false}
 use Rattle.header.specs.Ec.{ecWritten, ecOut}
 use Rattle.header.proofs.Writes.{ec-wrote}
-use borrow.Author.Needs.{needs}
 use Rattle.header.proofs.ec_header.write_ec.Statement.{statement}
 use Rattle.header.proofs.ec_header.write_ec.Tie as tie
-use Rattle.header.proofs.ec_header.write_ec.Reads as reads
-use Rattle.header.proofs.ec_header.write_ec.Lts as lts
-use Rattle.header.proofs.ec_header.ec_readable.Reads as ec-readable-reads
-use Rattle.header.proofs.ec_header.set_ec_fields.Reads as set-ec-fields-reads
-use Rattle.header.proofs.fields.begin.Reads as begin-reads
-use Rattle.header.proofs.fields.finish.Reads as finish-reads
 
 returns : tie.Need-returns
 unfolding ecWritten ecOut

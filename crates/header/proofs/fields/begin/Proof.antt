@@ -1,14 +1,8 @@
 -- `header::fields::begin` meets its contract. Assumes nothing.
-use Prim.Native.Nat.{_-_}
 use borrow.Author.Needs.{needs}
 use Rattle.header.specs.Stores.{blankHeader}
-use borrow.Author.Needs.{needs}
 use Rattle.header.proofs.fields.begin.Statement.{statement}
 use Rattle.header.proofs.fields.begin.Tie as tie
-use Rattle.header.proofs.fields.begin.Reads as reads
-use Rattle.header.proofs.fields.begin.Lts as lts
-use Rattle.base.proofs.fill.Reads as fill-reads
-use Rattle.base.proofs.store.Reads as store-reads
 
 fill-requires : tie.Need-fill-requires
 fill-requires c κs = search needs

@@ -1,14 +1,10 @@
 -- `header::fields::field_of` meets its contract: the constant is the table, and every field fits. Assumes nothing.
 use mathlib.Core.Path.{refl}
-use Prim.Native.Nat.{_-_}
 use borrow.Author.Needs.{needs}
 use Rattle.header.specs.Fields.{fieldOf}
 use Rattle.header.proofs.Laws.{fits}
-use borrow.Author.Needs.{needs}
 use Rattle.header.proofs.fields.field_of.Statement.{statement}
 use Rattle.header.proofs.fields.field_of.Tie as tie
-use Rattle.header.proofs.fields.field_of.Reads as reads
-use Rattle.header.proofs.fields.field_of.Lts as lts
 
 mul-result : tie.Need-mul-result
 mul-result c = search needs

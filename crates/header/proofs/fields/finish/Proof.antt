@@ -1,14 +1,8 @@
 -- `header::fields::finish` meets its contract. Assumes nothing.
-use Prim.Native.Nat.{_-_}
 use borrow.Author.Needs.{needs}
 use Rattle.header.specs.Stores.{withSum}
-use borrow.Author.Needs.{needs}
 use Rattle.header.proofs.fields.finish.Statement.{statement}
 use Rattle.header.proofs.fields.finish.Tie as tie
-use Rattle.header.proofs.fields.finish.Reads as reads
-use Rattle.header.proofs.fields.finish.Lts as lts
-use Rattle.crc32.proofs.crc32.Reads as crc32-reads
-use Rattle.header.proofs.fields.set.Reads as set-reads
 
 sub-crc32 : tie.Need-sub-crc32
 sub-crc32 c = search needs

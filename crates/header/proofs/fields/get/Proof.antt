@@ -1,14 +1,8 @@
 -- `header::fields::get` meets its contract. Assumes nothing.
-use Prim.Native.Nat.{_-_}
 use borrow.Author.Needs.{needs}
 use Rattle.header.specs.Fields.{fieldAt}
-use borrow.Author.Needs.{needs}
 use Rattle.header.proofs.fields.get.Statement.{statement}
 use Rattle.header.proofs.fields.get.Tie as tie
-use Rattle.header.proofs.fields.get.Reads as reads
-use Rattle.header.proofs.fields.get.Lts as lts
-use Rattle.field.proofs.read.Reads as read-reads
-use Rattle.header.proofs.fields.field_of.Reads as field-of-reads
 
 field-of-requires : tie.Need-field-of-requires
 field-of-requires c κs = search needs

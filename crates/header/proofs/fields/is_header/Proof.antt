@@ -1,16 +1,9 @@
 -- `header::fields::is_header` meets its contract. Assumes nothing.
-use Prim.Native.Nat.{_-_}
 use borrow.Author.Needs.{needs}
 use borrow.Author.Tests.{not-true, not-false}
 use Rattle.header.specs.Fields.{crcMatches}
-use borrow.Author.Needs.{needs}
 use Rattle.header.proofs.fields.is_header.Statement.{statement}
 use Rattle.header.proofs.fields.is_header.Tie as tie
-use Rattle.header.proofs.fields.is_header.Reads as reads
-use Rattle.header.proofs.fields.is_header.Lts as lts
-use Rattle.base.proofs.same.Reads as same-reads
-use Rattle.crc32.proofs.crc32.Reads as crc32-reads
-use Rattle.header.proofs.fields.get.Reads as get-reads
 
 sub-same : tie.Need-sub-same
 sub-same c = search needs

@@ -1,14 +1,8 @@
 -- `header::fields::set` meets its contract. Assumes nothing.
-use Prim.Native.Nat.{_-_}
 use borrow.Author.Needs.{needs}
 use Rattle.header.specs.Stores.{stored}
-use borrow.Author.Needs.{needs}
 use Rattle.header.proofs.fields.set.Statement.{statement}
 use Rattle.header.proofs.fields.set.Tie as tie
-use Rattle.header.proofs.fields.set.Reads as reads
-use Rattle.header.proofs.fields.set.Lts as lts
-use Rattle.field.proofs.write.Reads as write-reads
-use Rattle.header.proofs.fields.field_of.Reads as field-of-reads
 
 field-of-requires : tie.Need-field-of-requires
 field-of-requires c κs = search needs

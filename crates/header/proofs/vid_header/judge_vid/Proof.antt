@@ -1,15 +1,10 @@
 -- `header::vid_header::judge_vid` meets its contract. Assumes nothing.
-use Prim.Native.Nat.{_-_}
 use borrow.Author.Needs.{needs}
 use borrow.Author.Tests.{not-true, not-false}
 use Rattle.header.specs.Vid.{judgeVid}
 use Rattle.header.proofs.Laws.{version-zero, version-newer, version-one}
-use borrow.Author.Needs.{needs}
 use Rattle.header.proofs.vid_header.judge_vid.Statement.{statement}
 use Rattle.header.proofs.vid_header.judge_vid.Tie as tie
-use Rattle.header.proofs.vid_header.judge_vid.Reads as reads
-use Rattle.header.proofs.vid_header.judge_vid.Lts as lts
-use Rattle.header.proofs.vid_rules.rules_hold.Reads as rules-hold-reads
 
 returns : tie.Need-returns
 unfolding judgeVid

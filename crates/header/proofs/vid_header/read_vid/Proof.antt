@@ -1,17 +1,10 @@
 -- `header::vid_header::read_vid` meets its contract. Assumes nothing.
 use mathlib.Core.Path.{_∙_}
-use Prim.Native.Nat.{_-_}
 use borrow.Author.Needs.{needs}
 use borrow.Author.Tests.{lt-ltb, le-ltb, not-true, not-false}
 use Rattle.header.specs.Vid.{readVid, vidRead}
-use borrow.Author.Needs.{needs}
 use Rattle.header.proofs.vid_header.read_vid.Statement.{statement}
 use Rattle.header.proofs.vid_header.read_vid.Tie as tie
-use Rattle.header.proofs.vid_header.read_vid.Reads as reads
-use Rattle.header.proofs.vid_header.read_vid.Lts as lts
-use Rattle.header.proofs.fields.is_header.Reads as is-header-reads
-use Rattle.header.proofs.vid_header.judge_vid.Reads as judge-vid-reads
-use Rattle.header.proofs.vid_header.vid_fields.Reads as vid-fields-reads
 
 returns : tie.Need-returns
 unfolding vidRead

@@ -1,13 +1,8 @@
 -- `header::vid_header::set_data` meets its contract. Assumes nothing.
-use Prim.Native.Nat.{_-_}
 use borrow.Author.Needs.{needs}
 use Rattle.header.specs.Stores.{dataStored}
-use borrow.Author.Needs.{needs}
 use Rattle.header.proofs.vid_header.set_data.Statement.{statement}
 use Rattle.header.proofs.vid_header.set_data.Tie as tie
-use Rattle.header.proofs.vid_header.set_data.Reads as reads
-use Rattle.header.proofs.vid_header.set_data.Lts as lts
-use Rattle.header.proofs.fields.set.Reads as set-reads
 
 cast-set : tie.Need-cast-set
 cast-set c = search needs

@@ -1,13 +1,8 @@
 -- `header::vid_header::set_kind` meets its contract. Assumes nothing.
-use Prim.Native.Nat.{_-_}
 use borrow.Author.Needs.{needs}
 use Rattle.header.specs.Stores.{kindStored}
-use borrow.Author.Needs.{needs}
 use Rattle.header.proofs.vid_header.set_kind.Statement.{statement}
 use Rattle.header.proofs.vid_header.set_kind.Tie as tie
-use Rattle.header.proofs.vid_header.set_kind.Reads as reads
-use Rattle.header.proofs.vid_header.set_kind.Lts as lts
-use Rattle.header.proofs.fields.set.Reads as set-reads
 
 cast-set : tie.Need-cast-set
 cast-set c = search needs

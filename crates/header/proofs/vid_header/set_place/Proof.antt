@@ -1,13 +1,8 @@
 -- `header::vid_header::set_place` meets its contract. Assumes nothing.
-use Prim.Native.Nat.{_-_}
 use borrow.Author.Needs.{needs}
 use Rattle.header.specs.Stores.{placeStored}
-use borrow.Author.Needs.{needs}
 use Rattle.header.proofs.vid_header.set_place.Statement.{statement}
 use Rattle.header.proofs.vid_header.set_place.Tie as tie
-use Rattle.header.proofs.vid_header.set_place.Reads as reads
-use Rattle.header.proofs.vid_header.set_place.Lts as lts
-use Rattle.header.proofs.fields.set.Reads as set-reads
 
 cast-set : tie.Need-cast-set
 cast-set c = search needs

@@ -4,9 +4,6 @@ use borrow.Author.Needs.{needs}
 use Rattle.header.proofs.Laws.{vid-field-at}
 use Rattle.header.proofs.vid_header.vid_field.Statement.{statement}
 use Rattle.header.proofs.vid_header.vid_field.Tie as tie
-use Rattle.header.proofs.vid_header.vid_field.Reads as reads
-use Rattle.header.proofs.vid_header.vid_field.Lts as lts
-use Rattle.header.proofs.fields.get.Reads as get-reads
 
 get-requires : tie.Need-get-requires
 get-requires c κs = search needs

@@ -1,15 +1,10 @@
 -- `header::vid_header::vid_fields` meets its contract. Assumes nothing.
-use Prim.Native.Nat.{_-_}
 use native.Mathlib.Omega.{arith}
 use borrow.Author.Needs.{needs}
 use Rattle.header.specs.Fields.{fieldOf}
 use Rattle.header.specs.Vid.{vidFields}
-use borrow.Author.Needs.{needs}
 use Rattle.header.proofs.vid_header.vid_fields.Statement.{statement}
 use Rattle.header.proofs.vid_header.vid_fields.Tie as tie
-use Rattle.header.proofs.vid_header.vid_fields.Reads as reads
-use Rattle.header.proofs.vid_header.vid_fields.Lts as lts
-use Rattle.header.proofs.fields.get.Reads as get-reads
 
 get-requires : tie.Need-get-requires
 get-requires c κs = search needs

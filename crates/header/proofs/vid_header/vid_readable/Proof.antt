@@ -1,15 +1,10 @@
 -- `header::vid_header::vid_readable` meets its contract. Assumes nothing.
 use mathlib.Core.Path.{sym, _∙_}
-use Prim.Native.Nat.{_-_}
 use borrow.Author.Needs.{needs}
 use Rattle.header.specs.Vid.{judgeVid}
 use Rattle.header.proofs.Laws.{not-version-one, version-one, good-if}
-use borrow.Author.Needs.{needs}
 use Rattle.header.proofs.vid_header.vid_readable.Statement.{statement}
 use Rattle.header.proofs.vid_header.vid_readable.Tie as tie
-use Rattle.header.proofs.vid_header.vid_readable.Reads as reads
-use Rattle.header.proofs.vid_header.vid_readable.Lts as lts
-use Rattle.header.proofs.vid_rules.rules_hold.Reads as rules-hold-reads
 
 returns : tie.Need-returns
 unfolding judgeVid

@@ -1,23 +1,14 @@
 -- `header::vid_header::write_vid` meets its contract. Assumes nothing.
 use mathlib.Core.Path.{sym, _∙_}
-use Prim.Native.Nat.{_≤_, _-_}
+use Prim.Native.Nat.{_≤_}
 use native.Mathlib.Omega.{arith}
 use borrow.Author.Needs.{needs}
 use lib.ListN.{length}
 use borrow.Author.Tests.{lt-ltb, le-ltb, not-true, not-false}
 use Rattle.header.specs.Vid.{vidWritten, vidOut}
 use Rattle.header.proofs.Writes.{vid-wrote}
-use borrow.Author.Needs.{needs}
 use Rattle.header.proofs.vid_header.write_vid.Statement.{statement}
 use Rattle.header.proofs.vid_header.write_vid.Tie as tie
-use Rattle.header.proofs.vid_header.write_vid.Reads as reads
-use Rattle.header.proofs.vid_header.write_vid.Lts as lts
-use Rattle.header.proofs.fields.begin.Reads as begin-reads
-use Rattle.header.proofs.fields.finish.Reads as finish-reads
-use Rattle.header.proofs.vid_header.set_data.Reads as set-data-reads
-use Rattle.header.proofs.vid_header.set_kind.Reads as set-kind-reads
-use Rattle.header.proofs.vid_header.set_place.Reads as set-place-reads
-use Rattle.header.proofs.vid_header.vid_readable.Reads as vid-readable-reads
 
 returns : tie.Need-returns
 unfolding vidWritten vidOut

@@ -1,21 +1,12 @@
 -- `header::vid_rules::rules_hold` meets its contract: one broken rule is enough, and past all others the last decides. Assumes nothing.
 use mathlib.Core.Path.{sym, _∙_}
-use Prim.Native.Nat.{_-_}
 use borrow.Author.Needs.{needs}
 use borrow.Author.Tests.{lt-ltb, le-ltb, le-leb, lt-leb, not-true, not-false}
 use mathlib.Core.Bool.{and-true}
 use Rattle.base.proofs.Answers.{one-broken}
 use Rattle.header.specs.Vid.{layoutRule, vidRules}
-use borrow.Author.Needs.{needs}
 use Rattle.header.proofs.vid_rules.rules_hold.Statement.{statement}
 use Rattle.header.proofs.vid_rules.rules_hold.Tie as tie
-use Rattle.header.proofs.vid_rules.rules_hold.Reads as reads
-use Rattle.header.proofs.vid_rules.rules_hold.Lts as lts
-use Rattle.header.proofs.vid_rules.dynamic_rule.Reads as dynamic-rule-reads
-use Rattle.header.proofs.vid_rules.is_type.Reads as is-type-reads
-use Rattle.header.proofs.vid_rules.layout_rule.Reads as layout-rule-reads
-use Rattle.header.proofs.vid_rules.static_rule.Reads as static-rule-reads
-use Rattle.header.proofs.vid_rules.volume_rule.Reads as volume-rule-reads
 
 returns : tie.Need-returns
 unfolding vidRules

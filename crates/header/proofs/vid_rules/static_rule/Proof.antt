@@ -1,14 +1,11 @@
 -- `header::vid_rules::static_rule` meets its contract. Assumes nothing.
-use Prim.Native.Nat.{_<_, _-_}
+use Prim.Native.Nat.{_<_}
 use native.Mathlib.Omega.{arith}
 use borrow.Author.Needs.{needs}
 use borrow.Author.Tests.{lt-ltb, le-ltb, eq-eqb, ne-eqb}
 use Rattle.header.specs.Vid.{staticRule}
-use borrow.Author.Needs.{needs}
 use Rattle.header.proofs.vid_rules.static_rule.Statement.{statement}
 use Rattle.header.proofs.vid_rules.static_rule.Tie as tie
-use Rattle.header.proofs.vid_rules.static_rule.Reads as reads
-use Rattle.header.proofs.vid_rules.static_rule.Lts as lts
 
 returns : tie.Need-returns
 unfolding staticRule

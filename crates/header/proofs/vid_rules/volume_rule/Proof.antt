@@ -1,18 +1,14 @@
 -- `header::vid_rules::volume_rule` meets its contract. Assumes nothing.
 use mathlib.Core.Path.{sym, _∙_}
-use Prim.Native.Nat.{_<_, _-_}
+use Prim.Native.Nat.{_<_}
 use native.Mathlib.Omega.{arith}
 use borrow.Author.Needs.{needs}
 use borrow.Author.Tests.{lt-ltb, le-ltb, le-leb, lt-leb}
 use mathlib.Core.Bool.{or-false}
 use lib.Dec.{eqb}
 use Rattle.header.specs.Vid.{volumeRule}
-use borrow.Author.Needs.{needs}
 use Rattle.header.proofs.vid_rules.volume_rule.Statement.{statement}
 use Rattle.header.proofs.vid_rules.volume_rule.Tie as tie
-use Rattle.header.proofs.vid_rules.volume_rule.Reads as reads
-use Rattle.header.proofs.vid_rules.volume_rule.Lts as lts
-use Rattle.header.proofs.vid_rules.is_internal.Reads as is-internal-reads
 
 returns : tie.Need-returns
 unfolding volumeRule

@@ -3,9 +3,6 @@ use native.Mathlib.Nat.{add-sub-cancel-left}
 use borrow.Author.Needs.{needs}
 use Rattle.volume_table.proofs.fields.field_bytes.Statement.{statement}
 use Rattle.volume_table.proofs.fields.field_bytes.Tie as tie
-use Rattle.volume_table.proofs.fields.field_bytes.Reads as reads
-use Rattle.volume_table.proofs.fields.field_bytes.Lts as lts
-use Rattle.volume_table.proofs.fields.field_of.Reads as field-of-reads
 
 field-of-requires : tie.Need-field-of-requires
 field-of-requires c κs = search needs

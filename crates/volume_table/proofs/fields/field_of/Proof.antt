@@ -4,8 +4,6 @@ use borrow.Author.Needs.{needs}
 use Rattle.volume_table.proofs.Records.{fits}
 use Rattle.volume_table.proofs.fields.field_of.Statement.{statement}
 use Rattle.volume_table.proofs.fields.field_of.Tie as tie
-use Rattle.volume_table.proofs.fields.field_of.Reads as reads
-use Rattle.volume_table.proofs.fields.field_of.Lts as lts
 
 mul-result : tie.Need-mul-result
 mul-result c = search needs

@@ -4,10 +4,6 @@ use borrow.Author.Needs.{needs}
 use Rattle.volume_table.proofs.Records.{fits}
 use Rattle.volume_table.proofs.fields.get_field.Statement.{statement}
 use Rattle.volume_table.proofs.fields.get_field.Tie as tie
-use Rattle.volume_table.proofs.fields.get_field.Reads as reads
-use Rattle.volume_table.proofs.fields.get_field.Lts as lts
-use Rattle.field.proofs.read.Reads as read-reads
-use Rattle.volume_table.proofs.fields.field_of.Reads as field-of-reads
 
 field-of-requires : tie.Need-field-of-requires
 field-of-requires c κs = search needs

@@ -2,10 +2,6 @@
 use borrow.Author.Needs.{needs}
 use Rattle.volume_table.proofs.fields.set_field.Statement.{statement}
 use Rattle.volume_table.proofs.fields.set_field.Tie as tie
-use Rattle.volume_table.proofs.fields.set_field.Reads as reads
-use Rattle.volume_table.proofs.fields.set_field.Lts as lts
-use Rattle.field.proofs.write.Reads as write-reads
-use Rattle.volume_table.proofs.fields.field_of.Reads as field-of-reads
 
 field-of-requires : tie.Need-field-of-requires
 field-of-requires c κs = search needs

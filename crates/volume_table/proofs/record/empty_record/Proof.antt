@@ -3,11 +3,6 @@ use borrow.Author.Needs.{needs}
 use Rattle.volume_table.proofs.Records.{zeroes-summed}
 use Rattle.volume_table.proofs.record.empty_record.Statement.{statement}
 use Rattle.volume_table.proofs.record.empty_record.Tie as tie
-use Rattle.volume_table.proofs.record.empty_record.Reads as reads
-use Rattle.volume_table.proofs.record.empty_record.Lts as lts
-use Rattle.base.proofs.store.Reads as store-reads
-use Rattle.crc32.proofs.crc32.Reads as crc32-reads
-use Rattle.volume_table.proofs.fields.set_field.Reads as set-field-reads
 
 slice-aggregate-crc32 : tie.Need-slice-aggregate-crc32
 slice-aggregate-crc32 c = search needs

@@ -5,8 +5,6 @@ use borrow.Author.Tests.{eq-eqb, ne-eqb}
 use Rattle.volume_table.proofs.Records.{not-aligned}
 use Rattle.volume_table.proofs.record.is_aligned.Statement.{statement}
 use Rattle.volume_table.proofs.record.is_aligned.Tie as tie
-use Rattle.volume_table.proofs.record.is_aligned.Reads as reads
-use Rattle.volume_table.proofs.record.is_aligned.Lts as lts
 
 returns : tie.Need-returns
 returns c = rw (eq-eqb _ _ (c .if1 .taken))

@@ -3,9 +3,6 @@ use borrow.Author.Needs.{needs}
 use Rattle.volume_table.specs.Record.{isEmpty}
 use Rattle.volume_table.proofs.record.is_empty.Statement.{statement}
 use Rattle.volume_table.proofs.record.is_empty.Tie as tie
-use Rattle.volume_table.proofs.record.is_empty.Reads as reads
-use Rattle.volume_table.proofs.record.is_empty.Lts as lts
-use Rattle.base.proofs.same.Reads as same-reads
 
 same-requires : tie.Need-same-requires
 same-requires c κs = search needs

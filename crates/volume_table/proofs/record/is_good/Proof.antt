@@ -3,11 +3,6 @@ use borrow.Author.Needs.{needs}
 use Rattle.volume_table.proofs.Records.{not-summed, rules-decide}
 use Rattle.volume_table.proofs.record.is_good.Statement.{statement}
 use Rattle.volume_table.proofs.record.is_good.Tie as tie
-use Rattle.volume_table.proofs.record.is_good.Reads as reads
-use Rattle.volume_table.proofs.record.is_good.Lts as lts
-use Rattle.crc32.proofs.crc32.Reads as crc32-reads
-use Rattle.volume_table.proofs.fields.get_field.Reads as get-field-reads
-use Rattle.volume_table.proofs.record.rules_hold.Reads as rules-hold-reads
 
 sub-crc32 : tie.Need-sub-crc32
 sub-crc32 c = search needs

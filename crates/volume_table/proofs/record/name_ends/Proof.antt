@@ -8,8 +8,6 @@ use Rattle.base.specs.Below.{allBelow}
 use Rattle.volume_table.proofs.Records.{named, name-more, name-cut, name-whole}
 use Rattle.volume_table.proofs.record.name_ends.Statement.{statement}
 use Rattle.volume_table.proofs.record.name_ends.Tie as tie
-use Rattle.volume_table.proofs.record.name_ends.Reads as reads
-use Rattle.volume_table.proofs.record.name_ends.Lts as lts
 
 abbrev Inv-loop : tie.InvT-loop
 Inv-loop n name i₀ i = (i ≤ n) × (allBelow i (named name) ≡ true)

@@ -7,10 +7,6 @@ use Rattle.base.proofs.Lists.{length-part}
 use Rattle.base.proofs.Stores.{put-all}
 use Rattle.volume_table.proofs.record.name_field.Statement.{statement}
 use Rattle.volume_table.proofs.record.name_field.Tie as tie
-use Rattle.volume_table.proofs.record.name_field.Reads as reads
-use Rattle.volume_table.proofs.record.name_field.Lts as lts
-use Rattle.base.proofs.store.Reads as store-reads
-use Rattle.volume_table.proofs.fields.field_bytes.Reads as field-bytes-reads
 
 -- the field is as long as the array
 long : (c : tie.After-field-bytes) → length (c .field-bytes .result .now) ≡ 128

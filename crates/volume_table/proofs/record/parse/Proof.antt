@@ -3,10 +3,6 @@ use borrow.Author.Needs.{needs}
 use Rattle.volume_table.specs.Record.{recordOf}
 use Rattle.volume_table.proofs.record.parse.Statement.{statement}
 use Rattle.volume_table.proofs.record.parse.Tie as tie
-use Rattle.volume_table.proofs.record.parse.Reads as reads
-use Rattle.volume_table.proofs.record.parse.Lts as lts
-use Rattle.volume_table.proofs.fields.get_field.Reads as get-field-reads
-use Rattle.volume_table.proofs.record.name_field.Reads as name-field-reads
 
 get-field-requires : tie.Need-get-field-requires
 get-field-requires c κs = search needs

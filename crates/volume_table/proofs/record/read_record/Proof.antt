@@ -3,12 +3,6 @@ use borrow.Author.Needs.{needs}
 use Rattle.volume_table.proofs.Records.{read-short, read-empty, read-good, read-bad}
 use Rattle.volume_table.proofs.record.read_record.Statement.{statement}
 use Rattle.volume_table.proofs.record.read_record.Tie as tie
-use Rattle.volume_table.proofs.record.read_record.Reads as reads
-use Rattle.volume_table.proofs.record.read_record.Lts as lts
-use Rattle.volume_table.proofs.record.is_empty.Reads as is-empty-reads
-use Rattle.volume_table.proofs.record.empty_record.Reads as empty-record-reads
-use Rattle.volume_table.proofs.record.is_good.Reads as is-good-reads
-use Rattle.volume_table.proofs.record.parse.Reads as parse-reads
 
 slice-aggregate-parse : tie.Need-slice-aggregate-parse
 slice-aggregate-parse c = search needs

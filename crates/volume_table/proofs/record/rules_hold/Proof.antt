@@ -6,11 +6,6 @@ use Rattle.volume_table.proofs.Laws.{was-false, was-true, not-above}
 use Rattle.volume_table.proofs.Records.{broken, flags-decide}
 use Rattle.volume_table.proofs.record.rules_hold.Statement.{statement}
 use Rattle.volume_table.proofs.record.rules_hold.Tie as tie
-use Rattle.volume_table.proofs.record.rules_hold.Reads as reads
-use Rattle.volume_table.proofs.record.rules_hold.Lts as lts
-use Rattle.volume_table.proofs.record.is_aligned.Reads as is-aligned-reads
-use Rattle.volume_table.proofs.record.is_type.Reads as is-type-reads
-use Rattle.volume_table.proofs.record.name_ends.Reads as name-ends-reads
 
 returns : tie.Need-returns
 unfolding recordRules

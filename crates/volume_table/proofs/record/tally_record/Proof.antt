@@ -5,11 +5,6 @@ use lib.Bits.{and-le-r}
 use Rattle.volume_table.proofs.Records.{fine-empty, fine-other, tallied-as}
 use Rattle.volume_table.proofs.record.tally_record.Statement.{statement}
 use Rattle.volume_table.proofs.record.tally_record.Tie as tie
-use Rattle.volume_table.proofs.record.tally_record.Reads as reads
-use Rattle.volume_table.proofs.record.tally_record.Lts as lts
-use Rattle.volume_table.proofs.record.is_empty.Reads as is-empty-reads
-use Rattle.volume_table.proofs.record.is_good.Reads as is-good-reads
-use Rattle.volume_table.proofs.record.parse.Reads as parse-reads
 
 parse-requires : tie.Need-parse-requires
 parse-requires c κs = search needs

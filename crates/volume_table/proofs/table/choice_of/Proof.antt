@@ -2,8 +2,6 @@
 use borrow.Author.Needs.{needs}
 use Rattle.volume_table.proofs.table.choice_of.Statement.{statement}
 use Rattle.volume_table.proofs.table.choice_of.Tie as tie
-use Rattle.volume_table.proofs.table.choice_of.Reads as reads
-use Rattle.volume_table.proofs.table.choice_of.Lts as lts
 
 returns : tie.Need-returns
 returns c = search needs

@@ -4,13 +4,6 @@ use borrow.Author.Needs.{needs}
 use Rattle.volume_table.proofs.Tables.{chosen-equal, chosen-unequal}
 use Rattle.volume_table.proofs.table.choose_table.Statement.{statement}
 use Rattle.volume_table.proofs.table.choose_table.Tie as tie
-use Rattle.volume_table.proofs.table.choose_table.Reads as reads
-use Rattle.volume_table.proofs.table.choose_table.Lts as lts
-use Rattle.base.proofs.same.Reads as same-reads
-use Rattle.volume_table.proofs.table.choice_of.Reads as choice-of-reads
-use Rattle.volume_table.proofs.table.choice_of_equal.Reads as choice-of-equal-reads
-use Rattle.volume_table.proofs.table.records_part.Reads as records-part-reads
-use Rattle.volume_table.proofs.table.table_good.Reads as table-good-reads
 
 table-good-requires : tie.Need-table-good-requires
 table-good-requires c κs = search needs

@@ -2,8 +2,6 @@
 use borrow.Author.Needs.{needs}
 use Rattle.volume_table.proofs.table.most_reserved.Statement.{statement}
 use Rattle.volume_table.proofs.table.most_reserved.Tie as tie
-use Rattle.volume_table.proofs.table.most_reserved.Reads as reads
-use Rattle.volume_table.proofs.table.most_reserved.Lts as lts
 
 returns : tie.Need-returns
 returns c = search needs

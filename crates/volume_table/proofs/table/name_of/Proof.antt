@@ -3,10 +3,6 @@ use borrow.Author.Needs.{needs}
 use Rattle.volume_table.proofs.Tables.{name-whole-field, name-front}
 use Rattle.volume_table.proofs.table.name_of.Statement.{statement}
 use Rattle.volume_table.proofs.table.name_of.Tie as tie
-use Rattle.volume_table.proofs.table.name_of.Reads as reads
-use Rattle.volume_table.proofs.table.name_of.Lts as lts
-use Rattle.volume_table.proofs.fields.field_bytes.Reads as field-bytes-reads
-use Rattle.volume_table.proofs.fields.get_field.Reads as get-field-reads
 
 field-bytes-requires : tie.Need-field-bytes-requires
 field-bytes-requires c κs = search needs

@@ -11,10 +11,6 @@ use Rattle.volume_table.proofs.Laws.{any-more, lent-length}
 use Rattle.volume_table.proofs.Tables.{empty-at, repeats, none-repeats, repeats-as}
 use Rattle.volume_table.proofs.table.name_repeats.Statement.{statement}
 use Rattle.volume_table.proofs.table.name_repeats.Tie as tie
-use Rattle.volume_table.proofs.table.name_repeats.Reads as reads
-use Rattle.volume_table.proofs.table.name_repeats.Lts as lts
-use Rattle.volume_table.proofs.record.is_empty.Reads as is-empty-reads
-use Rattle.volume_table.proofs.table.names_clash.Reads as names-clash-reads
 
 abbrev Inv-loop : tie.InvT-loop
 Inv-loop t j empty b s i₀ i = (i ≤ j) × (anyBelow i (repeats t j) ≡ false)

@@ -6,11 +6,6 @@ use Rattle.volume_table.proofs.Laws.{was-false, was-true}
 use Rattle.volume_table.proofs.Tables.{other-name, one-name}
 use Rattle.volume_table.proofs.table.names_clash.Statement.{statement}
 use Rattle.volume_table.proofs.table.names_clash.Tie as tie
-use Rattle.volume_table.proofs.table.names_clash.Reads as reads
-use Rattle.volume_table.proofs.table.names_clash.Lts as lts
-use Rattle.base.proofs.same.Reads as same-reads
-use Rattle.volume_table.proofs.record.is_empty.Reads as is-empty-reads
-use Rattle.volume_table.proofs.table.name_of.Reads as name-of-reads
 
 name-of-requires : tie.Need-name-of-requires
 name-of-requires c κs = search needs

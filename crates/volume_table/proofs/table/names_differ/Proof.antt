@@ -10,9 +10,6 @@ use Rattle.volume_table.proofs.Laws.{any-more}
 use Rattle.volume_table.proofs.Tables.{repeats}
 use Rattle.volume_table.proofs.table.names_differ.Statement.{statement}
 use Rattle.volume_table.proofs.table.names_differ.Tie as tie
-use Rattle.volume_table.proofs.table.names_differ.Reads as reads
-use Rattle.volume_table.proofs.table.names_differ.Lts as lts
-use Rattle.volume_table.proofs.table.name_repeats.Reads as name-repeats-reads
 
 abbrev Inv-loop : tie.InvT-loop
 Inv-loop t n empty j₀ j = (j ≤ n) × (anyBelow j (λ (k : ℕ). anyBelow k (repeats t k)) ≡ false)

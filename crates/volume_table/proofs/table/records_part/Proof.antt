@@ -4,9 +4,6 @@ use borrow.Author.Needs.{needs}
 use Rattle.volume_table.proofs.Tables.{count-small, part-short, part-long}
 use Rattle.volume_table.proofs.table.records_part.Statement.{statement}
 use Rattle.volume_table.proofs.table.records_part.Tie as tie
-use Rattle.volume_table.proofs.table.records_part.Reads as reads
-use Rattle.volume_table.proofs.table.records_part.Lts as lts
-use Rattle.volume_table.proofs.table.record_count.Reads as record-count-reads
 
 record-count-requires : tie.Need-record-count-requires
 record-count-requires c κs = search needs

@@ -7,14 +7,6 @@ use lib.ListN.{length}
 use Rattle.volume_table.proofs.Tables.{count-small, all-there, no-records, too-short, Summed, not-fine, too-many, too-much, names-decide}
 use Rattle.volume_table.proofs.table.table_good.Statement.{statement}
 use Rattle.volume_table.proofs.table.table_good.Tie as tie
-use Rattle.volume_table.proofs.table.table_good.Reads as reads
-use Rattle.volume_table.proofs.table.table_good.Lts as lts
-use Rattle.volume_table.proofs.record.empty_record.Reads as empty-record-reads
-use Rattle.volume_table.proofs.table.most_reserved.Reads as most-reserved-reads
-use Rattle.volume_table.proofs.table.names_differ.Reads as names-differ-reads
-use Rattle.volume_table.proofs.table.record_count.Reads as record-count-reads
-use Rattle.volume_table.proofs.table.records_part.Reads as records-part-reads
-use Rattle.volume_table.proofs.table.tally.Reads as tally-reads
 
 -- the records are all there
 whole : (c : tie.After-records-part) → 172 * c .before .before .before .record-count .result ≤ length (c .records-part .result .now)

@@ -3,9 +3,6 @@ use borrow.Author.Needs.{needs}
 use borrow.Author.Tests.{ne-eqb}
 use Rattle.volume_table.proofs.table.taken_table.Statement.{statement}
 use Rattle.volume_table.proofs.table.taken_table.Tie as tie
-use Rattle.volume_table.proofs.table.taken_table.Reads as reads
-use Rattle.volume_table.proofs.table.taken_table.Lts as lts
-use Rattle.volume_table.proofs.table.records_part.Reads as records-part-reads
 
 enum-known-taken : tie.Need-enum-known-taken
 enum-known-taken c = search needs

@@ -12,9 +12,6 @@ use Rattle.volume_table.proofs.Laws.{lent-length}
 use Rattle.volume_table.proofs.Tables.{tally-none, tally-more, tally-stop}
 use Rattle.volume_table.proofs.table.tally.Statement.{statement}
 use Rattle.volume_table.proofs.table.tally.Tie as tie
-use Rattle.volume_table.proofs.table.tally.Reads as reads
-use Rattle.volume_table.proofs.table.tally.Lts as lts
-use Rattle.volume_table.proofs.record.tally_record.Reads as tally-record-reads
 
 abbrev Inv-loop : tie.InvT-loop
 Inv-loop t n leb-size unit empty sum₀ i₀ sum i =
