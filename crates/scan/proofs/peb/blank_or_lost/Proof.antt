@@ -1,5 +1,4 @@
 -- `scan::peb::blank_or_lost` meets its contract. Assumes nothing.
-use Prim.Native.Nat.{_-_}
 use borrow.Author.Needs.{needs}
 use Rattle.scan.proofs.peb.blank_or_lost.Statement.{statement}
 use Rattle.scan.proofs.peb.blank_or_lost.Tie as tie

@@ -1,5 +1,4 @@
 -- `scan::totals::ec_refusal` meets its contract. Assumes nothing.
-use Prim.Native.Nat.{_-_}
 use borrow.Author.Needs.{needs}
 use Rattle.scan.proofs.totals.ec_refusal.Statement.{statement}
 use Rattle.scan.proofs.totals.ec_refusal.Tie as tie

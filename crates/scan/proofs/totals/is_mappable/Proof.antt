@@ -1,5 +1,4 @@
 -- `scan::totals::is_mappable` meets its contract. Assumes nothing.
-use Prim.Native.Nat.{_-_}
 use borrow.Author.Tests.{lt-ltb, le-ltb}
 use Rattle.scan.proofs.totals.is_mappable.Statement.{statement}
 use Rattle.scan.proofs.totals.is_mappable.Tie as tie

@@ -1,5 +1,4 @@
 -- `scan::totals::with_good_ec` meets its contract. Assumes nothing.
-use Prim.Native.Nat.{_-_}
 use borrow.Author.Needs.{needs}
 use Rattle.scan.proofs.totals.with_good_ec.Statement.{statement}
 use Rattle.scan.proofs.totals.with_good_ec.Tie as tie

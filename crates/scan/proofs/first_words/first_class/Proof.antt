@@ -1,9 +1,8 @@
--- `scan::words::first_class` meets its contract. Assumes nothing.
-use Prim.Native.Nat.{_-_}
+-- `scan::first_words::first_class` meets its contract. Assumes nothing.
 use borrow.Author.Needs.{needs}
 use Rattle.report.specs.View.{copyOf}
-use Rattle.scan.proofs.words.first_class.Statement.{statement}
-use Rattle.scan.proofs.words.first_class.Tie as tie
+use Rattle.scan.proofs.first_words.first_class.Statement.{statement}
+use Rattle.scan.proofs.first_words.first_class.Tie as tie
 
 returns : tie.Need-returns
 unfolding copyOf

@@ -1,8 +1,7 @@
--- `scan::words::is_idle` meets its contract. Assumes nothing.
-use Prim.Native.Nat.{_-_}
+-- `scan::first_words::is_idle` meets its contract. Assumes nothing.
 use borrow.Author.Tests.{eq-eqb, ne-eqb}
-use Rattle.scan.proofs.words.is_idle.Statement.{statement}
-use Rattle.scan.proofs.words.is_idle.Tie as tie
+use Rattle.scan.proofs.first_words.is_idle.Statement.{statement}
+use Rattle.scan.proofs.first_words.is_idle.Tie as tie
 
 returns : tie.Need-returns
 returns c = rw (eq-eqb _ _ (c .if1 .taken))
