@@ -19,20 +19,11 @@ Inv-loop n power₀ k₀ power k = (k ≤ 13) × ((power ≡ 2 ^ k) × (anyBelow
 abbrev μ-loop : tie.MeasureT-loop
 μ-loop n power₀ k₀ power k = 13 - k
 
-loop-holds : tie.Need-loop-holds Inv-loop μ-loop
-loop-holds c = search needs
-
 returns : tie.Need-returns Inv-loop μ-loop
 returns c = sym (power-found (c .before .before .before .args .n) (c .before .before .loop .k) (omega arith) (cc))
 
 mul-power : tie.Need-mul-power Inv-loop μ-loop
 mul-power c = record { fits = omega (arith, pow-le-pow-right {n = 2} (lit< tt) {i = c .before .before .loop .k} {j = 12} (omega arith)) }
-
-add-k : tie.Need-add-k Inv-loop μ-loop
-add-k c = search needs
-
-loop-less : tie.Need-loop-less Inv-loop μ-loop
-loop-less c = search needs
 
 loop-again : tie.Need-loop-again Inv-loop μ-loop
 loop-again c =
@@ -50,4 +41,4 @@ returns-2 c =
 pub is-unit-spec : {M : Type 1} → statement M
 is-unit-spec =
     tie.close
-    (tie.spec Inv-loop μ-loop loop-holds returns mul-power add-k loop-less loop-again returns-2)
+    (tie.spec Inv-loop μ-loop (λ c. search needs) returns mul-power (λ c. search needs) (λ c. search needs) loop-again returns-2)

@@ -7,15 +7,6 @@ use Rattle.geometry.proofs.Laws.{round-below}
 use Rattle.geometry.proofs.rules.round_up.Statement.{statement}
 use Rattle.geometry.proofs.rules.round_up.Tie as tie
 
-sub-result : tie.Need-sub-result
-sub-result c = search needs
-
-add-result : tie.Need-add-result
-add-result c = search needs
-
-div-result : tie.Need-div-result
-div-result c = search needs
-
 mul-result : tie.Need-mul-result
 unfolding roundUp
 mul-result c = record { fits = omega (arith, round-below (c .args .m) (c .args .x) (omega arith)) }
@@ -25,4 +16,4 @@ unfolding roundUp
 returns c = (refl, round-below (c .args .m) (c .args .x) (omega arith))
 
 pub round-up-spec : {M : Type 1} → statement M
-round-up-spec = tie.close (tie.spec sub-result add-result div-result mul-result returns)
+round-up-spec = tie.close (tie.spec (λ c. search needs) (λ c. search needs) (λ c. search needs) mul-result returns)

@@ -10,21 +10,9 @@ returns : tie.Need-returns
 unfolding ecRead
 returns c = rw (lt-ltb _ _ (c .if1 .taken))
 
-slice-aggregate-is-header : tie.Need-slice-aggregate-is-header
-slice-aggregate-is-header c = search needs
-
-is-header-requires : tie.Need-is-header-requires
-is-header-requires c κs = search needs
-
 returns-2 : tie.Need-returns-2
 unfolding ecRead readEc
 returns-2 c = rw (le-ltb _ _ (c .before .before .before .if1 .left), ← (c .before .is-header .ensures), not-true (c .before .is-header .result) (c .if2 .taken))
-
-ec-fields-requires : tie.Need-ec-fields-requires
-ec-fields-requires c κs = search needs
-
-judge-ec-requires : tie.Need-judge-ec-requires
-judge-ec-requires c κs = search needs
 
 returns-3 : tie.Need-returns-3
 unfolding ecRead readEc
@@ -35,9 +23,9 @@ read-ec-spec =
     tie.close
     (tie.spec
     returns
-    slice-aggregate-is-header
-    is-header-requires
+    (λ c. search needs)
+    (λ c κs. search needs)
     returns-2
-    ec-fields-requires
-    judge-ec-requires
+    (λ c κs. search needs)
+    (λ c κs. search needs)
     returns-3)

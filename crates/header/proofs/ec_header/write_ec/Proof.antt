@@ -14,30 +14,12 @@ returns : tie.Need-returns
 unfolding ecWritten ecOut
 returns c = (rw (lt-ltb _ _ (c .if1 .taken)), rw (lt-ltb _ _ (c .if1 .taken)))
 
-ec-readable-requires : tie.Need-ec-readable-requires
-ec-readable-requires c κs = search needs
-
 returns-2 : tie.Need-returns-2
 unfolding ecWritten ecOut
 returns-2 c =
     let s : 64 ≤ length (c .before .before .before .before .args .out .now) = omega arith in
     let g = not-true (c .before .ec-readable .result) (c .if2 .taken) in
     (rw (le-ltb _ _ s, ← (c .before .ec-readable .ensures), g), rw (le-ltb _ _ s, ← (c .before .ec-readable .ensures), g))
-
-slice-aggregate-begin : tie.Need-slice-aggregate-begin
-slice-aggregate-begin c = search needs
-
-begin-requires : tie.Need-begin-requires
-begin-requires c κs = search needs
-
-set-ec-fields-requires : tie.Need-set-ec-fields-requires
-set-ec-fields-requires c κs = search needs
-
-finish-requires : tie.Need-finish-requires
-finish-requires c κs = search needs
-
-same-length : tie.Need-same-length
-same-length c = search needs
 
 returns-3 : tie.Need-returns-3
 unfolding ecWritten
@@ -52,11 +34,11 @@ write-ec-spec =
     tie.close
     (tie.spec
     returns
-    ec-readable-requires
+    (λ c κs. search needs)
     returns-2
-    slice-aggregate-begin
-    begin-requires
-    set-ec-fields-requires
-    finish-requires
-    same-length
+    (λ c. search needs)
+    (λ c κs. search needs)
+    (λ c κs. search needs)
+    (λ c κs. search needs)
+    (λ c. search needs)
     returns-3)

@@ -4,15 +4,9 @@ use Rattle.header.specs.Fields.{fieldAt}
 use Rattle.header.proofs.fields.get.Statement.{statement}
 use Rattle.header.proofs.fields.get.Tie as tie
 
-field-of-requires : tie.Need-field-of-requires
-field-of-requires c κs = search needs
-
-read-requires : tie.Need-read-requires
-read-requires c κs = search needs
-
 returns : tie.Need-returns
 unfolding fieldAt
 returns c = (cc, rw (← (c .before .field-of .ensures .0)) (c .read .ensures .1))
 
 pub get-spec : {M : Type 1} → statement M
-get-spec = tie.close (tie.spec field-of-requires read-requires returns)
+get-spec = tie.close (tie.spec (λ c κs. search needs) (λ c κs. search needs) returns)

@@ -4,24 +4,6 @@ use Rattle.header.specs.Stores.{placeStored}
 use Rattle.header.proofs.vid_header.set_place.Statement.{statement}
 use Rattle.header.proofs.vid_header.set_place.Tie as tie
 
-cast-set : tie.Need-cast-set
-cast-set c = search needs
-
-set-requires : tie.Need-set-requires
-set-requires c κs = search needs
-
-cast-set-2 : tie.Need-cast-set-2
-cast-set-2 c = search needs
-
-set-requires-2 : tie.Need-set-requires-2
-set-requires-2 c κs = search needs
-
-set-requires-3 : tie.Need-set-requires-3
-set-requires-3 c κs = search needs
-
-same-length : tie.Need-same-length
-same-length c = search needs
-
 returns : tie.Need-returns
 unfolding placeStored
 returns c = cc
@@ -29,4 +11,4 @@ returns c = cc
 pub set-place-spec : {M : Type 1} → statement M
 set-place-spec =
     tie.close
-    (tie.spec cast-set set-requires cast-set-2 set-requires-2 set-requires-3 same-length returns)
+    (tie.spec (λ c. search needs) (λ c κs. search needs) (λ c. search needs) (λ c κs. search needs) (λ c κs. search needs) (λ c. search needs) returns)

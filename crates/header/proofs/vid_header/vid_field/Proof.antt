@@ -5,13 +5,10 @@ use Rattle.header.proofs.Laws.{vid-field-at}
 use Rattle.header.proofs.vid_header.vid_field.Statement.{statement}
 use Rattle.header.proofs.vid_header.vid_field.Tie as tie
 
-get-requires : tie.Need-get-requires
-get-requires c κs = search needs
-
 returns : tie.Need-returns
 returns c =
     let d = c .before .before in
     c .get .ensures .0 ∙ vid-field-at (d .args .i) (d .args .header .now) (d .pre .0)
 
 pub vid-field-spec : {M : Type 1} → statement M
-vid-field-spec = tie.close (tie.spec get-requires returns)
+vid-field-spec = tie.close (tie.spec (λ c κs. search needs) returns)

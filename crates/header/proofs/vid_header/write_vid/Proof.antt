@@ -14,36 +14,12 @@ returns : tie.Need-returns
 unfolding vidWritten vidOut
 returns c = (rw (lt-ltb _ _ (c .if1 .taken)), rw (lt-ltb _ _ (c .if1 .taken)))
 
-vid-readable-requires : tie.Need-vid-readable-requires
-vid-readable-requires c κs = search needs
-
 returns-2 : tie.Need-returns-2
 unfolding vidWritten vidOut
 returns-2 c =
     let s : 64 ≤ length (c .before .before .before .before .args .out .now) = omega arith in
     let g = not-true (c .before .vid-readable .result) (c .if2 .taken) in
     (rw (le-ltb _ _ s, ← (c .before .vid-readable .ensures), g), rw (le-ltb _ _ s, ← (c .before .vid-readable .ensures), g))
-
-slice-aggregate-begin : tie.Need-slice-aggregate-begin
-slice-aggregate-begin c = search needs
-
-begin-requires : tie.Need-begin-requires
-begin-requires c κs = search needs
-
-set-kind-requires : tie.Need-set-kind-requires
-set-kind-requires c κs = search needs
-
-set-place-requires : tie.Need-set-place-requires
-set-place-requires c κs = search needs
-
-set-data-requires : tie.Need-set-data-requires
-set-data-requires c κs = search needs
-
-finish-requires : tie.Need-finish-requires
-finish-requires c κs = search needs
-
-same-length : tie.Need-same-length
-same-length c = search needs
 
 returns-3 : tie.Need-returns-3
 unfolding vidWritten
@@ -58,13 +34,13 @@ write-vid-spec =
     tie.close
     (tie.spec
     returns
-    vid-readable-requires
+    (λ c κs. search needs)
     returns-2
-    slice-aggregate-begin
-    begin-requires
-    set-kind-requires
-    set-place-requires
-    set-data-requires
-    finish-requires
-    same-length
+    (λ c. search needs)
+    (λ c κs. search needs)
+    (λ c κs. search needs)
+    (λ c κs. search needs)
+    (λ c κs. search needs)
+    (λ c κs. search needs)
+    (λ c. search needs)
     returns-3)

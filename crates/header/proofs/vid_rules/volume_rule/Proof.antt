@@ -25,12 +25,9 @@ returns-3 : tie.Need-returns-3
 unfolding volumeRule
 returns-3 c = rw (le-ltb _ _ (c .before .before .before .before .if1 .left), le-leb _ _ (c .before .before .if2 .left), lt-leb _ _ (c .if3 .taken))
 
-is-internal-requires : tie.Need-is-internal-requires
-is-internal-requires c κs = search needs
-
 returns-4 : tie.Need-returns-4
 unfolding volumeRule
 returns-4 c = c .is-internal .ensures ∙ rw (le-ltb _ _ (c .before .before .before .before .before .if1 .left), le-leb _ _ (c .before .before .before .if2 .left), le-leb _ _ (c .before .if3 .left))
 
 pub volume-rule-spec : {M : Type 1} → statement M
-volume-rule-spec = tie.close (tie.spec returns returns-2 returns-3 is-internal-requires returns-4)
+volume-rule-spec = tie.close (tie.spec returns returns-2 returns-3 (λ c κs. search needs) returns-4)
