@@ -11,12 +11,7 @@ use Rattle.volume_table.specs.Record.{recordOf}
 use Rattle.volume_table.specs.Table.{recordAt}
 use Rattle.volumes.specs.declared.Kept.{Kept}
 use Rattle.volumes.specs.Sorted.{keptOf}
-
-drop-past : (n : ℕ) (s : List ℕ) → length s ≤ n → drop n s ≡ []
-drop-past zero [] h = refl
-drop-past zero (x ∷ s) h = absurd (omega arith)
-drop-past (suc n) [] h = refl
-drop-past (suc n) (x ∷ s) h = drop-past n s (omega arith)
+use Rattle.volumes.proofs.Temp.{drop-past}
 
 -- the five numbers that are read of the record at `at`
 pub kept-read : (at : ℕ) (t : List ℕ) {a b c d e : ℕ} → let r = take (at + 172 - at) (drop at t) in

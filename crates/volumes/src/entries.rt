@@ -8,26 +8,22 @@ ghost use Rattle.base.specs.Below.{anyBelow, countBelow};
 ghost use Rattle.copies.specs.InPlace.{HasCopy};
 ghost use Rattle.volumes.specs.Sorted.{faceAt, faultyBy, Entries, isOf, faultAt, FirstOf};
 use copies::header_field;
+use copies::is_sound;
 use copies::matches;
 use geometry::Geometry;
 use header::STATIC;
-use header::VID_COPY_FLAG;
 use header::VID_TYPE;
 
-// Is PEB i's copy at fault: unsound, or static with a wrong data CRC where those are asked? The CRC is computed only
-// where it counts.
+// Is PEB i's copy at fault: unsound, or static with a wrong data CRC where those are asked? At most one CRC is computed.
 fn entry_faulty(image: &[u8], g: Geometry, i: usize, asks: bool) -> bool
     requires { ⌜ HasCopy g (now image) i ⌝ }
     ensures { λ r. ⌜ r ≡ faultyBy asks (faceAt g (now (image .entry)) i) ⌝ }
 {
-    if header_field(image, g, i, VID_COPY_FLAG) != 0 {
-        return !matches(image, g, i);
-    }
     if !asks {
-        return false;
+        return !is_sound(image, g, i);
     }
     if header_field(image, g, i, VID_TYPE) != STATIC as u64 {
-        return false;
+        return !is_sound(image, g, i);
     }
     !matches(image, g, i)
 }

@@ -5,7 +5,7 @@ use native.Mathlib.Omega.{arith}
 use borrow.Author.Needs.{needs}
 use Rattle.base.specs.Below.{countBelow}
 use Rattle.volumes.specs.Sorted.{isOf}
-use Rattle.volumes.proofs.Passes.{count-more}
+use native.Mathlib.Numerals.{add-one}
 use Rattle.volumes.proofs.entries.entries_of.Statement.{statement}
 use Rattle.volumes.proofs.entries.entries_of.Tie as tie
 use Rattle.volumes.proofs.entries.entries_of.Reads as reads
@@ -44,9 +44,8 @@ loop-less c = search needs
 
 loop-again : tie.Need-loop-again Inv-loop μ-loop
 loop-again c =
-    let a = c .before .before .before .before .before .args in
     let l = c .before .before .before .loop in
-    (omega arith, (count-more (isOf (a .map .now) (a .v)) (l .k) (l .inv .1 .0) (c .one-if .ensures .0), omega arith))
+    (omega arith, (rw (add-one, l .inv .1 .0, c .one-if .ensures .0), omega arith))
 
 returns : tie.Need-returns Inv-loop μ-loop
 returns c =

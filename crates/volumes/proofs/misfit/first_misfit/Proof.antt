@@ -8,6 +8,7 @@ use Rattle.report.specs.View.{viewsOf}
 use Rattle.report.specs.Volumes.{misfitIn}
 use Rattle.report.specs.Report.{faces, records}
 use Rattle.base.proofs.Below.{one-more}
+use Rattle.volumes.proofs.Words.{fs, rs}
 use Rattle.volumes.proofs.Misfits.{refused-here, not-refused}
 use Rattle.volumes.proofs.misfit.first_misfit.Statement.{statement}
 use Rattle.volumes.proofs.misfit.first_misfit.Tie as tie
@@ -29,10 +30,9 @@ misfit-of-requires c κs = search needs
 
 returns : tie.Need-returns Inv-loop μ-loop
 returns c =
-    let d = c .before .before .before .before .before .before .before in
-    let l = c .before .before .before .loop in
-    let m = c .before .misfit-of in
-    (refused-here (d .args .g) (d .args .n) (d .args .image .now) (d .args .map .now) (d .args .t .now) (d .args .count) (d .pre) (l .v) (omega arith) (m .result) (m .ensures) (c .if1 .taken) (l .inv .1), m .ensures .within)
+    let d = c .before .before .before in
+    let m = c .before .misfit-of .ensures in
+    (refused-here (d .before .before .before .before .pre) (omega arith) m (c .if1 .taken) (d .loop .inv .1), m .within)
 
 add-v : tie.Need-add-v Inv-loop μ-loop
 add-v c = search needs
@@ -42,20 +42,15 @@ loop-less c = search needs
 
 loop-again : tie.Need-loop-again Inv-loop μ-loop
 loop-again c =
-    let d = c .before .before .before .before .before .before .before in
-    let l = c .before .before .before .loop in
-    let vs = viewsOf (d .args .g) (d .args .image .now) in (
-      omega arith,
-      one-more (λ (w : ℕ). misfitIn (records (d .args .g) (d .args .n) vs) (faces (d .args .g) (d .args .n) vs) w ≡ none) (l .v) (l .inv .1)
-          (c .before .misfit-of .ensures .none-in (c .if1 .left)),
-    )
+    let d = c .before .before .before in
+    let s = d .before .before .before .before .pre in
+    (omega arith, one-more (λ (w : ℕ). misfitIn (rs s) (fs s) w ≡ none) (d .loop .v) (d .loop .inv .1) (c .before .misfit-of .ensures .none-in (c .if1 .left)))
 
 returns-2 : tie.Need-returns-2 Inv-loop μ-loop
 returns-2 c =
-    let d = c .before .before .before .before .before in
     let l = c .before .loop in
     let e : l .v ≡ 128 = omega arith in
-    (not-refused (d .args .g) (d .args .n) (d .args .image .now) (d .args .map .now) (d .args .t .now) (d .args .count) (d .pre) (rw e at (l .inv .1)), omega arith)
+    (not-refused (c .before .before .before .before .before .pre) (rw e at (l .inv .1)), omega arith)
 
 pub first-misfit-spec : {M : Type 1} → statement M
 first-misfit-spec =

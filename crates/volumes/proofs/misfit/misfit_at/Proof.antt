@@ -2,9 +2,7 @@
 use Prim.Native.Nat.{_-_, _+_, _*_}
 use native.Mathlib.Omega.{arith}
 use borrow.Author.Needs.{needs}
-use Rattle.copies.specs.InPlace.{headerAt}
-use Rattle.volumes.specs.Sorted.{pebWord, misfitBy}
-use Rattle.volumes.proofs.Passes.{of-other, of-this}
+use borrow.Author.Tests.{eq-eqb, ne-eqb}
 use Rattle.volumes.proofs.misfit.misfit_at.Statement.{statement}
 use Rattle.volumes.proofs.misfit.misfit_at.Tie as tie
 use Rattle.volumes.proofs.misfit.misfit_at.Reads as reads
@@ -22,9 +20,7 @@ shared-slice-read-if1 : tie.Need-shared-slice-read-if1
 shared-slice-read-if1 c = search needs
 
 returns : tie.Need-returns
-returns c =
-    let a = c .before .before .before .before .args in
-    of-other (a .map .now) (a .v) (a .k) (misfitBy (a .r) (headerAt (a .g) (a .image .now) (pebWord (a .map .now) (a .first)) .«used_lebs») (headerAt (a .g) (a .image .now) (pebWord (a .map .now) (a .k)))) (c .if1 .taken)
+returns c = rw (ne-eqb _ _ (c .if1 .taken))
 
 mul-header-field : tie.Need-mul-header-field
 mul-header-field c = search needs
@@ -39,11 +35,12 @@ shared-slice-read-header-field : tie.Need-shared-slice-read-header-field
 shared-slice-read-header-field c = search needs
 
 cast-header-field : tie.Need-cast-header-field
-cast-header-field c = omega (arith, c .shared-slice-known4 .given (c .before .before .before .before .before .args .first * 3 + 2))
+cast-header-field c = let d = c .before .before .before .before .before in omega (arith, c .shared-slice-known4 .given (d .args .first * 3 + 2))
 
 header-field-requires : tie.Need-header-field-requires
 header-field-requires c κs =
-    let m = c .before .before .before .before .before .pre .0 .mapped (c .before .before .before .before .before .args .first) (c .before .before .before .before .before .pre .1 .0) in
+    let d = c .before .before .before .before .before in
+    let m = d .pre .0 .mapped (d .args .first) (d .pre .1 .0) in
     (m .placed, (m .bytes, (omega arith, omega arith)))
 
 mul-misfits : tie.Need-mul-misfits
@@ -59,15 +56,13 @@ shared-slice-read-misfits : tie.Need-shared-slice-read-misfits
 shared-slice-read-misfits c = search needs
 
 cast-misfits : tie.Need-cast-misfits
-cast-misfits c = omega (arith, c .shared-slice-known5 .given (c .before .before .before .before .before .before .before .args .k * 3 + 2))
+cast-misfits c = let d = c .before .before .before .before .before .before .before in omega (arith, c .shared-slice-known5 .given (d .args .k * 3 + 2))
 
 misfits-requires : tie.Need-misfits-requires
-misfits-requires c κs = c .before .before .before .before .before .before .before .pre .0 .mapped (c .before .before .before .before .before .before .before .args .k) (c .before .before .before .before .before .before .before .pre .1 .1)
+misfits-requires c κs = let d = c .before .before .before .before .before .before .before in d .pre .0 .mapped (d .args .k) (d .pre .1 .1)
 
 returns-2 : tie.Need-returns-2
-returns-2 c =
-    let a = c .before .before .before .before .before .before .before .before .args in
-    of-this (a .map .now) (a .v) (a .k) (misfitBy (a .r) (headerAt (a .g) (a .image .now) (pebWord (a .map .now) (a .first)) .«used_lebs») (headerAt (a .g) (a .image .now) (pebWord (a .map .now) (a .k)))) (c .before .before .before .before .if1 .left) (rw (c .before .before .header-field .ensures) at (c .misfits .ensures))
+returns-2 c = rw (eq-eqb _ _ (c .before .before .before .before .if1 .left), ← (c .before .before .header-field .ensures)) (c .misfits .ensures)
 
 pub misfit-at-spec : {M : Type 1} → statement M
 misfit-at-spec =

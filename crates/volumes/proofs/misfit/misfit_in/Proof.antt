@@ -6,7 +6,7 @@ use native.Mathlib.Omega.{arith}
 use borrow.Author.Needs.{needs}
 use Rattle.volumes.specs.Sorted.{misfitWord}
 use Rattle.base.proofs.Below.{one-more}
-use Rattle.volumes.proofs.Passes.{before-first}
+use borrow.Author.Tests.{ne-eqb}
 use Rattle.volumes.proofs.misfit.misfit_in.Statement.{statement}
 use Rattle.volumes.proofs.misfit.misfit_in.Tie as tie
 use Rattle.volumes.proofs.misfit.misfit_in.Reads as reads
@@ -25,9 +25,8 @@ first-of-requires c κs = c .before .before .pre .words
 
 loop-holds : tie.Need-loop-holds Inv-loop μ-loop
 loop-holds c =
-    let a = c .before .before .before .args in
-    let f = c .first-of in
-    (f .ensures .within, (omega arith, before-first (a .g) (a .image .now) (a .map .now) (a .count) (a .v) (a .r) (f .result) (f .ensures)))
+    let f = c .first-of .ensures in
+    (f .within, (omega arith, λ j h. rw (ne-eqb _ _ (f .before j h))))
 
 misfit-at-requires : tie.Need-misfit-at-requires Inv-loop μ-loop
 misfit-at-requires c κs = search needs
@@ -55,7 +54,8 @@ loop-again c =
     let a = c .before .before .before .before .before .before .before .args in
     let l = c .before .before .before .loop in
     let f = c .before .before .before .before .first-of .result in
-    (omega arith, (omega arith, one-more (λ (j : ℕ). misfitWord (a .g) (a .image .now) (a .map .now) (a .v) (a .r) f j ≡ false) (l .k) (l .inv .1 .1) (sym (c .before .misfit-at .ensures) ∙ c .if1 .left)))
+    let P : ℕ → Type 0 = λ j. misfitWord (a .g) (a .image .now) (a .map .now) (a .v) (a .r) f j ≡ false in
+    (omega arith, (omega arith, one-more P (l .k) (l .inv .1 .1) (sym (c .before .misfit-at .ensures) ∙ c .if1 .left)))
 
 returns-2 : tie.Need-returns-2 Inv-loop μ-loop
 returns-2 c =

@@ -2,7 +2,7 @@
 use Prim.Native.Nat.{_-_, _+_, _*_}
 use native.Mathlib.Omega.{arith}
 use borrow.Author.Needs.{needs}
-use Rattle.volumes.proofs.Passes.{not-last, lacks-none, lacks-some}
+use borrow.Author.Tests.{lt-ltb, le-ltb}
 use Rattle.volumes.proofs.state.lacks_leb.Statement.{statement}
 use Rattle.volumes.proofs.state.lacks_leb.Tie as tie
 use Rattle.volumes.proofs.state.lacks_leb.Reads as reads
@@ -16,8 +16,8 @@ first-of-requires c κs = search needs
 
 returns : tie.Need-returns
 returns c =
-    let a = c .before .before .before .before .args in
-    lacks-none (a .g) (a .image .now) (a .map .now) (a .count) (a .v) (c .before .first-of .result) (c .before .first-of .ensures) (c .if1 .taken)
+    let f = c .before .first-of in
+    record { first = f .result; is-first = f .ensures; is = rw (le-ltb (f .result) (c .before .before .before .before .args .count) (omega arith)) }
 
 entries-of-requires : tie.Need-entries-of-requires
 entries-of-requires c κs = search needs
@@ -39,13 +39,19 @@ cast-header-field c = omega (arith, c .shared-slice-known3 .given (c .before .be
 
 header-field-requires : tie.Need-header-field-requires
 header-field-requires c κs =
-    let m = c .before .before .before .before .before .before .pre .mapped (c .before .before .before .first-of .result) (not-last (c .before .before .before .first-of .ensures .within) (c .before .before .if1 .left)) in
+    let d = c .before .before .before in
+    let m = d .before .before .before .pre .mapped (d .first-of .result) (omega (arith, c .before .before .if1 .left)) in
     (m .placed, (m .bytes, (omega arith, omega arith)))
 
 returns-2 : tie.Need-returns-2
 returns-2 c =
-    let a = c .before .before .before .before .before .before .before .args in
-    lacks-some (a .g) (a .image .now) (a .map .now) (a .count) (a .v) (c .before .before .before .before .first-of .result) (c .before .before .before .before .first-of .ensures) (c .before .before .before .if1 .left) (c .before .before .entries-of .ensures) (c .header-field .ensures)
+    let d = c .before .before .before in
+    let f = d .before .first-of in
+    record {
+      first = f .result;
+      is-first = f .ensures;
+      is = rw (lt-ltb (f .result) (d .before .before .before .before .args .count) (omega (arith, d .if1 .left)), ← (c .before .before .entries-of .ensures), ← (c .header-field .ensures));
+    }
 
 pub lacks-leb-spec : {M : Type 1} → statement M
 lacks-leb-spec =
