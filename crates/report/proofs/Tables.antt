@@ -21,7 +21,7 @@ use Rattle.volume_table.specs.Record.{recordOf, recordGood}
 use Rattle.volume_table.specs.Table.{recordCount, recordsPart, recordAt, tableGood, takenLeb, takenRecords}
 use Rattle.volume_table.specs.declared.VolumeRecord.{VolumeRecord}
 use Rattle.volume_table.proofs.Good.{records-fine, reserved-within, empty-or-good, empty-reserves-none}
-use Rattle.report.specs.View.{Views}
+use Rattle.report.specs.View.{Medium}
 use Rattle.report.specs.Scan.{differs}
 use Rattle.report.specs.Volumes.{
   Face,
@@ -206,15 +206,20 @@ module _ (size unit pebs : ℕ) (copy0 copy1 : List ℕ) where
 
 -- ---- in an image that attaches
 
-module _ (g : Geometry) (n : ℕ) (vs : Views) (e : refusal g n vs ≡ none) where
-  pub table-good :
-      TakenFrom (g .«leb_size») (g .unit) n (layoutContent (faces g n vs layoutVolume 0)) (layoutContent (faces g n vs layoutVolume 1)) (records g n vs)
+-- t are the records of a good table of one of the two layout copies
+abbrev pub TakenIn : Medium → List ℕ → Type 0
+TakenIn m =
+    TakenFrom (m .geometry .«leb_size») (m .geometry .unit) (m .count)
+    (layoutContent (faces m layoutVolume 0)) (layoutContent (faces m layoutVolume 1))
+
+module _ (m : Medium) (e : refusal m ≡ none) where
+  pub table-good : TakenIn m (records m)
   unfolding tableLeb tableRecords
   table-good =
-      let k = table-taken (tableLeb g n (faces g n vs)) (records g n vs) (faces g n vs) (places g n vs) (parts g n vs e .none1112) in
-      taken (g .«leb_size») (g .unit) n (layoutContent (faces g n vs layoutVolume 0)) (layoutContent (faces g n vs layoutVolume 1)) (k .0) (k .1)
+      let k = table-taken (tableLeb m (faces m)) (records m) (faces m) (places m) (parts m e .none1112) in
+      taken _ _ (m .count) _ _ (k .0) (k .1)
 
   -- the map has no more entries than there are PEBs
-  pub entries-fit : 2 ≤ n → length (entries g n vs) ≤ n
+  pub entries-fit : 2 ≤ m .count → length (entries m) ≤ m .count
   unfolding entries mapOf
-  entries-fit h = omega (arith, map-within _ _ _ _ _ (records g n vs) table-good 128 2 (places g n vs))
+  entries-fit h = omega (arith, map-within _ _ _ _ _ (records m) table-good 128 2 (places m))

@@ -1,6 +1,5 @@
 -- `geometry::slip::read_slip` meets its contract. Assumes nothing.
 use mathlib.Core.Path.{_≡_, sym, _∙_}
-use Prim.Native.Nat.{_-_}
 use native.Mathlib.Omega.{arith}
 use borrow.Author.Needs.{needs}
 use mathlib.Core.Bool.{true}
@@ -8,17 +7,8 @@ use lib.ListN.{length}
 use borrow.Author.Tests.{not-true, not-false}
 use Rattle.geometry.specs.Slip.{valueAt, wellFormed, slipGeometry}
 use Rattle.geometry.proofs.Laws.{slip-length}
-use borrow.Author.Needs.{needs}
 use Rattle.geometry.proofs.slip.read_slip.Statement.{statement}
 use Rattle.geometry.proofs.slip.read_slip.Tie as tie
-use Rattle.geometry.proofs.slip.read_slip.Reads as reads
-use Rattle.geometry.proofs.slip.read_slip.Lts as lts
-use Rattle.field.proofs.read.Reads as read-reads
-use Rattle.geometry.proofs.rules.check_geometry.Reads as check-geometry-reads
-use Rattle.geometry.proofs.slip.well_formed.Reads as well-formed-reads
-
-well-formed-requires : tie.Need-well-formed-requires
-well-formed-requires c κs = search needs
 
 -- past the test the slip is well formed
 formed : (c : tie.Else1) → wellFormed (c .before .before .before .args .slip .now) ≡ true
@@ -34,23 +24,11 @@ returns c = rw (← (c .before .well-formed .ensures), not-true (c .before .well
 read-requires : tie.Need-read-requires
 read-requires c κs = omega (arith, twenty c)
 
-cast-peb-size : tie.Need-cast-peb-size
-cast-peb-size c = search needs
-
 read-requires-2 : tie.Need-read-requires-2
 read-requires-2 c κs = omega (arith, twenty (c .before))
 
-cast-unit : tie.Need-cast-unit
-cast-unit c = search needs
-
 read-requires-3 : tie.Need-read-requires-3
 read-requires-3 c κs = omega (arith, twenty (c .before .before))
-
-cast-sub-unit : tie.Need-cast-sub-unit
-cast-sub-unit c = search needs
-
-check-geometry-requires : tie.Need-check-geometry-requires
-check-geometry-requires c κs = search needs
 
 returns-2 : tie.Need-returns-2
 unfolding slipGeometry valueAt
@@ -60,13 +38,13 @@ pub read-slip-spec : {M : Type 1} → statement M
 read-slip-spec =
     tie.close
     (tie.spec
-    well-formed-requires
+    (λ c κs. search needs)
     returns
     read-requires
-    cast-peb-size
+    (λ c. search needs)
     read-requires-2
-    cast-unit
+    (λ c. search needs)
     read-requires-3
-    cast-sub-unit
-    check-geometry-requires
+    (λ c. search needs)
+    (λ c κs. search needs)
     returns-2)

@@ -1,93 +1,28 @@
 -- `geometry::slip::well_formed` meets its contract: one field that is not the next one of a slip is enough. Assumes nothing.
 use mathlib.Core.Path.{sym, _∙_}
-use Prim.Native.Nat.{_-_}
 use borrow.Author.Needs.{needs}
 use borrow.Author.Tests.{not-true, not-false, ne-eqb}
 use Rattle.field.specs.Be.{toBeOn}
 use Rattle.geometry.specs.Slip.{hasField, slipRules}
 use Rattle.geometry.proofs.Laws.{malformed, last-field}
-use borrow.Author.Needs.{needs}
 use Rattle.geometry.proofs.slip.well_formed.Statement.{statement}
 use Rattle.geometry.proofs.slip.well_formed.Tie as tie
-use Rattle.geometry.proofs.slip.well_formed.Reads as reads
-use Rattle.geometry.proofs.slip.well_formed.Lts as lts
-use Rattle.base.proofs.same.Reads as same-reads
 
 returns : tie.Need-returns
 unfolding slipRules
 returns c = malformed (c .before .before .args .slip .now) 4 (ne-eqb _ _ (c .if1 .taken))
 
-sub-same : tie.Need-sub-same
-sub-same c = search needs
-
-part-same-start : tie.Need-part-same-start
-part-same-start c = search needs
-
-part-same-end : tie.Need-part-same-end
-part-same-end c = search needs
-
-slice-aggregate-same : tie.Need-slice-aggregate-same
-slice-aggregate-same c = search needs
-
-same-requires : tie.Need-same-requires
-same-requires c κs = search needs
-
 returns-2 : tie.Need-returns-2
 unfolding slipRules hasField toBeOn
 returns-2 c = malformed (c .before .before .before .before .before .before .args .slip .now) 0 (sym (c .before .same .ensures) ∙ not-true (c .before .same .result) (c .if2 .taken))
-
-sub-same-2 : tie.Need-sub-same-2
-sub-same-2 c = search needs
-
-part-same-start-2 : tie.Need-part-same-start-2
-part-same-start-2 c = search needs
-
-part-same-end-2 : tie.Need-part-same-end-2
-part-same-end-2 c = search needs
-
-slice-aggregate-same-2 : tie.Need-slice-aggregate-same-2
-slice-aggregate-same-2 c = search needs
-
-same-requires-2 : tie.Need-same-requires-2
-same-requires-2 c κs = search needs
 
 returns-3 : tie.Need-returns-3
 unfolding slipRules hasField toBeOn
 returns-3 c = malformed (c .before .before .before .before .before .before .before .before .before .before .args .slip .now) 1 (sym (c .before .same2 .ensures) ∙ not-true (c .before .same2 .result) (c .if3 .taken))
 
-sub-same-3 : tie.Need-sub-same-3
-sub-same-3 c = search needs
-
-part-same-start-3 : tie.Need-part-same-start-3
-part-same-start-3 c = search needs
-
-part-same-end-3 : tie.Need-part-same-end-3
-part-same-end-3 c = search needs
-
-slice-aggregate-same-3 : tie.Need-slice-aggregate-same-3
-slice-aggregate-same-3 c = search needs
-
-same-requires-3 : tie.Need-same-requires-3
-same-requires-3 c κs = search needs
-
 returns-4 : tie.Need-returns-4
 unfolding slipRules hasField toBeOn
 returns-4 c = malformed (c .before .before .before .before .before .before .before .before .before .before .before .before .before .before .args .slip .now) 2 (sym (c .before .same3 .ensures) ∙ not-true (c .before .same3 .result) (c .if4 .taken))
-
-sub-same-4 : tie.Need-sub-same-4
-sub-same-4 c = search needs
-
-part-same-start-4 : tie.Need-part-same-start-4
-part-same-start-4 c = search needs
-
-part-same-end-4 : tie.Need-part-same-end-4
-part-same-end-4 c = search needs
-
-slice-aggregate-same-4 : tie.Need-slice-aggregate-same-4
-slice-aggregate-same-4 c = search needs
-
-same-requires-4 : tie.Need-same-requires-4
-same-requires-4 c κs = search needs
 
 returns-5 : tie.Need-returns-5
 unfolding hasField toBeOn
@@ -103,27 +38,27 @@ well-formed-spec =
     tie.close
     (tie.spec
     returns
-    sub-same
-    part-same-start
-    part-same-end
-    slice-aggregate-same
-    same-requires
+    (λ c. search needs)
+    (λ c. search needs)
+    (λ c. search needs)
+    (λ c. search needs)
+    (λ c κs. search needs)
     returns-2
-    sub-same-2
-    part-same-start-2
-    part-same-end-2
-    slice-aggregate-same-2
-    same-requires-2
+    (λ c. search needs)
+    (λ c. search needs)
+    (λ c. search needs)
+    (λ c. search needs)
+    (λ c κs. search needs)
     returns-3
-    sub-same-3
-    part-same-start-3
-    part-same-end-3
-    slice-aggregate-same-3
-    same-requires-3
+    (λ c. search needs)
+    (λ c. search needs)
+    (λ c. search needs)
+    (λ c. search needs)
+    (λ c κs. search needs)
     returns-4
-    sub-same-4
-    part-same-start-4
-    part-same-end-4
-    slice-aggregate-same-4
-    same-requires-4
+    (λ c. search needs)
+    (λ c. search needs)
+    (λ c. search needs)
+    (λ c. search needs)
+    (λ c κs. search needs)
     returns-5)
