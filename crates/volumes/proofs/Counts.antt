@@ -1,10 +1,10 @@
 -- How many entries a volume has in the map, and that fewer than u numbers below u pass a test exactly if one does not. Assumes nothing.
-use mathlib.Core.Path.{_≡_, refl, sym, _∙_}
-use mathlib.Core.Logic.{_⊎_, ⊎-elim, _≢_}
-use mathlib.Core.Bool.{Bool, true, false, not, cond, false≢true}
+use mathlib.Core.Path.{_≡_, refl, _∙_}
+use mathlib.Core.Logic.{⊎-elim, _≢_}
+use mathlib.Core.Bool.{Bool, true, false, not, cond}
 use mathlib.Core.Option.{Option, none, some}
 use mathlib.Core.List.{List, [], _∷_, _++_}
-use Prim.Native.Nat.{ℕ, zero, suc, _+_, _-_, _≤_, _<_}
+use Prim.Native.Nat.{ℕ, zero, suc, _+_, _≤_, _<_}
 use native.Mathlib.Omega.{arith}
 use borrow.Author.Tests.{eq-eqb, ne-eqb, lt-ltb, le-ltb, not-true, not-false}
 use lib.Dec.{eqb, ltb}
@@ -12,7 +12,8 @@ use lib.ListN.{length, getD}
 use Rattle.base.specs.Below.{anyBelow, countBelow, sumBelow, concatBelow}
 use Rattle.base.proofs.Below.{below-suc, none-at}
 use Rattle.header.specs.Vid.{layoutVolume}
-use Rattle.volumes.proofs.Temp.{by-test, any-hit}
+use Rattle.base.proofs.Answers.{by-test}
+use Rattle.base.proofs.Below.{any-hit}
 use Rattle.report.specs.Volumes.{Places, recordFor, reservedOf, Entry, entryAt, mapUpTo}
 
 -- ---- numbers that pass a test

@@ -2,7 +2,7 @@
 use mathlib.Core.Path.{_≡_, refl, sym, ap, _∙_}
 use mathlib.Core.Logic.{_⊎_, inl, inr}
 use mathlib.Core.Bool.{Bool, true, false, not, _||_, and-false, or-false}
-use mathlib.Core.Option.{Option, none, some}
+use mathlib.Core.Option.{none, some}
 use mathlib.Core.List.{List}
 use Prim.Native.Nat.{ℕ, _<_}
 use native.Mathlib.Omega.{arith}
@@ -17,8 +17,10 @@ use Rattle.report.specs.View.{copyOf}
 use Rattle.report.specs.Volumes.{Face, faceOf, recordFor, reservedOf, usedOf}
 use Rattle.report.proofs.Tables.{reserved-is}
 use Rattle.copies.specs.InPlace.{headerAt}
-use Rattle.volumes.specs.Sorted.{faceAt, faultyBy, volumeWord, lebWord, pebWord, FirstOf, Sorted}
-use Rattle.volumes.proofs.Temp.{by-test, either-way, by-option, first-lowest}
+use Rattle.words.specs.Words.{volumeWord, lnumWord, pebWord}
+use Rattle.volumes.specs.Sorted.{faceAt, faultyBy, FirstOf, SortedMap}
+use Rattle.base.proofs.Answers.{by-test, either-way, by-option}
+use Rattle.base.proofs.Below.{first-lowest}
 use Rattle.volumes.proofs.Words.{fs, ps, rs, face-is, place-is, leb-below, index-of, lower-first}
 
 pub used-is : (g : Geometry) (image : List ℕ) (i : ℕ) → faceAt g image i .used ≡ headerAt g image i .«used_lebs»
@@ -39,18 +41,18 @@ pub record EntryOf (map : List ℕ) (count v l : ℕ) : Type 0 where
   pub at : ℕ
   pub below : at < count
   pub volume : volumeWord map at ≡ v
-  pub leb : lebWord map at ≡ l
+  pub leb : lnumWord map at ≡ l
 
-module _ {g : Geometry} {n : ℕ} {image map t : List ℕ} {count : ℕ} (s : Sorted g n image map t count) {v : ℕ} (hv : v < 128) where
+module _ {g : Geometry} {n : ℕ} {image map table : List ℕ} {count : ℕ} (s : SortedMap g n image map table count) {v : ℕ} (hv : v < 128) where
   abbrev pub most : ℕ
   most = reservedOf (recordFor (rs s) v)
 
   module _ {k : ℕ} (h : k < count) (e : volumeWord map k ≡ v) where
-    pub leb-within : lebWord map k < most
+    pub leb-within : lnumWord map k < most
     leb-within = rw e at (leb-below s h (rw e hv))
 
-    pub face-here : fs s v (lebWord map k) ≡ some (faceAt g image (pebWord map k))
-    face-here = face-is s v (lebWord map k) ∙ ap (mapO (faceAt g image)) (rw e at (place-is s h))
+    pub face-here : fs s v (lnumWord map k) ≡ some (faceAt g image (pebWord map k))
+    face-here = face-is s v (lnumWord map k) ∙ ap (mapO (faceAt g image)) (rw e at (place-is s h))
 
     pub record-here : recordFor (rs s) v ≡ some (recordOf (recordAt (rs s) v))
     record-here = record-there (rs s) v (omega (arith, leb-within, reserved-is (rs s) v))
@@ -67,12 +69,12 @@ module _ {g : Geometry} {n : ℕ} {image map t : List ℕ} {count : ℕ} (s : So
     unfolding usedOf
     used-first h =
         let e : volumeWord map first ≡ v = f .here h in
-        let w : firstBelow most (fs s v) ≡ some (lebWord map first, faceAt g image (pebWord map first)) =
-        first-lowest most (fs s v) (lebWord map first) (faceAt g image (pebWord map first)) (leb-within h e) (face-here h e)
+        let w : firstBelow most (fs s v) ≡ some (lnumWord map first, faceAt g image (pebWord map first)) =
+        first-lowest most (fs s v) (lnumWord map first) (faceAt g image (pebWord map first)) (leb-within h e) (face-here h e)
         (λ l k. below k (face-or (omega (arith, leb-within h e)))) in
         rw (w, used-is g image (pebWord map first))
       where
-        below : {l : ℕ} → l < lebWord map first → (fs s v l ≡ none) ⊎ EntryOf map count v l → fs s v l ≡ none
+        below : {l : ℕ} → l < lnumWord map first → (fs s v l ≡ none) ⊎ EntryOf map count v l → fs s v l ≡ none
         below k (inl q) = q
         below k (inr q) =
             absurd (f .before (q .at) (lower-first s (q .below) h (q .volume ∙ sym (f .here h)) (omega (arith, q .leb))) (q .volume))

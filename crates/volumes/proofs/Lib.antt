@@ -1,5 +1,4 @@
 -- The laws that proofs here and above cite. Assumes nothing.
-pub mod Temp
 pub mod Records
 pub mod Words
 pub mod Counts

@@ -1,7 +1,7 @@
 -- Refusal 12 by a search volume by volume. Assumes nothing.
 use mathlib.Core.Path.{_≡_, refl, sym, ap, _∙_}
 use mathlib.Core.Logic.{⊎-elim}
-use mathlib.Core.Bool.{Bool, true, false}
+use mathlib.Core.Bool.{Bool}
 use mathlib.Core.Option.{Option, none, some}
 use mathlib.Core.List.{List}
 use Prim.Native.Nat.{ℕ, _≤_, _<_}
@@ -13,15 +13,16 @@ use Rattle.geometry.specs.declared.Geometry.{Geometry}
 use Rattle.volume_table.specs.Record.{recordOf}
 use Rattle.volume_table.specs.Table.{recordAt}
 use Rattle.volume_table.specs.declared.VolumeRecord.{VolumeRecord}
-use Rattle.report.specs.View.{viewsOf, copyOf}
-use Rattle.report.specs.Scan.{Refusal, when}
-use Rattle.report.specs.Volumes.{faceOf, recordFor, usedOf, misfit, misfitIn, misfitAt, refusal1112}
+use Rattle.report.specs.View.{mediumOf, copyOf}
+use Rattle.report.specs.Scan.{when}
+use Rattle.report.specs.Volumes.{faceOf, recordFor, usedOf, misfit, misfitIn, misfitAt}
 use Rattle.report.specs.Report.{taken}
 use Rattle.report.proofs.Tables.{no-misfit as misfits-none}
 use Rattle.copies.specs.InPlace.{headerAt}
-use Rattle.volumes.specs.declared.Kept.{Kept}
-use Rattle.volumes.specs.Sorted.{keptOf, volumeWord, lebWord, pebWord, isOf, misfitBy, FirstMisfit, VolumeMisfit, misfitRefusal, Sorted, Fitting}
-use Rattle.volumes.proofs.Temp.{first-lowest}
+use Rattle.volumes.specs.declared.RecordNumbers.{RecordNumbers}
+use Rattle.words.specs.Words.{volumeWord, lnumWord, pebWord}
+use Rattle.volumes.specs.Sorted.{numbersOf, isOf, misfitBy, FirstMisfit, VolumeMisfit, tableRefusal, misfitRefusal, SortedMap, NoMisfit}
+use Rattle.base.proofs.Below.{first-lowest}
 use Rattle.volumes.proofs.Words.{fs, ps, rs, place-is, lower-first}
 use Rattle.volumes.proofs.Faces.{record-not, most, leb-within, face-here, record-here, EntryOf, face-or, used-first, first-there}
 
@@ -29,9 +30,9 @@ no-misfit : (r : Option VolumeRecord) (u : Option ℕ) → misfit r u none ≡ n
 no-misfit none u = refl
 no-misfit (some r) u = refl
 
-module _ {g : Geometry} {n : ℕ} {image map t : List ℕ} {count : ℕ} (s : Sorted g n image map t count) where
+module _ {g : Geometry} {n : ℕ} {image map table : List ℕ} {count : ℕ} (s : SortedMap g n image map table count) where
   -- in one volume
-  module _ {v : ℕ} (hv : v < 128) {r : Kept} (is : r ≡ keptOf (recordOf (recordAt t v))) {k : ℕ} (f : FirstMisfit g image map count v r k) where
+  module _ {v : ℕ} (hv : v < 128) {r : RecordNumbers} (is : r ≡ numbersOf (recordOf (recordAt table v))) {k : ℕ} (f : FirstMisfit g image map count v r k) where
     abbrev test : ℕ → Option ℕ
     test l = misfit (recordFor (rs s) v) (usedOf (rs s) (fs s) v) (fs s v l)
 
@@ -39,15 +40,15 @@ module _ {g : Geometry} {n : ℕ} {image map t : List ℕ} {count : ℕ} (s : So
     told j = misfitBy r (headerAt g image (pebWord map (f .first)) .«used_lebs») (headerAt g image (pebWord map j))
 
     -- the test on a copy's header is the one on its face
-    test-entry : {j : ℕ} → j < count → volumeWord map j ≡ v → {b : Bool} → told j ≡ b → test (lebWord map j) ≡ when b 12
-    unfolding copyOf faceOf keptOf misfitBy
+    test-entry : {j : ℕ} → j < count → volumeWord map j ≡ v → {b : Bool} → told j ≡ b → test (lnumWord map j) ≡ when b 12
+    unfolding copyOf faceOf numbersOf misfitBy
     test-entry h e {b} z =
-        let q : r ≡ keptOf (recordOf (recordAt (rs s) v)) = is ∙ ap (λ (x : List ℕ). keptOf (recordOf (recordAt x v))) (s .table-is) in
+        let q : r ≡ numbersOf (recordOf (recordAt (rs s) v)) = is ∙ ap (λ (x : List ℕ). numbersOf (recordOf (recordAt x v))) (s .table-is) in
         rw (record-here s hv h e, used-first s hv (f .is-first) (first-there s hv (f .is-first) h e), face-here s hv h e)
         (ap (λ (b : Bool). when b 12) (rw q at z))
 
     -- a LEB is no misfit if its entry comes before k
-    fine : {l : ℕ} → l < most s hv → ((j : ℕ) → j < count → volumeWord map j ≡ v → lebWord map j ≡ l → j < k) → test l ≡ none
+    fine : {l : ℕ} → l < most s hv → ((j : ℕ) → j < count → volumeWord map j ≡ v → lnumWord map j ≡ l → j < k) → test l ≡ none
     fine {l} h z =
         ⊎-elim (λ (q : fs s v l ≡ none). rw q (no-misfit (recordFor (rs s) v) (usedOf (rs s) (fs s) v)))
         (λ (q : EntryOf map count v l). let j = q .at in
@@ -58,16 +59,16 @@ module _ {g : Geometry} {n : ℕ} {image map t : List ℕ} {count : ℕ} (s : So
       volume-here : volumeWord map k ≡ v
       volume-here = eqb-true (volumeWord map k) v (and-left (isOf map v k) (told k) (f .here h))
 
-      leb-here : misfitIn (rs s) (fs s) v ≡ some (lebWord map k)
+      leb-here : misfitIn (rs s) (fs s) v ≡ some (lnumWord map k)
       unfolding misfitIn
       leb-here =
-          let b : test (lebWord map k) ≡ some 12 = test-entry h volume-here (and-right (isOf map v k) (told k) (f .here h)) in
+          let b : test (lnumWord map k) ≡ some 12 = test-entry h volume-here (and-right (isOf map v k) (told k) (f .here h)) in
           let c = leb-within s hv h volume-here in
           rw
-          (first-lowest (most s hv) test (lebWord map k) 12 c b
+          (first-lowest (most s hv) test (lnumWord map k) 12 c b
           (λ l q. fine (omega (arith, c)) (λ j x y z. lower-first s x h (y ∙ sym volume-here) (omega (arith, z)))))
 
-    pub misfit-told : VolumeMisfit g n image map count v k
+    pub misfit-told : VolumeMisfit (mediumOf g n image) map count v k
     unfolding misfitIn
     misfit-told = record {
       within = f .within;
@@ -77,34 +78,31 @@ module _ {g : Geometry} {n : ℕ} {image map t : List ℕ} {count : ℕ} (s : So
     }
 
   -- a volume with no record has no entry
-  pub no-record : {v : ℕ} {r : Kept} → r ≡ keptOf (recordOf (recordAt t v)) → r .reserved ≡ 0 → VolumeMisfit g n image map count v count
-  unfolding misfitIn keptOf
+  pub no-record : {v : ℕ} {r : RecordNumbers} → r ≡ numbersOf (recordOf (recordAt table v)) → r .reserved ≡ 0 → VolumeMisfit (mediumOf g n image) map count v count
+  unfolding misfitIn numbersOf
   no-record {v} is e =
       let q : recordOf (recordAt (rs s) v) .reserved ≡ 0 =
-      ap (λ (x : List ℕ). recordOf (recordAt x v) .reserved) (sym (s .table-is)) ∙ ap (λ (k : Kept). k .reserved) (sym is) ∙ e in
+      ap (λ (x : List ℕ). recordOf (recordAt x v) .reserved) (sym (s .table-is)) ∙ ap (λ (k : RecordNumbers). k .reserved) (sym is) ∙ e in
       record { within = omega arith; none-in = λ _. rw (record-not (rs s) v q); volume = λ h. absurd (omega arith); some-in = λ h. absurd (omega arith) }
 
   -- ---- in the map
 
-  abbrev pub refused : Option Refusal
-  refused = refusal1112 (taken g n (viewsOf g image)) (rs s) (fs s) (ps s)
-
   -- an entry of a volume is the first of the map if the volumes below have none
-  pub refused-here : {v : ℕ} → v < 128 → {k : ℕ} → VolumeMisfit g n image map count v k → k < count → ((w : ℕ) → w < v → misfitIn (rs s) (fs s) w ≡ none)
-      → misfitRefusal map count k ≡ refused
+  pub refused-here : {v : ℕ} → v < 128 → {k : ℕ} → VolumeMisfit (mediumOf g n image) map count v k → k < count → ((w : ℕ) → w < v → misfitIn (rs s) (fs s) w ≡ none)
+      → misfitRefusal map count k ≡ tableRefusal (mediumOf g n image)
   unfolding misfitAt
   refused-here {v} hv {k} m h z =
-      let p : ps s v (lebWord map k) ≡ some (pebWord map k) = rw (m .volume h) at (place-is s h) in
-      rw (lt-ltb k count h, s .taken-is, first-lowest 128 (misfitIn (rs s) (fs s)) v (lebWord map k) hv (m .some-in h) z, p)
+      let p : ps s v (lnumWord map k) ≡ some (pebWord map k) = rw (m .volume h) at (place-is s h) in
+      rw (lt-ltb k count h, s .taken-is, first-lowest 128 (misfitIn (rs s) (fs s)) v (lnumWord map k) hv (m .some-in h) z, p)
 
-  pub not-refused : ((w : ℕ) → w < 128 → misfitIn (rs s) (fs s) w ≡ none) → misfitRefusal map count count ≡ refused
+  pub not-refused : ((w : ℕ) → w < 128 → misfitIn (rs s) (fs s) w ≡ none) → misfitRefusal map count count ≡ tableRefusal (mediumOf g n image)
   unfolding misfitAt
   not-refused z =
       let h : count ≤ count = omega arith in
       rw (le-ltb count count h, s .taken-is, first-none 128 (misfitIn (rs s) (fs s)) z)
 
   -- so where the search finds none, no entry is a misfit
-  pub fitting : (k : ℕ) → misfitRefusal map count k ≡ refused → count ≤ k → Fitting g n image map t count
-  fitting k e h =
+  pub none-misfits : (k : ℕ) → misfitRefusal map count k ≡ tableRefusal (mediumOf g n image) → count ≤ k → NoMisfit g n image map table count
+  none-misfits k e h =
       let q : misfitRefusal map count k ≡ none = rw (le-ltb k count h) in
-      record { sorted = s; none12 = misfits-none (taken g n (viewsOf g image)) (rs s) (fs s) (ps s) (sym e ∙ q) }
+      record { sorted = s; none12 = misfits-none (taken (mediumOf g n image)) (rs s) (fs s) (ps s) (sym e ∙ q) }

@@ -1,33 +1,36 @@
 -- The words of the sorted map: what each entry says, where each mapped LEB's entry is, and their order. Assumes nothing.
 use mathlib.Core.Path.{_≡_, refl, sym, ap, ap₂, _∙_}
-use mathlib.Core.Logic.{_⊎_, inl, ⊎-elim}
-use mathlib.Core.Option.{none, some}
+use mathlib.Core.Logic.{inl, ⊎-elim}
+use mathlib.Core.Option.{some}
 use mathlib.Core.List.{List, [], _∷_}
-use Prim.Native.Nat.{ℕ, zero, suc, _+_, _-_, _*_, _≤_, _<_}
+use Prim.Native.Nat.{ℕ, zero, suc, _+_, _*_, _≤_, _<_}
 use native.Mathlib.Nat.{mul-le-mul-right, min-le-left}
 use native.Mathlib.Omega.{arith}
 use borrow.Author.Tests.{leb-true, ltb-true, ltb-false}
-use lib.Dec.{ltb, leb}
+use lib.Dec.{ltb}
 use lib.ListN.{length, getD, length-append, length-take, List·getD-append}
 use lib.Seq.{getD-take}
-use Rattle.base.specs.Answers.{mapO}
+use Rattle.base.specs.Answers.{given, mapO}
 use Rattle.base.proofs.Answers.{each-holds}
 use Rattle.geometry.specs.declared.Geometry.{Geometry}
 use Rattle.header.specs.Vid.{layoutVolume}
 use Rattle.volume_table.specs.Table.{recordCount, recordsPart, tableTests, tableGood}
-use Rattle.report.specs.View.{Copy, viewsOf, copies}
+use Rattle.report.specs.View.{Copy, Medium, mediumOf, viewsOf, copies}
 use Rattle.report.specs.Choice.{chosen}
-use Rattle.report.specs.Volumes.{Faces, Places, faceOf, facesOf, placesOf, layoutContent, tableLeb, tableRecords, recordFor, reservedOf, Entry, mapOf}
-use Rattle.report.specs.Report.{faces, places, records, entries}
+use Rattle.report.specs.Volumes.{Faces, Places, faceOf, facesOf, placesOf, tableLeb, tableRecords, recordFor, reservedOf, Entry, mapOf}
+use Rattle.report.specs.Report.{faces, places, records, entries, taken}
 use Rattle.report.specs.Attach.{entryWords, mapWords}
-use Rattle.report.proofs.First.{none-some}
+use Rattle.base.proofs.Answers.{none-some}
 use Rattle.report.proofs.Choice.{chosen-at}
 use Rattle.report.proofs.Map.{Ascending, Before, Listed, in-map, map-has, map-ascends}
-use Rattle.report.proofs.Tables.{TakenFrom, taken}
+use Rattle.report.proofs.Tables.{taken as taken-from}
+use Rattle.report.proofs.Words.{entry-words-length}
 use Rattle.copies.specs.InPlace.{copyAt, HasCopy}
 use Rattle.copies.proofs.Copies.{copy-is}
-use Rattle.volumes.specs.Sorted.{faceAt, volumeWord, lebWord, pebWord, Entries, Sorted}
-use Rattle.volumes.proofs.Temp.{by-test, by-option, getD-mem, mem-getD}
+use Rattle.words.specs.Words.{volumeWord, lnumWord, pebWord}
+use Rattle.volumes.specs.Sorted.{faceAt, Entries, SortedMap}
+use Rattle.base.proofs.Answers.{by-test, by-option}
+use Rattle.base.proofs.Lists.{getD-mem, mem-getD}
 
 -- ---- a list of entries, by number
 
@@ -46,10 +49,6 @@ nth-before (e ∷ es) a (suc i) (suc j) h k = nth-before es (a .1) i j (omega ar
 abbrev triple : Entry → List ℕ
 triple e = e .volume ∷ e .lnum ∷ e .peb ∷ []
 
-length-words : (es : List Entry) → length (entryWords es) ≡ length es * 3
-length-words [] = refl
-length-words (e ∷ es) = omega (arith, length-words es)
-
 words-at : (es : List Entry) (k j : ℕ) → k < length es → j < 3 → getD (entryWords es) (k * 3 + j) 0 ≡ getD (triple (nth es k)) j 0
 words-at [] k j h l = absurd (omega arith)
 words-at (e ∷ es) zero zero h l = refl
@@ -60,38 +59,34 @@ words-at (e ∷ es) (suc k) j h l =
     let q : suc k * 3 + j ≡ suc (suc (suc (k * 3 + j))) = omega arith in
     rw q (words-at es k j (omega arith) l)
 
-module _ {g : Geometry} {n : ℕ} {image map t : List ℕ} {count : ℕ} (s : Sorted g n image map t count) where
+-- the records of the table taken are whole
+pub records-long : (m : Medium) {l : ℕ} → taken m ≡ given l → length (records m) ≡ 172 * recordCount (m .geometry .«leb_size»)
+unfolding tableLeb tableRecords tableGood tableTests recordsPart
+records-long m e =
+    let g = m .geometry in
+    let f = taken-from (g .«leb_size») (g .unit) (m .count) _ _ _ e in
+    let c = recordCount (g .«leb_size») in
+    let p = recordsPart (g .«leb_size») (f .content) in
+    let a : 172 * c ≤ length p = leb-true (172 * c) (length p) (each-holds (tableTests c (g .«leb_size») (g .unit) (m .count) p) (f .good) 1) in
+    let b : length p ≤ 172 * c = rw length-take (min-le-left (172 * c) (length (f .content))) in
+    rw (f .is) (omega arith)
+
+module _ {g : Geometry} {n : ℕ} {image map table : List ℕ} {count : ℕ} (s : SortedMap g n image map table count) where
   abbrev pub fs : Faces
-  fs = faces g n (viewsOf g image)
+  fs = faces (mediumOf g n image)
 
   abbrev pub ps : Places
-  ps = places g n (viewsOf g image)
+  ps = places (mediumOf g n image)
 
   abbrev pub rs : List ℕ
-  rs = records g n (viewsOf g image)
+  rs = records (mediumOf g n image)
 
   abbrev pub es : List Entry
-  es = entries g n (viewsOf g image)
+  es = entries (mediumOf g n image)
 
-  -- ---- the table taken
-
-  abbrev copy : ℕ → List ℕ
-  copy l = layoutContent (fs layoutVolume l)
-
-  from : TakenFrom (g .«leb_size») (g .unit) n (copy 0) (copy 1) rs
-  unfolding tableLeb tableRecords
-  from = taken (g .«leb_size») (g .unit) n (copy 0) (copy 1) (s .leb) (s .taken-is)
-
-  -- it is whole
-  pub table-long : length t ≡ 172 * recordCount (g .«leb_size»)
-  unfolding tableGood tableTests recordsPart
-  table-long =
-      let c = recordCount (g .«leb_size») in
-      let p = recordsPart (g .«leb_size») (from .content) in
-      let e : t ≡ p = s .table-is ∙ from .is in
-      let a : 172 * c ≤ length p = leb-true (172 * c) (length p) (each-holds (tableTests c (g .«leb_size») (g .unit) n p) (from .good) 1) in
-      let b : length p ≤ 172 * c = rw length-take (min-le-left (172 * c) (length (from .content))) in
-      rw e (omega arith)
+  -- the table is whole
+  pub table-long : length table ≡ 172 * recordCount (g .«leb_size»)
+  table-long = ap length (s .table-is) ∙ records-long (mediumOf g n image) (s .taken-is)
 
   -- ---- faces and places
 
@@ -120,21 +115,21 @@ module _ {g : Geometry} {n : ℕ} {image map t : List ℕ} {count : ℕ} (s : So
   unfolding mapWords
   within =
       let e = simp (length-take, length-append) at (ap length (s .words)) in
-      omega (arith, e, length-words es, s .count-is)
+      omega (arith, e, entry-words-length es, s .count-is)
 
   word : (k j : ℕ) → k < count → j < 3 → getD map (k * 3 + j) 0 ≡ getD (triple (nth es k)) j 0
   unfolding mapWords
   word k j h l =
       sym (getD-take (n * 3) map (k * 3 + j) 0 (omega (arith, within)))
       ∙ ap (λ (w : List ℕ). getD w (k * 3 + j) 0) (s .words)
-      ∙ List·getD-append (entryWords es) _ 0 (k * 3 + j) (omega (arith, length-words es, s .count-is))
+      ∙ List·getD-append (entryWords es) _ 0 (k * 3 + j) (omega (arith, entry-words-length es, s .count-is))
       ∙ words-at es k j (omega (arith, s .count-is)) l
 
   module _ {k : ℕ} (h : k < count) where
     pub volume-is : volumeWord map k ≡ nth es k .volume
     volume-is = let e : k * 3 ≡ k * 3 + 0 = omega arith in rw e (word k 0 h (omega arith))
 
-    leb-is : lebWord map k ≡ nth es k .lnum
+    leb-is : lnumWord map k ≡ nth es k .lnum
     leb-is = word k 1 h (omega arith)
 
     peb-is : pebWord map k ≡ nth es k .peb
@@ -145,11 +140,11 @@ module _ {g : Geometry} {n : ℕ} {image map t : List ℕ} {count : ℕ} (s : So
     unfolding entries mapOf
     listed = in-map 128 2 rs ps (nth es k) (getD-mem no-entry es k (omega (arith, s .count-is)))
 
-    pub place-is : ps (volumeWord map k) (lebWord map k) ≡ some (pebWord map k)
+    pub place-is : ps (volumeWord map k) (lnumWord map k) ≡ some (pebWord map k)
     place-is = rw (volume-is, leb-is, peb-is) (listed .place)
 
     -- a user volume's LEBs are below reserved
-    pub leb-below : volumeWord map k < 128 → lebWord map k < reservedOf (recordFor rs (volumeWord map k))
+    pub leb-below : volumeWord map k < 128 → lnumWord map k < reservedOf (recordFor rs (volumeWord map k))
     leb-below l =
         rw (volume-is, leb-is)
         (⊎-elim (λ (q : (nth es k .volume < 128) × (nth es k .lnum < reservedOf (recordFor rs (nth es k .volume)))). q .1)
@@ -158,8 +153,8 @@ module _ {g : Geometry} {n : ℕ} {image map t : List ℕ} {count : ℕ} (s : So
 
     pub mapped-here : HasCopy g image (pebWord map k)
     mapped-here =
-        let e = place-chosen (volumeWord map k) (lebWord map k) (pebWord map k) place-is in
-        let c = chosen-at n (copies (viewsOf g image)) (volumeWord map k) (lebWord map k) (pebWord map k) (copyAt g image (pebWord map k)) e in
+        let e = place-chosen (volumeWord map k) (lnumWord map k) (pebWord map k) place-is in
+        let c = chosen-at n (copies (viewsOf g image)) (volumeWord map k) (lnumWord map k) (pebWord map k) (copyAt g image (pebWord map k)) e in
         record {
           placed = s .placed;
           bytes = omega (arith, s .whole, mul-le-mul-right (g .«peb_size») (c .0));
@@ -171,7 +166,7 @@ module _ {g : Geometry} {n : ℕ} {image map t : List ℕ} {count : ℕ} (s : So
 
   -- the entry of a mapped LEB
   pub index-of : {v l p : ℕ} → v < 128 → l < reservedOf (recordFor rs v) → ps v l ≡ some p
-      → (k : ℕ) × (k < count) × (volumeWord map k ≡ v) × (lebWord map k ≡ l) × (pebWord map k ≡ p)
+      → (k : ℕ) × (k < count) × (volumeWord map k ≡ v) × (lnumWord map k ≡ l) × (pebWord map k ≡ p)
   unfolding entries mapOf
   index-of {v} {l} {p} hv hl e =
       let x : Entry = record { volume = v; lnum = l; peb = p } in
@@ -185,7 +180,7 @@ module _ {g : Geometry} {n : ℕ} {image map t : List ℕ} {count : ℕ} (s : So
       )
 
   -- of one volume, the lower LEB comes first
-  pub lower-first : {i j : ℕ} → i < count → j < count → volumeWord map i ≡ volumeWord map j → lebWord map i < lebWord map j → i < j
+  pub lower-first : {i j : ℕ} → i < count → j < count → volumeWord map i ≡ volumeWord map j → lnumWord map i < lnumWord map j → i < j
   unfolding entries mapOf
   lower-first {i} {j} hi hj e l =
       by-test (ltb i j) (λ p. ltb-true i j p) (λ p. by-test (ltb j i)
@@ -194,5 +189,5 @@ module _ {g : Geometry} {n : ℕ} {image map t : List ℕ} {count : ℕ} (s : So
       (λ (z : (nth es j .volume ≡ nth es i .volume) × (nth es j .lnum < nth es i .lnum)). absurd (omega (arith, leb-is hi, leb-is hj)))
       (nth-before es (map-ascends 128 2 rs ps (omega arith)) j i (ltb-true j i q) (omega (arith, s .count-is))))
       (λ q. let z : i ≡ j = omega (arith, ltb-false i j p, ltb-false j i q) in
-      let y : lebWord map i ≡ lebWord map j = ap (lebWord map) z in
+      let y : lnumWord map i ≡ lnumWord map j = ap (lnumWord map) z in
       absurd (omega arith)))

@@ -8,9 +8,6 @@ use Rattle.volumes.specs.Sorted.{faultAt}
 use Rattle.base.proofs.Below.{one-more, any-intro, none-intro}
 use Rattle.volumes.proofs.entries.any_faulty.Statement.{statement}
 use Rattle.volumes.proofs.entries.any_faulty.Tie as tie
-use Rattle.volumes.proofs.entries.any_faulty.Reads as reads
-use Rattle.volumes.proofs.entries.any_faulty.Lts as lts
-use Rattle.volumes.proofs.entries.fault_at.Reads as fault-at-reads
 
 abbrev Inv-loop : tie.InvT-loop
 Inv-loop image g map count v asks k₀ k = (k ≤ count) × ((j : ℕ) → j < k → faultAt g image map v asks j ≡ false)
@@ -19,25 +16,16 @@ abbrev μ-loop : tie.MeasureT-loop
 μ-loop image g map count v asks k₀ k = count - k
 
 abbrev bad : tie.Start Inv-loop μ-loop → ℕ → Bool
-bad d = let a = d .args in faultAt (a .g) (a .image .now) (a .map .now) (a .v) (a .asks)
+bad d = let a = d .args in faultAt (a .g) (a .image .now) (a .map .now) (a .volume) (a .asks)
 
 loop-holds : tie.Need-loop-holds Inv-loop μ-loop
 loop-holds c = (omega arith, λ j h. absurd (omega arith))
-
-fault-at-requires : tie.Need-fault-at-requires Inv-loop μ-loop
-fault-at-requires c κs = search needs
 
 returns : tie.Need-returns Inv-loop μ-loop
 returns c =
     let l = c .before .before .before in
     let d = l .before .before .before in
     sym (any-intro (d .args .count) (bad d) (l .loop .k) (omega arith) (sym (c .before .fault-at .ensures) ∙ c .if1 .taken))
-
-add-k : tie.Need-add-k Inv-loop μ-loop
-add-k c = search needs
-
-loop-less : tie.Need-loop-less Inv-loop μ-loop
-loop-less c = search needs
 
 loop-again : tie.Need-loop-again Inv-loop μ-loop
 loop-again c =
@@ -58,9 +46,9 @@ any-faulty-spec =
     Inv-loop
     μ-loop
     loop-holds
-    fault-at-requires
+    (λ c κs. search needs)
     returns
-    add-k
-    loop-less
+    (λ c. search needs)
+    (λ c. search needs)
     loop-again
     returns-2)

@@ -1,7 +1,6 @@
 -- `volumes::entries::entry_faulty` meets its contract. Assumes nothing.
 use mathlib.Core.Path.{_≡_}
 use mathlib.Core.Bool.{true}
-use Prim.Native.Nat.{_-_}
 use borrow.Author.Needs.{needs}
 use borrow.Author.Tests.{eq-eqb, ne-eqb}
 use lib.Dec.{eqb}
@@ -12,30 +11,13 @@ use Rattle.volumes.specs.Sorted.{faceAt}
 use Rattle.volumes.proofs.Faces.{fault-unasked, fault-dynamic, fault-static}
 use Rattle.volumes.proofs.entries.entry_faulty.Statement.{statement}
 use Rattle.volumes.proofs.entries.entry_faulty.Tie as tie
-use Rattle.volumes.proofs.entries.entry_faulty.Reads as reads
-use Rattle.volumes.proofs.entries.entry_faulty.Lts as lts
-use Rattle.copies.proofs.header_field.Reads as header-field-reads
-use Rattle.copies.proofs.is_sound.Reads as is-sound-reads
-use Rattle.copies.proofs.matches.Reads as matches-reads
 
 abbrev face : tie.Start → Face
 face d = faceAt (d .args .g) (d .args .image .now) (d .args .i)
 
-is-sound-requires : tie.Need-is-sound-requires
-is-sound-requires c κs = search needs
-
 returns : tie.Need-returns
 unfolding faceOf
 returns c = let d = c .before .before .before in fault-unasked (d .args .asks) (face d) (c .before .if1 .taken) (c .is-sound .ensures)
-
-header-field-requires : tie.Need-header-field-requires
-header-field-requires c κs = search needs
-
-cast-if2 : tie.Need-cast-if2
-cast-if2 c = search needs
-
-is-sound-requires-2 : tie.Need-is-sound-requires-2
-is-sound-requires-2 c κs = search needs
 
 returns-2 : tie.Need-returns-2
 unfolding faceOf copyOf
@@ -44,9 +26,6 @@ returns-2 c =
     let d = h .before .before .before in
     let e : face d .right ≡ true = rw (← (h .header-field .ensures), ne-eqb _ _ (c .before .if2 .taken)) in
     fault-dynamic (d .args .asks) (face d) e (c .is-sound2 .ensures)
-
-matches-requires : tie.Need-matches-requires
-matches-requires c κs = search needs
 
 returns-3 : tie.Need-returns-3
 unfolding faceOf copyOf
@@ -61,11 +40,11 @@ pub entry-faulty-spec : {M : Type 1} → statement M
 entry-faulty-spec =
     tie.close
     (tie.spec
-    is-sound-requires
+    (λ c κs. search needs)
     returns
-    header-field-requires
-    cast-if2
-    is-sound-requires-2
+    (λ c κs. search needs)
+    (λ c. search needs)
+    (λ c κs. search needs)
     returns-2
-    matches-requires
+    (λ c κs. search needs)
     returns-3)

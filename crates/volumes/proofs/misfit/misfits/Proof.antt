@@ -1,29 +1,13 @@
 -- `volumes::misfit::misfits` meets its contract. Assumes nothing.
-use Prim.Native.Nat.{_-_}
 use borrow.Author.Needs.{needs}
 use borrow.Author.Tests.{eq-eqb, ne-eqb}
 use Rattle.volumes.specs.Sorted.{misfitBy}
 use Rattle.volumes.proofs.misfit.misfits.Statement.{statement}
 use Rattle.volumes.proofs.misfit.misfits.Tie as tie
-use Rattle.volumes.proofs.misfit.misfits.Reads as reads
-use Rattle.volumes.proofs.misfit.misfits.Lts as lts
-use Rattle.copies.proofs.header_field.Reads as header-field-reads
-
-header-field-requires : tie.Need-header-field-requires
-header-field-requires c κs = search needs
-
-cast-if1 : tie.Need-cast-if1
-cast-if1 c = search needs
 
 returns : tie.Need-returns
 unfolding misfitBy
 returns c = rw (← (c .before .before .header-field .ensures), ne-eqb _ _ (c .if1 .taken))
-
-header-field-requires-2 : tie.Need-header-field-requires-2
-header-field-requires-2 c κs = search needs
-
-cast-if2 : tie.Need-cast-if2
-cast-if2 c = search needs
 
 returns-2 : tie.Need-returns-2
 unfolding misfitBy
@@ -36,9 +20,6 @@ returns-2 c =
       ne-eqb _ _ (c .if2 .taken),
     )
 
-cast-if3 : tie.Need-cast-if3
-cast-if3 c = search needs
-
 returns-3 : tie.Need-returns-3
 unfolding misfitBy
 returns-3 c =
@@ -50,9 +31,6 @@ returns-3 c =
       eq-eqb _ _ (c .before .if2 .left),
       ne-eqb _ _ (c .if3 .taken),
     )
-
-header-field-requires-3 : tie.Need-header-field-requires-3
-header-field-requires-3 c κs = search needs
 
 returns-4 : tie.Need-returns-4
 unfolding misfitBy
@@ -68,9 +46,6 @@ returns-4 c =
       eq-eqb _ _ (c .before .before .if3 .left),
       ne-eqb _ _ (c .if4 .taken),
     )
-
-cast-result : tie.Need-cast-result
-cast-result c = search needs
 
 returns-5 : tie.Need-returns-5
 unfolding misfitBy
@@ -91,15 +66,15 @@ pub misfits-spec : {M : Type 1} → statement M
 misfits-spec =
     tie.close
     (tie.spec
-    header-field-requires
-    cast-if1
+    (λ c κs. search needs)
+    (λ c. search needs)
     returns
-    header-field-requires-2
-    cast-if2
+    (λ c κs. search needs)
+    (λ c. search needs)
     returns-2
-    cast-if3
+    (λ c. search needs)
     returns-3
-    header-field-requires-3
+    (λ c κs. search needs)
     returns-4
-    cast-result
+    (λ c. search needs)
     returns-5)
