@@ -1,11 +1,12 @@
 -- Laws of answers and rules. Assumes nothing.
 use mathlib.Core.Path.{_≡_, refl, sym, _∙_}
 use mathlib.Core.Logic.{_⊎_, inl, inr}
-use mathlib.Core.Bool.{Bool, true, false, _&&_, _||_, cond, true≢false, false≢true}
+use mathlib.Core.Bool.{Bool, true, false, not, _&&_, _||_, cond, true≢false, false≢true}
 use mathlib.Core.Option.{Option, none, some}
 use mathlib.Core.List.{List, [], _∷_}
 use Prim.Native.Nat.{ℕ, zero, suc}
 use native.Mathlib.Omega.{arith}
+use borrow.Author.Tests.{not-true, not-false}
 use lib.ListN.{getD}
 use Rattle.base.specs.Answers.{orElse, mapO, allOf}
 
@@ -33,8 +34,12 @@ pub same-test : (a b : Bool) → (a ≡ true → b ≡ true) → (b ≡ true →
 same-test true b f g = sym (f refl)
 same-test false b f g = sym (not-so b (λ e. false≢true (g e)))
 
-pub and-true : (b : Bool) → b && true ≡ b
-and-true b = either-way (λ x. x && true ≡ x) b refl refl
+-- what a callee answered, past a branch on `!answer`
+pub was-false : {r s : Bool} → r ≡ s → not r ≡ true → s ≡ false
+was-false {r} p q = sym p ∙ not-true r q
+
+pub was-true : {r s : Bool} → r ≡ s → not r ≡ false → s ≡ true
+was-true {r} p q = sym p ∙ not-false r q
 
 pub and-left : (a b : Bool) → a && b ≡ true → a ≡ true
 and-left true b e = refl

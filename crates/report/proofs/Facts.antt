@@ -1,16 +1,17 @@
 -- What is known of an image that attaches, refusal by refusal, and what is enough for it to attach. Assumes nothing.
 use mathlib.Core.Path.{_≡_, refl, sym, _∙_, ap}
-use mathlib.Core.Logic.{_≢_, _⊎_, ⊎-elim}
-use mathlib.Core.Bool.{Bool, true, false, not, _&&_, _||_, cond}
+use mathlib.Core.Logic.{_≢_, ⊎-elim}
+use mathlib.Core.Bool.{Bool, true, false, not, _&&_}
 use mathlib.Core.Option.{Option, none, some}
-use Prim.Native.Nat.{ℕ, _<_}
+use Prim.Native.Nat.{ℕ, _≤_, _<_}
 use native.Mathlib.Omega.{arith}
-use lib.Dec.{eqb, ltb}
-use borrow.Author.Tests.{eqb-true, eq-eqb, ltb-true, ltb-false, not-false}
-use Rattle.base.specs.Answers.{mapO}
-use Rattle.base.specs.Below.{allBelow, anyBelow, firstBelow}
-use Rattle.base.proofs.Answers.{clash, and-left, and-right, orElse-none}
-use Rattle.base.proofs.Below.{eq-or-ne, all-at, none-at, none-intro, first-none-at, first-none, first-hit}
+use lib.Dec.{eqb}
+use borrow.Author.Tests.{eqb-true, eq-eqb, not-false}
+use Rattle.base.specs.Below.{allBelow, anyBelow}
+use Rattle.base.proofs.Answers.{clash, by-test, none-some, and-left, and-right, orElse-none}
+pub use Rattle.base.proofs.Answers.{mapO-none}
+pub use Rattle.base.proofs.Below.{first-some}
+use Rattle.base.proofs.Below.{eq-or-ne, lt-or-le, all-at, none-at, none-intro, first-none-at, first-none, first-hit}
 use Rattle.geometry.specs.declared.Geometry.{Geometry}
 use Rattle.header.specs.declared.EcHeader.{EcHeader}
 use Rattle.report.specs.View.{
@@ -33,23 +34,11 @@ use Rattle.report.specs.View.{
   copies,
   isMappable,
 }
-use Rattle.report.specs.Scan.{
-  Refusal,
-  when,
-  differs,
-  imageSeq,
-  ecRefusal,
-  vidRefusal,
-  viewRefusal,
-  atPeb,
-  refusal5678,
-  refusal10,
-}
+use Rattle.report.specs.Scan.{when, differs, imageSeq, ecRefusal, vidRefusal, viewRefusal, atPeb, refusal5678, refusal10}
 use Rattle.report.specs.Class.{isUnused}
 use Rattle.report.specs.Choice.{ofKey, repeats, refusal9, pick, chosen}
 use Rattle.report.specs.Volumes.{tableLeb, refusal1112}
 use Rattle.report.specs.Report.{faces, places, records, refusal}
-use Rattle.report.proofs.First.{none-some}
 use Rattle.report.proofs.Choice.{IsChoice, choice-sequence, pick-some, pick-literal, ofKey-some}
 
 -- ---- answers and tests
@@ -58,19 +47,8 @@ pub when-none : (b : Bool) (k : ℕ) → when b k ≡ none → b ≡ false
 when-none true k e = none-some (sym e)
 when-none false k e = refl
 
-pub mapO-none : {A B : Type 0} (f : A → B) (x : Option A) → mapO f x ≡ none → x ≡ none
-mapO-none f none e = refl
-mapO-none f (some a) e = none-some (sym e)
-
 pub differs-false : (s x : ℕ) → differs (some s) x ≡ false → x ≡ s
 differs-false s x e = eqb-true x s (not-false (eqb x s) e)
-
-pub first-some : {A : Type 0} (n : ℕ) (f : ℕ → Option A) (i : ℕ) (a : A) → i < n → f i ≡ some a → (x : ℕ × A) × (firstBelow n f ≡ some x)
-first-some {A} n f i a h e = go (firstBelow n f) refl
-  where
-    go : (o : Option (ℕ × A)) → firstBelow n f ≡ o → (x : ℕ × A) × (firstBelow n f ≡ some x)
-    go none q = none-some (sym (first-none-at n f q i h) ∙ e)
-    go (some x) q = (x, q)
 
 -- ---- the four parts of attaching
 
@@ -173,13 +151,15 @@ module _ (n : ℕ) (cs : ℕ → Option Copy) where
   pub one-sequence : refusal9 n cs ≡ none → (i j : ℕ) (c d : Copy) → i < n → j < n → cs i ≡ some c → cs j ≡ some d
       → isMappable (c .header .volume) ≡ true → c .header .volume ≡ d .header .volume → c .header .lnum ≡ d .header .lnum
       → c .header .sequence ≡ d .header .sequence → i ≡ j
-  one-sequence e i j c d hi hj p q m v l s = ⊎-elim (λ z. z) (λ (ne : i ≢ j). go ne (ltb j i) refl) (eq-or-ne i j)
+  one-sequence e i j c d hi hj p q m v l s = ⊎-elim (λ z. z) go (eq-or-ne i j)
     where
-      go : i ≢ j → (b : Bool) → ltb j i ≡ b → i ≡ j
-      go ne true b = clash (rw (p, q) at (none9-at e i j hi (ltb-true j i b))) (rw (m, eq-eqb _ _ v, eq-eqb _ _ l, eq-eqb _ _ s))
-      go ne false b =
-          clash (rw (p, q) at (none9-at e j i hj (omega (arith, ltb-false j i b))))
-          (rw (← v, m, eq-eqb _ _ (sym l), eq-eqb _ _ (sym s), eq-eqb (c .header .volume) (c .header .volume) refl))
+      go : i ≢ j → i ≡ j
+      go ne =
+          ⊎-elim
+          (λ (b : j < i). clash (rw (p, q) at (none9-at e i j hi b)) (rw (m, eq-eqb _ _ v, eq-eqb _ _ l, eq-eqb _ _ s)))
+          (λ (b : i ≤ j). clash (rw (p, q) at (none9-at e j i hj (omega arith)))
+          (rw (← v, m, eq-eqb _ _ (sym l), eq-eqb _ _ (sym s), eq-eqb (c .header .volume) (c .header .volume) refl)))
+          (lt-or-le j i)
 
   -- so 01's words leave one choice, whatever the order of the PEBs
   module _ (e : refusal9 n cs ≡ none) (v l : ℕ) (m : isMappable v ≡ true) where
@@ -210,12 +190,8 @@ module _ (n : ℕ) (cs : ℕ → Option Copy) where
 
 -- a copy is of class 1, 2, 5 or 6
 pub copy-unused : (e : EcView) (c : Copy) → isUnused e (vidGood c) ≡ false
-copy-unused e c = go (isMappable (c .header .volume)) (eqb (c .header .compat) 1)
-  where
-    go : (b d : Bool) → eqb (cond b 2 (cond d 5 6)) 0 || eqb (cond b 2 (cond d 5 6)) 3 ≡ false
-    go true d = refl
-    go false true = refl
-    go false false = refl
+copy-unused e c =
+    by-test (isMappable (c .header .volume)) (λ q. rw q) (λ q. rw q (by-test (eqb (c .header .compat) 1) (λ r. rw r) (λ r. rw r)))
 
 some-not-unused : (e : EcView) (v : VidView) (c : Copy) → goodVid v ≡ some c → isUnused e v ≡ false
 some-not-unused e (vidGood d) c q = copy-unused e d
@@ -229,8 +205,6 @@ unusedIn m i = isUnused (m .views i .ec) (m .views i .vid)
 -- enough for no refusal 10: a copy
 pub no-10 : (m : Medium) (i : ℕ) (c : Copy) → i < m .count → copies (m .views) i ≡ some c → refusal10 m ≡ none
 unfolding refusal10
-no-10 m i c h e = go (allBelow (m .count) (unusedIn m)) refl
-  where
-    go : (b : Bool) → allBelow (m .count) (unusedIn m) ≡ b → mapO {B = Refusal} (λ (k : ℕ). record { number = k; place = 0 }) (when b 10) ≡ none
-    go true q = clash (some-not-unused (m .views i .ec) (m .views i .vid) c e) (all-at (m .count) (unusedIn m) q i h)
-    go false q = refl
+no-10 m i c h e =
+    by-test (allBelow (m .count) (unusedIn m))
+    (λ q. clash (some-not-unused (m .views i .ec) (m .views i .vid) c e) (all-at (m .count) (unusedIn m) q i h)) (λ q. rw q)

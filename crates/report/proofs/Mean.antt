@@ -1,26 +1,20 @@
 -- The mean "lies between the lowest and the highest good counter", and is 0 where there is none. Assumes nothing.
 use mathlib.Core.Path.{_≡_, refl}
 use mathlib.Core.Logic.{_⊎_, inl, inr, ⊎-elim}
-use mathlib.Core.Bool.{Bool, true, false, cond}
+use mathlib.Core.Bool.{cond}
 use mathlib.Core.Option.{Option, none, some}
 use Prim.Native.Nat.{ℕ, zero, suc, _+_, _*_, _≤_, _<_}
 use native.Mathlib.Nat.{mul-add, mul-comm, le-div-iff-mul-le, div-le-of-le-mul, div-zero}
 use native.Mathlib.Omega.{arith}
-use lib.Dec.{ltb}
-use borrow.Author.Tests.{ltb-true, ltb-false}
 use Rattle.base.specs.Below.{countBelow, sumBelow}
-use Rattle.base.proofs.Below.{below-suc}
+use Rattle.base.proofs.Below.{below-suc, lt-or-le}
 use Rattle.header.specs.declared.EcHeader.{EcHeader}
 use Rattle.report.specs.View.{Medium, ecs}
 use Rattle.report.specs.Report.{counterOr, hasCounter, meanOf}
 use Rattle.report.proofs.First.{First, first}
 
 le-or : (a b : ℕ) → (a ≤ b) ⊎ (b ≤ a)
-le-or a b = go (ltb a b) refl
-  where
-    go : (t : Bool) → ltb a b ≡ t → (a ≤ b) ⊎ (b ≤ a)
-    go true e = inl (omega (arith, ltb-true a b e))
-    go false e = inr (ltb-false a b e)
+le-or a b = ⊎-elim (λ (h : a < b). inl (omega arith)) (λ (h : b ≤ a). inr h) (lt-or-le a b)
 
 module _ (f : ℕ → Option EcHeader) where
   -- the sum of the good counters below n, and their number

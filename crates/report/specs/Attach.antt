@@ -8,7 +8,9 @@ use lib.Dec.{eqb, leb}
 use lib.ListN.{length, drop, replicate}
 use Rattle.base.specs.Answers.{Answer, given, refused, allOf}
 use Rattle.base.specs.Lists.{table}
+pub use Rattle.words.specs.Words.{pebWordsNeeded, mapWordsNeeded, stateWordsNeeded}
 use Rattle.base.specs.Below.{concatBelow}
+pub use Rattle.geometry.specs.Image.{pebCount, imageRules}
 use Rattle.geometry.specs.Slip.{slipGeometry}
 use Rattle.geometry.specs.declared.Geometry.{Geometry}
 use Rattle.report.specs.View.{Medium, mediumOf, copies}
@@ -18,25 +20,6 @@ use Rattle.report.specs.Report.{classAt, counterAt, entries, stateAt, me
 use Rattle.report.specs.declared.Report.{Report}
 use Rattle.report.specs.declared.Attached.{Attached}
 use Rattle.report.specs.declared.Attached.the-variants.{Given, Refused}
-
-abbrev pub pebCount : Geometry → List ℕ → ℕ
-pebCount g image = length image / g .«peb_size»
-
--- refusal 3: "image not 2 to 4,096 whole PEBs"
-unfoldable pub imageRules : Geometry → List ℕ → List Bool
-imageRules g image =
-    eqb (length image % g .«peb_size») 0 ∷ leb 2 (pebCount g image) ∷ leb (pebCount g image) 4096 ∷ []
-
--- the words that the report needs of each lent table: "Per PEB two u32 words", "up to 3 times PEB count in the map",
--- "128 words"
-abbrev pub pebWordsNeeded : ℕ → ℕ
-pebWordsNeeded n = n * 2
-
-abbrev pub mapWordsNeeded : ℕ → ℕ
-mapWordsNeeded n = n * 3
-
-abbrev pub stateWordsNeeded : ℕ
-stateWordsNeeded = 128
 
 -- the lent tables: the words of the PEBs, of the map and of the volume states
 pub record Tables : Type 0 where

@@ -5,6 +5,7 @@ use mathlib.Core.Option.{Option, none, some}
 use mathlib.Core.List.{List}
 use lib.Dec.{eqb, ltb}
 use Rattle.base.specs.Answers.{Answer, orElse}
+pub use Rattle.words.specs.Words.{noWord}
 use Rattle.base.specs.Below.{allBelow, anyBelow, countBelow, sumBelow, maxBelow}
 use Rattle.header.specs.Vid.{layoutVolume}
 use Rattle.header.specs.declared.EcHeader.{EcHeader}
@@ -27,10 +28,6 @@ use Rattle.report.specs.Volumes.{
   refusal1112,
   stateOf,
 }
-
--- "0xFFFFFFFF"
-abbrev pub noWord : ℕ
-noWord = 0xFFFFFFFF
 
 -- is the PEB the one in which the LEB is found?
 abbrev pub isPlace : Option ℕ → ℕ → Bool

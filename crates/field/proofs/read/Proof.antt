@@ -26,9 +26,6 @@ mul-v c = omega (arith, below-eight (c .before .loop .v) (c .before .loop .i) (o
 byte : (c : tie.After-shared-slice-known Inv-loop μ-loop) → getD (c .before .before .before .args .s .now) (c .before .before .before .args .at + c .before .before .loop .i) 0 < 256
 byte c = omega (arith, c .shared-slice-known .given (c .before .before .before .args .at + c .before .before .loop .i))
 
-cast-v : tie.Need-cast-v Inv-loop μ-loop
-cast-v c = omega (arith, byte c)
-
 add-v-2 : tie.Need-add-v-2 Inv-loop μ-loop
 add-v-2 c = omega (arith, byte c, below-eight (c .before .before .loop .v) (c .before .before .loop .i) (omega arith) (omega arith))
 
@@ -53,7 +50,7 @@ read-spec =
     mul-v
     (λ c. omega arith)
     (λ c. omega arith)
-    cast-v
+    (λ c. omega (arith, byte c))
     add-v-2
     (λ c. omega arith)
     (λ c. omega arith)

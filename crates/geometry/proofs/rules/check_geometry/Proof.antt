@@ -43,15 +43,9 @@ returns-5 : tie.Need-returns-5
 unfolding geometryRules
 returns-5 c = outside (c .before .before .before .before .before .before .before .args .peb-size) (c .before .before .before .before .before .before .before .args .unit) (c .before .before .before .before .before .before .before .args .sub-unit) 4 (lt-leb _ _ (c .if5 .taken))
 
-rem-if6 : tie.Need-rem-if6
-rem-if6 c = omega (arith, unit-small (c .before .before .before))
-
 returns-6 : tie.Need-returns-6
 unfolding geometryRules
 returns-6 c = outside (c .before .before .before .before .before .before .before .before .args .peb-size) (c .before .before .before .before .before .before .before .before .args .unit) (c .before .before .before .before .before .before .before .before .args .sub-unit) 5 (ne-eqb _ _ (c .if6 .taken))
-
-round-up-requires : tie.Need-round-up-requires
-round-up-requires c κs = omega (arith, sub-unit-small (c .before .before .before .before))
 
 add-round-up : tie.Need-add-round-up
 add-round-up c = omega (arith, sub-unit-small (c .before .before .before .before .before))
@@ -81,9 +75,9 @@ check-geometry-spec =
     returns-3
     returns-4
     returns-5
-    rem-if6
+    (λ c. omega (arith, unit-small (c .before .before .before)))
     returns-6
-    round-up-requires
+    (λ c κs. omega (arith, sub-unit-small (c .before .before .before .before)))
     add-round-up
     round-up-requires-2
     add-if7

@@ -12,11 +12,8 @@ use Rattle.volume_table.proofs.record.name_field.Tie as tie
 long : (c : tie.After-field-bytes) → length (c .field-bytes .result .now) ≡ 128
 long c = rw (c .field-bytes .ensures) (length-part 16 128 (c .before .before .before .args .r .now) (omega arith))
 
-store-requires : tie.Need-store-requires
-store-requires c κs = omega (arith, long c)
-
 returns : tie.Need-returns
 returns c = c .before .store .ensures ∙ put-all _ _ (long (c .before .before)) ∙ c .before .before .field-bytes .ensures
 
 pub name-field-spec : {M : Type 1} → statement M
-name-field-spec = tie.close (tie.spec (λ c. search needs) (λ c κs. search needs) store-requires returns)
+name-field-spec = tie.close (tie.spec (λ c. search needs) (λ c κs. search needs) (λ c κs. omega (arith, long c)) returns)

@@ -5,9 +5,6 @@ use Rattle.volume_table.proofs.Tables.{count-small, part-short, part-lo
 use Rattle.volume_table.proofs.table.records_part.Statement.{statement}
 use Rattle.volume_table.proofs.table.records_part.Tie as tie
 
-mul-len : tie.Need-mul-len
-mul-len c = omega (arith, count-small (c .before .before .args .leb-size))
-
 returns : tie.Need-returns
 returns c = part-short (c .before .before .before .args .leb-size) (c .before .before .before .args .content .now) (c .before .record-count .ensures) (c .if1 .taken)
 
@@ -19,7 +16,7 @@ records-part-spec =
     tie.close
     (tie.spec
     (λ c κs. search needs)
-    mul-len
+    (λ c. omega (arith, count-small (c .before .before .args .leb-size)))
     returns
     (λ c. search needs)
     (λ c. search needs)
