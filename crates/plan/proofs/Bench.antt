@@ -27,7 +27,9 @@ use Rattle.report.specs.Report.{meanOf, highestOf, readOnlyOf, classAt, entries
 use Rattle.report.specs.Attach.{imageRules, longEnough, attaching}
 use Rattle.plan.specs.Headers.{dataEnd, newSize, newFlag, newCrc, newVid, oldCounter, newEc}
 use Rattle.plan.specs.Begin.{refusal13, mapped, refusal15, refusal16, refusal17, makePlan, planOf, beginning}
-use Rattle.plan.specs.Write.{Write, store, erase, nothing, appliedWhole, appliedCut, dataSteps, stepCount, unitBytes, writeAfter}
+use Rattle.job.specs.Write.{Write, store, erase, nothing, appliedWhole, appliedCut}
+use Rattle.job.specs.Relocation.{relocating}
+use Rattle.plan.specs.Write.{planGeometry, dataSteps, stepCount, unitBytes, writeAfter}
 use Rattle.plan.specs.declared.Plan.{Plan}
 
 -- ---- the bench image
@@ -169,10 +171,10 @@ bench-headers = refl
 -- the writes of the six steps, and of a further one; the data that are stored
 bench-writes :
     _≡_ {A = List (List ℕ)}
-    (table (λ k. shown (writeAfter chip plan image k)) 0 7 ++ table (unitBytes chip plan image) 0 3)
+    (table (λ k. shown (writeAfter plan image k)) 0 7 ++ table (unitBytes plan image) 0 3)
     ((1 ∷ 3136 ∷ 64 ∷ []) ∷ (1 ∷ 3200 ∷ 1 ∷ []) ∷ (1 ∷ 3201 ∷ 1 ∷ []) ∷ (1 ∷ 3202 ∷ 1 ∷ []) ∷ (2 ∷ 2048 ∷ 1024 ∷ []) ∷ (1 ∷ 2048 ∷ 64 ∷ []) ∷ []
     ∷ (0x61 ∷ []) ∷ (0x62 ∷ []) ∷ (0x63 ∷ []) ∷ [])
-unfolding shown plan image pebOf layout recordHead emptyRecord ec vid abc chip roundUp vidStart dataStart lebSize makeGeometry dataSteps unitBytes writeAfter
+unfolding shown plan image pebOf layout recordHead emptyRecord ec vid abc chip roundUp vidStart dataStart lebSize makeGeometry planGeometry dataSteps unitBytes relocating writeAfter
     ecHead ecBytes vidHead vidBytes toBeOn
 bench-writes = refl
 

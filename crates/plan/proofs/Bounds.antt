@@ -39,9 +39,9 @@ use Rattle.report.proofs.Facts.{parts}
 use Rattle.report.proofs.Mean.{mean-between}
 use Rattle.report.proofs.Tables.{no-misfit, entry-fits, record-good, table-good}
 use Rattle.plan.specs.Headers.{isStatic, dataEnd, newSize, oldCounter}
-use Rattle.plan.proofs.Blocks.{peb-length}
+use Rattle.job.proofs.Blocks.{peb-length}
 use Rattle.plan.proofs.Data.{end-within, round-within}
-use Rattle.plan.proofs.Seen.{Read, copy-read, ec-seen}
+use Rattle.job.proofs.Seen.{Read, copy-read, ec-seen}
 use Rattle.plan.proofs.Accepted.{InMap}
 
 -- ---- the numbers in an image

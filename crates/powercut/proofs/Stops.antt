@@ -26,9 +26,9 @@ use Rattle.report.proofs.Choice.{chosen-at}
 use Rattle.report.proofs.First.{none-some}
 use Rattle.plan.specs.declared.Plan.{Plan}
 use Rattle.plan.proofs.Good.{Good}
-use Rattle.powercut.specs.Premise.{unlike}
+use Rattle.job.specs.Torn.{unlike}
 use Rattle.powercut.proofs.Stage.{Ready, Stopped, torn, half, whole, isWhole}
-use Rattle.plan.proofs.Seen.{ec-written, ec-torn, vid-written, vid-torn, vid-erased, Read, same-header}
+use Rattle.job.proofs.Seen.{ec-written, ec-torn, vid-written, vid-torn, vid-erased, Read, same-header}
 
 -- T and O are the bytes of the two PEBs at first, X and Y those in the stopped image
 module _ (g : Geometry) (n : ℕ) (vs vs′ : Views) (v l o t : ℕ) (old : Copy) (p : Plan)

@@ -15,27 +15,28 @@ use Rattle.report.specs.Attach.{pebCount, longEnough, Outcome, whole, stateWord
 use Rattle.plan.specs.declared.Plan.{Plan}
 use Rattle.plan.specs.Begin.{makePlan, planOf, beginOn, beginning}
 use Rattle.plan.proofs.Accepted.{Accepted, accepted}
-use Rattle.powercut.specs.Outcomes.{outcomeOf, attaches, Table, tableIn, statesIn, mapIn, contentIn}
-use Rattle.powercut.specs.Calls.{Call, imageLeft}
-use Rattle.powercut.specs.Book.{Booked, callLeft, begun, afterCall, atFirst, afterCalls, Each}
+use Rattle.job.specs.Course.{imageLeft}
+use Rattle.job.specs.Outcomes.{outcomeOf, attaches, Table, tableIn, statesIn, mapIn, contentIn}
+use Rattle.job.proofs.Calls.{all-calls}
+use Rattle.job.proofs.Outcomes.{any-tables, Chip, attached, has-attached}
+use Rattle.plan.specs.Step.{moverJob}
+use Rattle.powercut.specs.Calls.{Call}
+use Rattle.powercut.specs.Book.{WithBook, callLeft, begun, afterCall, atFirst, afterCalls, Each}
 use Rattle.powercut.specs.Premise.{premiseOf, Premise}
 use Rattle.powercut.specs.Claim.{Moved, CallDone, Done, Claim}
-use Rattle.powercut.proofs.Outcomes.{any-tables, Chip, attached, has-attached}
 use Rattle.powercut.proofs.Move.{Fine, after}
 
 module _ (slip : List ℕ) (g : Geometry) (n : ℕ) (chip : Chip slip g n) where
   outcome-is : (image : List ℕ) → Fine g n image → outcomeOf slip image ≡ whole g n (viewsOf g image)
   outcome-is image f = attached slip g n chip image (f .long) (f .unrefused)
 
-  -- the map is the place book
-  abbrev InBook : Booked → Type 0
-  InBook x = entries g n (viewsOf g (x .image)) ≡ x .book
+  -- an image that attaches, whose map is the place book
+  record Held (x : WithBook) : Type 0 where
+    fine : Fine g n (x .image)
+    map-is-book : entries g n (viewsOf g (x .image)) ≡ x .book
 
-  -- from one image and book to another
-  record Goes (x x′ : Booked) : Type 0 where
-    fine : Fine g n (x′ .image)
-    same-faces : faces g n (viewsOf g (x′ .image)) ≡ faces g n (viewsOf g (x .image))
-    in-book : InBook x′
+  SameFaces : WithBook → WithBook → Type 0
+  SameFaces x y = faces g n (viewsOf g (y .image)) ≡ faces g n (viewsOf g (x .image))
 
   -- ---- one call
 
@@ -43,43 +44,46 @@ module _ (slip : List ℕ) (g : Geometry) (n : ℕ) (chip : Chip slip g n) where
   unfolding begun beginning outcomeOf
   begun-is image f c = ap (λ (y : Outcome). beginOn y (c .volume) (c .lnum) (c .target)) (outcome-is image f)
 
-  accepted-call : (x : Booked) (c : Call) (f : Fine g n (x .image)) → InBook x → (o : ℕ) (cp : Copy)
+  -- what a call leaves: all that is held, the same faces, and what the claim says of it
+  abbrev Leaves : WithBook → WithBook → Type 0 → Type 0
+  Leaves x y D = Held y × SameFaces x y × D
+
+  accepted-call : (x : WithBook) (c : Call) → Held x → (o : ℕ) (cp : Copy)
       (a : Accepted g n (viewsOf g (x .image)) (c .volume) (c .lnum) (c .target) o cp)
       → let p : Plan = makePlan g n (viewsOf g (x .image)) (c .target) o cp in
-      premiseOf (x .image) (c .course) (imageLeft p (x .image) (c .course)) (given p) ≡ true
-      → Goes x (callLeft x c (given p)) × Moved slip p (c .course) (x .image) (imageLeft p (x .image) (c .course))
-  unfolding callLeft
-  accepted-call x c f bk o cp a pr =
-      let r = after slip g n chip (x .image) f (c .volume) (c .lnum) (c .target) o cp a (c .course) pr in
-      (record { fine = r .fine; same-faces = r .same-faces; in-book = rw (← bk) (r .new-map) }, r .moved)
+      premiseOf (x .image) (c .course) (imageLeft moverJob p (x .image) (c .course)) (given p) ≡ true
+      → Leaves x (callLeft x c (given p)) (Moved slip p (c .course) (x .image) (imageLeft moverJob p (x .image) (c .course)))
+  unfolding callLeft SameFaces
+  accepted-call x c h o cp a pr =
+      let r = after slip g n chip (x .image) (h .fine) (c .volume) (c .lnum) (c .target) o cp a (c .course) pr in
+      (record { fine = r .fine; map-is-book = rw (← (h .map-is-book)) (r .new-map) }, r .same-faces, r .moved)
 
-  one-call : (x : Booked) (c : Call) → Fine g n (x .image) → InBook x → Premise slip (x .image) c (afterCall slip x c .image)
-      → Goes x (afterCall slip x c) × Done slip (x .image) c (afterCall slip x c .image)
-  unfolding afterCall Premise Done callLeft
-  one-call x c f bk pr = by (begun slip (x .image) c) refl pr
+  one-call : (x : WithBook) (c : Call) → Held x → Premise slip (x .image) c (afterCall slip x c .image)
+      → Leaves x (afterCall slip x c) (Done slip (x .image) c (afterCall slip x c .image))
+  unfolding afterCall Premise Done callLeft SameFaces
+  one-call x c h pr = by (begun slip (x .image) c) refl pr
     where
       vs : Views
       vs = viewsOf g (x .image)
 
       by : (y : Answer Plan) → begun slip (x .image) c ≡ y → premiseOf (x .image) (c .course) (callLeft x c y .image) y ≡ true
-          → Goes x (callLeft x c y) × CallDone slip (x .image) (c .course) (callLeft x c y .image) y
-      by (refused k q) e pr = (record { fine = f; same-faces = refl; in-book = bk }, refl)
+          → Leaves x (callLeft x c y) (CallDone slip (x .image) (c .course) (callLeft x c y .image) y)
+      by (refused k q) e pr = (h, refl, refl)
       by (given p) e pr =
-          let a = accepted g n vs (c .volume) (c .lnum) (c .target) p (sym (begun-is (x .image) f c) ∙ e) in
+          let a = accepted g n vs (c .volume) (c .lnum) (c .target) p (sym (begun-is (x .image) (h .fine) c) ∙ e) in
           subst
-          (λ (q : Plan). premiseOf (x .image) (c .course) (imageLeft q (x .image) (c .course)) (given q) ≡ true
-          → Goes x (callLeft x c (given q)) × Moved slip q (c .course) (x .image) (imageLeft q (x .image) (c .course)))
-          (sym (a .3)) (accepted-call x c f bk (a .0) (a .1) (a .2)) pr
+          (λ (q : Plan). premiseOf (x .image) (c .course) (imageLeft moverJob q (x .image) (c .course)) (given q) ≡ true
+          → Leaves x (callLeft x c (given q)) (Moved slip q (c .course) (x .image) (imageLeft moverJob q (x .image) (c .course))))
+          (sym (a .3)) (accepted-call x c h (a .0) (a .1) (a .2)) pr
 
   -- ---- the list
 
-  all-calls : (calls : List Call) (x : Booked) → Fine g n (x .image) → InBook x → Each slip (Premise slip) x calls
-      → Goes x (afterCalls slip x calls) × Each slip (Done slip) x calls
-  all-calls [] x f bk pr = (record { fine = f; same-faces = refl; in-book = bk }, tt)
-  all-calls (c ∷ calls) x f bk pr =
-      let a = one-call x c f bk (pr .0) in
-      let b = all-calls calls (afterCall slip x c) (a .0 .fine) (a .0 .in-book) (pr .1) in
-      (record { fine = b .0 .fine; same-faces = b .0 .same-faces ∙ a .0 .same-faces; in-book = b .0 .in-book }, (a .1, b .1))
+  whole-list : (calls : List Call) (x : WithBook) → Held x → Each slip (Premise slip) x calls
+      → Held (afterCalls slip x calls) × SameFaces x (afterCalls slip x calls) × Each slip (Done slip) x calls
+  unfolding SameFaces
+  whole-list calls x h pr =
+      all-calls (afterCall slip) Held SameFaces (λ x c y. Premise slip (x .image) c (y .image)) (λ x c y. Done slip (x .image) c (y .image))
+      (λ x. refl) (λ x y z e f. f ∙ e) one-call calls x h pr
 
   -- what the faces fix
   module _ (vs vs′ : Views) (e : faces g n vs′ ≡ faces g n vs) where
@@ -103,29 +107,29 @@ module _ (slip : List ℕ) (g : Geometry) (n : ℕ) (chip : Chip slip g n) where
 -- accepted move changed nothing outside its two blocks and, if it was not cut, ended with its old block free; a refused one changed nothing
 pub no-cut-loses-a-block : (slip image : List ℕ) (calls : List Call) → Bytes image → attaches (outcomeOf slip image) ≡ true
     → Each slip (Premise slip) (atFirst slip image) calls → Claim slip image calls
-unfolding atFirst
+unfolding atFirst SameFaces
 no-cut-loses-a-block slip image calls bytes at pr =
     let A = has-attached slip image at in
     let g = A .g in
     let n = A .n in
     let f : Fine g n image = record { long = A .long; bytes = bytes; unrefused = A .unrefused } in
     let first = outcome-is slip g n (A .chip) image f in
-    let x : Booked = record { image = image; book = mapIn (outcomeOf slip image) } in
-    let r = all-calls slip g n (A .chip) calls x f (sym (ap mapIn first)) pr in
+    let x : WithBook = record { image = image; book = mapIn (outcomeOf slip image) } in
+    let r = whole-list slip g n (A .chip) calls x (record { fine = f; map-is-book = sym (ap mapIn first) }) pr in
     let end = afterCalls slip x calls in
     let last = outcome-is slip g n (A .chip) (end .image) (r .0 .fine) in
-    let e = r .0 .same-faces in
+    let e = r .1 in
     record {
       kept = record {
         still-attaches = ap attaches last;
         same-table = ap tableIn last ∙ table-same slip g n (A .chip) (viewsOf g image) (viewsOf g (end .image)) e ∙ sym (ap tableIn first);
         same-states = ap statesIn last ∙ states-same slip g n (A .chip) (viewsOf g image) (viewsOf g (end .image)) e ∙ sym (ap statesIn first);
-        map-is-book = ap mapIn last ∙ r .0 .in-book;
+        map-is-book = ap mapIn last ∙ r .0 .map-is-book;
         same-content = λ v l.
             ap (λ (y : Outcome). contentIn y v l) last ∙ content-same slip g n (A .chip) (viewsOf g image) (viewsOf g (end .image)) e v l
             ∙ sym (ap (λ (y : Outcome). contentIn y v l) first);
       };
-      each = r .1;
+      each = r .2;
     }
 
 -- a call's beginning, with any lent tables that are long enough (`any-tables` of Outcomes says the same of attaching)
