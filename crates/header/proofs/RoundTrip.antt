@@ -8,7 +8,7 @@ use borrow.Author.Tests.{eq-eqb, eqb-true, le-ltb, ltb-false}
 use lib.Dec.{eqb, ltb}
 use lib.ListN.{length, take, drop, take-append-drop}
 use lib.Seq.{take-add, take-append-seam}
-use Rattle.base.specs.Answers.{Answer, given, refused, allOf}
+use Rattle.base.specs.Answers.{given, refused, allOf}
 use Rattle.base.specs.Lists.{part, eqs, Bytes}
 use Rattle.base.proofs.Answers.{and-left, and-right, cond-yes, cond-no}
 use Rattle.base.proofs.Lists.{eqs-true, EachByte, each-append, each-zero, bytes-each}

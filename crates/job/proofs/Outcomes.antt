@@ -1,13 +1,13 @@
--- An image that attaches: with any tables that are long enough, and by its views. Assumes nothing.
-use mathlib.Core.Path.{_≡_, refl, sym, _∙_, subst}
+-- An image that attaches, by its views. Assumes nothing.
+use mathlib.Core.Path.{_≡_, refl, subst}
 use mathlib.Core.Bool.{Bool, true, false, cond, false≢true}
 use mathlib.Core.Option.{Option, none, some}
 use mathlib.Core.List.{List}
-use Prim.Native.Nat.{ℕ, _+_, _*_, _%_, _≤_, _<_}
+use Prim.Native.Nat.{ℕ, _*_, _%_, _≤_, _<_}
 use native.Mathlib.Omega.{arith}
-use native.Mathlib.Nat.{div-le-self, div-add-mod', mul-div-cancel, mul-mod-left}
+use native.Mathlib.Nat.{div-add-mod', mul-div-cancel, mul-mod-left}
 use borrow.Author.Tests.{le-leb, leb-true, eqb-true, eq-eqb}
-use lib.ListN.{length, getD, length-replicate}
+use lib.ListN.{length, getD}
 use Rattle.base.specs.Answers.{Answer, given, refused, allOf}
 use Rattle.base.proofs.Answers.{each-holds, cond-yes}
 use Rattle.geometry.specs.Geometry.{geometryRules, makeGeometry, geometryOf}
@@ -15,31 +15,18 @@ use Rattle.geometry.specs.Slip.{wellFormed, valueAt, slipGeometry}
 use Rattle.geometry.specs.Placed.{Placed}
 use Rattle.geometry.specs.declared.Geometry.{Geometry}
 use Rattle.geometry.proofs.Laws.{slip-placed}
-use Rattle.report.specs.View.{Views, viewsOf}
+use Rattle.report.specs.View.{Medium, mediumOf}
 use Rattle.report.specs.Scan.{Refusal}
 use Rattle.report.specs.Report.{refusal}
-use Rattle.report.specs.Attach.{pebCount, imageRules, longEnough, early, whole, byViews, byGeometry, attaching}
-use Rattle.job.specs.Outcomes.{enough, outcomeOf, attaches}
+use Rattle.geometry.specs.Image.{pebCount, imageRules}
+use Rattle.report.specs.Attach.{AttachRequest, early, whole, byViews, byGeometry, attaching}
+use Rattle.job.specs.Outcomes.{outcomeOf, attaches}
 
--- ---- tables long enough
-
-enough-is-enough : (n : ℕ) (image : List ℕ) → n ≤ length image → longEnough n (enough image) (enough image) (enough image) ≡ true
-unfolding longEnough enough
-enough-is-enough n image h =
-    let l : length (enough image) ≡ length image * 3 + 128 = length-replicate (length image * 3 + 128) 0 in
-    rw (
-      l,
-      le-leb (n * 2) (length image * 3 + 128) (omega arith),
-      le-leb (n * 3) (length image * 3 + 128) (omega arith),
-      le-leb 128 (length image * 3 + 128) (omega arith),
-    )
-
--- with tables that are long enough for its PEBs, attaching an image comes to the same as here
-pub any-tables : (slip image pebs map states : List ℕ) (g : Geometry) → slipGeometry slip ≡ given g
-    → longEnough (pebCount g image) pebs map states ≡ true → attaching slip image pebs map states ≡ outcomeOf slip image
+-- with tables that are long enough for its PEBs, attaching an image comes to the same
+pub any-room : (req : AttachRequest) (image : List ℕ) (room : ℕ → Bool) (g : Geometry) → slipGeometry (req .slip) ≡ given g
+    → room (pebCount g image) ≡ true → attaching req image room ≡ outcomeOf req image
 unfolding attaching outcomeOf
-any-tables slip image pebs map states g e h =
-    rw (e, h, enough-is-enough (pebCount g image) image (div-le-self (length image) (g .«peb_size»)))
+any-room req image room g e h = rw (e, h)
 
 -- ---- by its views
 
@@ -66,15 +53,15 @@ pub slip-ruled : (slip : List ℕ) (g : Geometry) → slipGeometry slip ≡ give
 unfolding slipGeometry
 slip-ruled slip g e = ruled (valueAt 0 4 slip) (valueAt 7 2 slip) (valueAt 12 2 slip) g (cond-yes (wellFormed slip) no-geometry e .1)
 
--- images of n PEBs under a slip
-pub record Chip (slip : List ℕ) (g : Geometry) (n : ℕ) : Type 0 where
-  pub geometry : slipGeometry slip ≡ given g
+-- images of n PEBs that a request fits
+pub record Chip (req : AttachRequest) (g : Geometry) (n : ℕ) : Type 0 where
+  pub geometry : slipGeometry (req .slip) ≡ given g
   pub least : 2 ≤ n
   pub most : n ≤ 4096
 
-module _ (slip : List ℕ) (g : Geometry) (n : ℕ) (c : Chip slip g n) where
+module _ (req : AttachRequest) (g : Geometry) (n : ℕ) (c : Chip req g n) where
   pub chip-placed : Placed g
-  chip-placed = slip-placed slip g (c .geometry)
+  chip-placed = slip-placed (req .slip) g (c .geometry)
 
   pub peb-above : 0 < g .«peb_size»
   peb-above = omega (arith, chip-placed .leb-fills, chip-placed .leb-least)
@@ -90,43 +77,43 @@ module _ (slip : List ℕ) (g : Geometry) (n : ℕ) (c : Chip slip g n) where
         rw (count-is, eq-eqb (length image % g .«peb_size») 0 z, le-leb 2 n (c .least), le-leb n 4096 (c .most))
 
     -- one that nothing refuses attaches
-    pub attached : refusal g n (viewsOf g image) ≡ none → outcomeOf slip image ≡ whole g n (viewsOf g image)
+    pub attached : refusal (mediumOf g n image) ≡ none → outcomeOf req image ≡ whole (mediumOf g n image)
     unfolding outcomeOf attaching
-    attached e =
-        rw (c .geometry, image-ruled, enough-is-enough (pebCount g image) image (div-le-self (length image) (g .«peb_size»)), count-is, e)
+    attached e = rw (c .geometry, image-ruled, count-is, e)
 
 -- what an image that attaches has
-pub record Attached (slip image : List ℕ) : Type 0 where
+pub record Attached (req : AttachRequest) (image : List ℕ) : Type 0 where
   pub g : Geometry
   pub n : ℕ
-  pub chip : Chip slip g n
+  pub chip : Chip req g n
   pub long : length image ≡ n * g .«peb_size»
-  pub unrefused : refusal g n (viewsOf g image) ≡ none
+  pub unrefused : refusal (mediumOf g n image) ≡ none
 
-pub has-attached : (slip image : List ℕ) → attaches (outcomeOf slip image) ≡ true → Attached slip image
+pub has-attached : (req : AttachRequest) (image : List ℕ) → attaches (outcomeOf req image) ≡ true → Attached req image
 unfolding outcomeOf attaching imageRules
-has-attached slip image e = go (slipGeometry slip) refl e
+has-attached req image e = go (slipGeometry (req .slip)) refl e
   where
-    some-not : (r : Option Refusal) (g : Geometry) (n : ℕ) (vs : Views) → attaches (byViews g n vs r) ≡ true → r ≡ none
-    some-not none g n vs e = refl
-    some-not (some r) g n vs e = absurd (false≢true e)
+    some-not : (m : Medium) (r : Option Refusal) → attaches (byViews m r) ≡ true → r ≡ none
+    some-not m none e = refl
+    some-not m (some r) e = absurd (false≢true e)
 
-    go : (a : Answer Geometry) → slipGeometry slip ≡ a → attaches (byGeometry image (enough image) (enough image) (enough image) a) ≡ true → Attached slip image
+    go : (a : Answer Geometry) → slipGeometry (req .slip) ≡ a → attaches (byGeometry image (λ n. true) a) ≡ true → Attached req image
     go (refused k q) s e = absurd (false≢true e)
-    go (given g) s e = by (allOf (imageRules g image)) refl (longEnough (pebCount g image) (enough image) (enough image) (enough image)) e
+    go (given g) s e = by (allOf (imageRules g image)) refl e
       where
-        by : (r : Bool) → allOf (imageRules g image) ≡ r → (w : Bool)
-            → attaches (cond r (cond w (byViews g (pebCount g image) (viewsOf g image) (refusal g (pebCount g image) (viewsOf g image))) (early 4)) (early 3)) ≡ true
-            → Attached slip image
-        by false q w e = absurd (false≢true e)
-        by true q false e = absurd (false≢true e)
-        by true q true e =
+        n : ℕ
+        n = pebCount g image
+
+        by : (r : Bool) → allOf (imageRules g image) ≡ r
+            → attaches (cond r (byViews (mediumOf g n image) (refusal (mediumOf g n image))) (early 3)) ≡ true → Attached req image
+        by false q e = absurd (false≢true e)
+        by true q e =
             let r : (k : ℕ) → getD (imageRules g image) k true ≡ true = each-holds (imageRules g image) q in
             let z : length image % g .«peb_size» ≡ 0 = eqb-true (length image % g .«peb_size») 0 (r 0) in
             record {
               g = g;
-              n = pebCount g image;
-              chip = record { geometry = s; least = leb-true 2 (pebCount g image) (r 1); most = leb-true (pebCount g image) 4096 (r 2) };
+              n = n;
+              chip = record { geometry = s; least = leb-true 2 n (r 1); most = leb-true n 4096 (r 2) };
               long = omega (arith, div-add-mod' (length image) (g .«peb_size»));
-              unrefused = some-not (refusal g (pebCount g image) (viewsOf g image)) g (pebCount g image) (viewsOf g image) e;
+              unrefused = some-not (mediumOf g n image) (refusal (mediumOf g n image)) e;
             }

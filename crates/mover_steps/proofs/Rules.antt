@@ -15,7 +15,7 @@ use Rattle.geometry.specs.declared.Geometry.{Geometry}
 use Rattle.header.specs.Fields.{isGood}
 use Rattle.header.specs.Ec.{judgeEc}
 use Rattle.header.specs.Vid.{judgeVid}
-use Rattle.report.specs.Attach.{imageRules}
+use Rattle.geometry.specs.Image.{imageRules}
 use Rattle.plan.specs.Step.{stepRules, runnable}
 use Rattle.plan.specs.Running.{Measured, Running}
 use Rattle.plan.specs.declared.Plan.{Plan}

@@ -17,7 +17,7 @@ use Rattle.header.specs.Fields.{good, bad, newer, judged, isGood}
 use Rattle.header.specs.Ec.{judgeEc}
 use Rattle.header.specs.Vid.{judgeVid, vidRules}
 use Rattle.header.specs.declared.VidHeader.{VidHeader}
-use Rattle.report.specs.Attach.{imageRules}
+use Rattle.geometry.specs.Image.{imageRules}
 use Rattle.plan.specs.Write.{planGeometry}
 use Rattle.plan.specs.Step.{stepRules, runnable}
 use Rattle.plan.specs.Running.{Measured, Running}

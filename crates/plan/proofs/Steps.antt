@@ -10,7 +10,7 @@ use Rattle.base.proofs.Lists.{bytes-part}
 use Rattle.geometry.specs.Placed.{Placed}
 use Rattle.geometry.specs.declared.Geometry.{Geometry}
 use Rattle.header.proofs.Writes.{vid-64, ec-64}
-use Rattle.report.specs.Attach.{imageRules}
+use Rattle.geometry.specs.Image.{imageRules}
 use Rattle.job.specs.Write.{nothing, pebStart}
 use Rattle.job.proofs.Writes.{Within, Octets, ec-octets, vid-octets}
 use Rattle.job.proofs.Runs.{Lawful}

@@ -8,7 +8,7 @@ use Rattle.geometry.specs.Geometry.{geometryRules}
 use Rattle.header.specs.Fields.{isGood}
 use Rattle.header.specs.Ec.{judgeEc}
 use Rattle.header.specs.Vid.{judgeVid}
-use Rattle.report.specs.Attach.{pebCount, imageRules}
+use Rattle.geometry.specs.Image.{pebCount, imageRules}
 use Rattle.job.specs.Job.{Job, Progress, on, done}
 use Rattle.plan.specs.Write.{planGeometry, stepCount, writeAfter}
 use Rattle.plan.specs.declared.Plan.{Plan}

@@ -20,11 +20,12 @@ use Rattle.geometry.specs.declared.Geometry.{Geometry}
 use Rattle.header.specs.Fields.{good}
 use Rattle.header.specs.Ec.{judgeEc, ecBytes}
 use Rattle.header.specs.Vid.{judgeVid, vidBytes}
-use Rattle.report.specs.View.{allFF, Copy, ecGood, vidBlank, Views, vidPart, viewOf, viewsOf, pebAt, ecs, copies}
+use Rattle.report.specs.View.{allFF, Copy, ecGood, vidBlank, Views, vidPart, viewOf, viewsOf, pebAt, ecs, copies, Medium, mediumOf}
 use Rattle.report.specs.Scan.{imageSeq, ecRefusal}
 use Rattle.report.specs.Volumes.{placesOf, tableRecords, mapOf}
 use Rattle.report.specs.Report.{highestOf, faces, places, records, classAt, entries, refusal}
-use Rattle.report.specs.Attach.{pebCount, imageRules, whole}
+use Rattle.geometry.specs.Image.{pebCount, imageRules}
+use Rattle.report.specs.Attach.{AttachRequest, whole}
 use Rattle.report.proofs.Choice.{chosen-at}
 use Rattle.report.proofs.Facts.{parts, none5678-at}
 use Rattle.report.proofs.First.{none-some}
@@ -66,21 +67,24 @@ runnable-by p g image n r geo i c o t ne v e = rw (r, geo, i, c, lt-ltb (p .old)
 pub record Fine (g : Geometry) (n : ℕ) (image : List ℕ) : Type 0 where
   pub long : length image ≡ n * g .«peb_size»
   pub bytes : Bytes image
-  pub unrefused : refusal g n (viewsOf g image) ≡ none
+  pub unrefused : refusal (mediumOf g n image) ≡ none
 
-module _ (slip : List ℕ) (g : Geometry) (n : ℕ) (chip : Chip slip g n) (image : List ℕ) (f : Fine g n image)
-    (v l t o : ℕ) (c : Copy) (a : Accepted g n (viewsOf g image) v l t o c) where
+module _ (req : AttachRequest) (g : Geometry) (n : ℕ) (chip : Chip req g n) (image : List ℕ) (f : Fine g n image)
+    (v l t o : ℕ) (c : Copy) (a : Accepted (mediumOf g n image) v l t o c) where
   P : Placed g
-  P = chip-placed slip g n chip
+  P = chip-placed req g n chip
 
   R : Ruled g
-  R = slip-ruled slip g (chip .geometry)
+  R = slip-ruled (req .slip) g (chip .geometry)
 
   abbrev vs : Views
   vs = viewsOf g image
 
+  abbrev m : Medium
+  m = mediumOf g n image
+
   abbrev p : Plan
-  p = makePlan g n vs t o c
+  p = makePlan m t o c
 
   -- ---- the copy that is moved, and the plan's headers
 
@@ -112,11 +116,11 @@ module _ (slip : List ℕ) (g : Geometry) (n : ℕ) (chip : Chip slip g n) (imag
       let more = a .counter-left in
       good-headers g P c moves (highestOf n (copies vs)) (omega arith) n vs o (omega arith) (image-small g P n image (f .bytes) (f .long))
 
-  ready : Ready n vs v l (p .old) (p .target) c (p .vid)
+  ready : Ready m v l (p .old) (p .target) c (p .vid)
   unfolding makePlan newVid
   ready = record {
     is-chosen = a .is-chosen;
-    is-mappable = in-map-mappable (records g n vs) v l (a .in-map);
+    is-mappable = in-map-mappable (records m) v l (a .in-map);
     is-sound = a .is-sound;
     t<n = a .target-there;
     free-vid = a .target-free .0;
@@ -141,7 +145,7 @@ module _ (slip : List ℕ) (g : Geometry) (n : ℕ) (chip : Chip slip g n) (imag
   may-run : runnable p image ≡ true
   unfolding makePlan
   may-run =
-      runnable-by p g image n rules geometry-is (image-ruled slip g n chip image (f .long)) (count-is slip g n chip image (f .long)) (at-o .0)
+      runnable-by p g image n rules geometry-is (image-ruled req g n chip image (f .long)) (count-is req g n chip image (f .long)) (at-o .0)
       (a .target-there) apart (goods .vid-good) (goods .ec-good)
 
   abbrev d : ℕ
@@ -180,7 +184,7 @@ module _ (slip : List ℕ) (g : Geometry) (n : ℕ) (chip : Chip slip g n) (imag
   read-O = read g P n image (f .bytes) (f .long) o (at-o .0) c (at-o .1)
 
   o-before : ecRefusal g (imageSeq n vs) (viewOf g O .ec) ≡ none
-  o-before = none5678-at g n vs (parts g n vs (f .unrefused) .none5678) (p .old) (sited .old-there) .0
+  o-before = none5678-at m (parts m (f .unrefused) .none5678) (p .old) (sited .old-there) .0
 
   clean-T : allFF (drop 64 T) ≡ true
   unfolding makePlan viewOf
@@ -190,11 +194,11 @@ module _ (slip : List ℕ) (g : Geometry) (n : ℕ) (chip : Chip slip g n) (imag
   blank-T =
       let s = goods .data-fits in
       let e : g .«data_start» + d ≡ 64 + (g .«data_start» + d - 64) = omega (arith, P .vid-after-ec, P .data-after-vid) in
-      let m : length (drop 64 T) - (g .«data_start» + d - 64) ≡ g .«leb_size» - d =
+      let k : length (drop 64 T) - (g .«data_start» + d - 64) ≡ g .«leb_size» - d =
       rw length-drop (omega (arith, lenT, P .vid-after-ec, P .data-after-vid, P .leb-fills)) in
       ap (λ i. drop i T) e ∙ sym (drop-drop (g .«data_start» + d - 64) 64 T)
       ∙ ap (drop (g .«data_start» + d - 64)) (all-ff (drop 64 T) clean-T)
-      ∙ drop-replicate 0xFF (g .«data_start» + d - 64) (length (drop 64 T)) ∙ ap (λ i. replicate i 0xFF) m
+      ∙ drop-replicate 0xFF (g .«data_start» + d - 64) (length (drop 64 T)) ∙ ap (λ i. replicate i 0xFF) k
 
   -- ---- what its steps write
 
@@ -261,9 +265,9 @@ module _ (slip : List ℕ) (g : Geometry) (n : ℕ) (chip : Chip slip g n) (imag
     unfolding viewOf
     same-ec = rw (ha .near .same-ec)
 
-    keep : (st : Stopped g n vs vs′ (p .old) (p .target) c (p .vid)) → Keeps g n vs vs′ v l (p .target) (isWhole st)
+    keep : (st : Stopped m vs′ (p .old) (p .target) c (p .vid)) → Keeps m vs′ v l (p .target) (isWhole st)
     keep st =
-        keeps g n vs vs′ v l (p .old) (p .target) c (p .vid) (f .unrefused) ready (λ i k nt nq. ap (viewOf g) (ha .near .elsewhere i nq nt)) same-ec st
+        keeps m vs′ v l (p .old) (p .target) c (p .vid) (f .unrefused) ready (λ i k nt nq. ap (viewOf g) (ha .near .elsewhere i nq nt)) same-ec st
 
     abbrev StoredAt : Type 0
     StoredAt = Stored g n d (relocation p image) sited image (f .long) D long-D (unitBytes p) unit-is d image′
@@ -276,12 +280,12 @@ module _ (slip : List ℕ) (g : Geometry) (n : ℕ) (chip : Chip slip g n) (imag
     order = ⊎-elim (λ e. inl e) (λ s. inr (s .header, all-run s)) (ha .order)
 
     -- a stopped move
-    kept-cut : allOf (premiseRules p image image′) ≡ true → Keeps g n vs vs′ v l (p .target) (headerWhole p image′ && runWhole p image image′)
+    kept-cut : allOf (premiseRules p image image′) ≡ true → Keeps m vs′ v l (p .target) (headerWhole p image′ && runWhole p image image′)
     unfolding premiseRules headerWhole runWhole
     kept-cut pr =
         let r : (k : ℕ) → getD (premiseRules p image image′) k true ≡ true = each-holds (premiseRules p image image′) pr in
         let st =
-        stopped g n vs vs′ v l (p .old) (p .target) c p ready goods T O X Y blank-T read-O refl refl refl (ha .near .same-tail) o-before order
+        stopped g n image image′ v l (p .old) (p .target) c p ready goods read-O (ha .near .same-tail ∙ blank-T) o-before order
         (rw geometry-is at (r 0)) (rw geometry-is at (r 1)) (rw geometry-is at (r 2)) (rw geometry-is at (r 3)) in
         rw (geometry-is, ← (st .1)) (keep (st .0))
 
@@ -300,13 +304,13 @@ module _ (slip : List ℕ) (g : Geometry) (n : ℕ) (chip : Chip slip g n) (imag
           ∙ drop-replicate 0xFF (g .«vid_start») (g .«peb_size»))
           ∙ take-replicate 0xFF 64 (g .«peb_size» - g .«vid_start») (omega (arith, P .data-after-vid, P .leb-fills))
 
-      kept-end : Keeps g n vs vs′ v l (p .target) true
+      kept-end : Keeps m vs′ v l (p .target) true
       kept-end =
           let st =
-          finished g n vs vs′ v l (p .old) (p .target) c p ready goods T O X Y blank-T read-O refl refl refl (ha .near .same-tail) o-before (s .header) (all-run s) end-ec end-vid in
-          subst (Keeps g n vs vs′ v l (p .target)) (st .1) (keep (st .0))
+          finished g n image image′ v l (p .old) (p .target) c p ready goods read-O (ha .near .same-tail ∙ blank-T) o-before (s .header) (all-run s) end-ec end-vid in
+          subst (Keeps m vs′ v l (p .target)) (st .1) (keep (st .0))
 
-      end-free : classAt g n vs′ (p .old) ≡ 0
+      end-free : classAt (mediumOf g n image′) (p .old) ≡ 0
       unfolding classAt
       end-free =
           let e : vs′ (p .old) .ec ≡ ecGood (p .ec) = ec-written g Y (p .ec) (goods .ec-fits) (goods .ec-good) end-ec in
@@ -314,29 +318,29 @@ module _ (slip : List ℕ) (g : Geometry) (n : ℕ) (chip : Chip slip g n) (imag
           rw (e, w)
 
     -- the map with the place written
-    map-after : (w : Bool) → Keeps g n vs vs′ v l (p .target) w
-        → entries g n vs′ ≡ cond w (placeWritten v l (p .target) (entries g n vs)) (entries g n vs)
-    unfolding entries placesOf
-    map-after w k = ap₂ mapOf (ap (tableRecords g n) (k .same-faces)) (k .new-places) ∙ go w
+    map-after : (w : Bool) → Keeps m vs′ v l (p .target) w
+        → entries (mediumOf g n image′) ≡ cond w (placeWritten v l (p .target) (entries m)) (entries m)
+    unfolding entries placesOf tableRecords
+    map-after w k = ap₂ mapOf (ap (tableRecords m) (k .same-faces)) (k .new-places) ∙ go w
       where
         go : (w : Bool)
-            → mapOf (records g n vs) (cond w (placesWith v l (p .target) (places g n vs)) (places g n vs))
-            ≡ cond w (placeWritten v l (p .target) (mapOf (records g n vs) (places g n vs))) (mapOf (records g n vs) (places g n vs))
-        go true = map-moved v l (p .target) (places g n vs) (p .old) (rw (ready .is-chosen)) (records g n vs)
+            → mapOf (records m) (cond w (placesWith v l (p .target) (places m)) (places m))
+            ≡ cond w (placeWritten v l (p .target) (mapOf (records m) (places m))) (mapOf (records m) (places m))
+        go true = map-moved v l (p .target) (places m) (p .old) (rw (ready .is-chosen)) (records m)
         go false = refl
 
   -- ---- what a course leaves
 
-  abbrev Ends : Course → Views → Type 0
-  Ends (toEnd k) vs′ = classAt g n vs′ (p .old) ≡ 0
-  Ends (toStop s) vs′ = Unit {0}
+  abbrev Ends : Course → List ℕ → Type 0
+  Ends (toEnd k) y = classAt (mediumOf g n y) (p .old) ≡ 0
+  Ends (toStop s) y = Unit {0}
 
   record Result (course : Course) : Type 0 where
     near : Near g n d (relocation p image) sited image (f .long) D long-D (unitBytes p) unit-is (left course)
-    kept : Keeps g n vs (viewsOf g (left course)) v l (p .target) (isWritten p image course (left course))
-    new-map : entries g n (viewsOf g (left course))
-        ≡ cond (isWritten p image course (left course)) (placeWritten v l (p .target) (entries g n vs)) (entries g n vs)
-    ends : Ends course (viewsOf g (left course))
+    kept : Keeps m (viewsOf g (left course)) v l (p .target) (isWritten p image course (left course))
+    new-map : entries (mediumOf g n (left course))
+        ≡ cond (isWritten p image course (left course)) (placeWritten v l (p .target) (entries m)) (entries m)
+    ends : Ends course (left course)
 
   result : (course : Course) → premiseOf image course (left course) (given p) ≡ true → Result course
   unfolding isWritten
@@ -358,11 +362,11 @@ module _ (slip : List ℕ) (g : Geometry) (n : ℕ) (chip : Chip slip g n) (imag
 
   pub record After (course : Course) : Type 0 where
     pub fine : Fine g n (imageLeft moverJob p image course)
-    pub same-faces : faces g n (viewsOf g (imageLeft moverJob p image course)) ≡ faces g n (viewsOf g image)
-    pub new-map : entries g n (viewsOf g (imageLeft moverJob p image course))
-        ≡ cond (isWritten p image course (imageLeft moverJob p image course)) (placeWritten v l t (entries g n (viewsOf g image)))
-        (entries g n (viewsOf g image))
-    pub moved : Moved slip p course image (imageLeft moverJob p image course)
+    pub same-faces : faces (mediumOf g n (imageLeft moverJob p image course)) ≡ faces (mediumOf g n image)
+    pub new-map : entries (mediumOf g n (imageLeft moverJob p image course))
+        ≡ cond (isWritten p image course (imageLeft moverJob p image course)) (placeWritten v l t (entries (mediumOf g n image)))
+        (entries (mediumOf g n image))
+    pub moved : Moved req p course image (imageLeft moverJob p image course)
 
   module _ (course : Course) (r : Result course) where
     fine-left : Fine g n (left course)
@@ -373,10 +377,10 @@ module _ (slip : List ℕ) (g : Geometry) (n : ℕ) (chip : Chip slip g n) (imag
       unrefused = r .kept .attaches;
     }
 
-    freed : Freed slip p course (left course)
-    freed = go course (r .ends) (attached slip g n chip (left course) (fine-left .long) (fine-left .unrefused))
+    freed : Freed req p course (left course)
+    freed = go course (r .ends) (attached req g n chip (left course) (fine-left .long) (fine-left .unrefused))
       where
-        go : (k : Course) → Ends k (viewsOf g (left course)) → outcomeOf slip (left course) ≡ whole g n (viewsOf g (left course)) → Freed slip p k (left course)
+        go : (k : Course) → Ends k (left course) → outcomeOf req (left course) ≡ whole (mediumOf g n (left course)) → Freed req p k (left course)
         go (toEnd k) e q = rw (q, e)
         go (toStop s) e q = tt
 
@@ -388,7 +392,7 @@ module _ (slip : List ℕ) (g : Geometry) (n : ℕ) (chip : Chip slip g n) (imag
       new-map = r .new-map;
       moved = record {
         same-length = r .near .long;
-        elsewhere = λ k no nt. same-byte g (left course) image k (peb-above slip g n chip) (r .near .elsewhere (k / g .«peb_size») no nt);
+        elsewhere = λ k no nt. same-byte g (left course) image k (peb-above req g n chip) (r .near .elsewhere (k / g .«peb_size») no nt);
         steps = steps moverJob mover-lawful p image may-run refl;
         freed = freed;
       };

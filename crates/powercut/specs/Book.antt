@@ -6,9 +6,10 @@ use Rattle.base.specs.Answers.{Answer, given, refused}
 use Rattle.base.specs.Lists.{eqs}
 use Rattle.header.specs.Vid.{vidBytes}
 use Rattle.report.specs.Volumes.{Entry, placeWritten}
+use Rattle.report.specs.Attach.{AttachRequest}
 use Rattle.job.specs.Course.{Course, toEnd, toStop, imageLeft}
 use Rattle.job.specs.Calls.{afterAll, EachCall}
-use Rattle.job.specs.Outcomes.{enough, outcomeOf, mapIn}
+use Rattle.job.specs.Outcomes.{outcomeOf, mapIn}
 use Rattle.job.specs.Torn.{vidAt, runAt}
 use Rattle.plan.specs.declared.Plan.{Plan}
 use Rattle.plan.specs.Begin.{beginning}
@@ -46,17 +47,17 @@ callLeft x c (given p) =
       book = cond (isWritten p (x .image) (c .course) last) (placeWritten (c .volume) (c .lnum) (c .target) (x .book)) (x .book);
     }
 
-module _ (slip : List ℕ) where
+module _ (req : AttachRequest) where
   -- what the beginning of a call answers, with tables long enough
   unfoldable pub begun : List ℕ → Call → Answer Plan
-  begun image c = beginning slip image (enough image) (enough image) (enough image) (c .volume) (c .lnum) (c .target)
+  begun image c = beginning req image (λ (n : ℕ). true) (c .volume) (c .lnum) (c .target)
 
   unfoldable pub afterCall : WithBook → Call → WithBook
   afterCall x c = callLeft x c (begun (x .image) c)
 
   -- "The place book starts as the first map, beside the first image"
   unfoldable pub atFirst : List ℕ → WithBook
-  atFirst image = record { image = image; book = mapIn (outcomeOf slip image) }
+  atFirst image = record { image = image; book = mapIn (outcomeOf req image) }
 
   abbrev pub afterCalls : WithBook → List Call → WithBook
   afterCalls = afterAll afterCall

@@ -11,6 +11,7 @@ use Rattle.crc32.specs.Crc.{crcOf}
 use Rattle.header.specs.Ec.{ecBytes}
 use Rattle.header.specs.Vid.{implies}
 use Rattle.geometry.specs.declared.Geometry.{Geometry}
+use Rattle.report.specs.Attach.{AttachRequest}
 use Rattle.job.specs.Course.{Course, toEnd, toStop}
 use Rattle.job.specs.Torn.{ecAt, vidAt, runAt, unlike}
 use Rattle.plan.specs.declared.Plan.{Plan}
@@ -40,5 +41,5 @@ premiseOf image (toEnd further) last (given p) = true
 premiseOf image (toStop s) last (given p) = allOf (premiseRules p image last)
 
 -- of a call on an image, and the image that it leaves
-unfoldable pub Premise : List ℕ → List ℕ → Call → List ℕ → Type 0
-Premise slip image c last = premiseOf image (c .course) last (begun slip image c) ≡ true
+unfoldable pub Premise : AttachRequest → List ℕ → Call → List ℕ → Type 0
+Premise req image c last = premiseOf image (c .course) last (begun req image c) ≡ true

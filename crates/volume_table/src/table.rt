@@ -5,7 +5,7 @@ ghost use Rattle.base.specs.Answers.{given, refused};
 ghost use Prim.Native.Nat.{ℕ, _+_, _-_, _*_, _≤_, _<_};
 ghost use lib.ListN.{length};
 ghost use Rattle.base.specs.Below.{anyBelow};
-ghost use Rattle.base.specs.Lists.{part, eqs};
+ghost use Rattle.base.specs.Lists.{eqs};
 ghost use Rattle.volume_table.specs.Record.{emptyRecord, isEmpty};
 ghost use Rattle.volume_table.specs.Table.{recordCount, recordsPart, recordAt, nameOf, sameNames, reservedLimit, tableGood, takenLeb, recordsTaken, copiesMark, takenNumber};
 ghost use Rattle.volume_table.specs.Sums.{TallyOf};
