@@ -6,7 +6,7 @@ use mathlib.Core.Option.{Option, none, some}
 use Prim.Native.Nat.{ℕ, zero, suc, _+_, _≤_, _<_}
 use native.Mathlib.Numerals.{add-one}
 use native.Mathlib.Omega.{arith}
-use borrow.Author.Tests.{ltb-true, ltb-false, eqb-true, eqb-false}
+use borrow.Author.Tests.{ltb-true, ltb-false, eqb-true, eqb-false, lt-ltb, le-ltb}
 use lib.Dec.{ltb, eqb}
 use Rattle.base.specs.Below.{allBelow, anyBelow, sumBelow, numbered, firstBelow}
 use Rattle.base.proofs.Answers.{clash, by-test, by-option, not-so, and-left, and-right, and-intro, or-left}
@@ -23,6 +23,13 @@ eq-or-ne i j = by-test (eqb i j) (λ q. inl (eqb-true i j q)) (λ q. inr (eqb-fa
 -- a number below suc n is below n or is n
 pub below-suc : (n i : ℕ) → i < suc n → (i < n) ⊎ (i ≡ n)
 below-suc n i h = ⊎-elim inl (λ (k : n ≤ i). inr (omega arith)) (lt-or-le i n)
+
+-- tests against 0
+pub above-zero : (a : ℕ) → (a ≡ 0 → ⊥) → ltb 0 a ≡ true
+above-zero a n = lt-ltb 0 a (omega arith)
+
+pub not-above : (a : ℕ) → a ≡ 0 → ltb 0 a ≡ false
+not-above a e = le-ltb 0 a (omega arith)
 
 -- a fact of every number below suc n, or n + 1: of those below n, and of n
 pub step-below : (P : ℕ → Type 0) (n : ℕ) → ((i : ℕ) → i < n → P i) → P n → (i : ℕ) → i < suc n → P i

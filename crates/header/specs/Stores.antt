@@ -13,12 +13,12 @@ use Rattle.header.specs.declared.EcHeader.{EcHeader}
 use Rattle.header.specs.declared.VidHeader.{VidHeader}
 
 -- zeroes with the magic before them
-unfoldable pub blankHeader : List ℕ → List ℕ → List ℕ
-blankHeader magic s = put 0 magic (replicate 64 0 ++ drop 64 s)
+unfoldable pub headerBegun : List ℕ → List ℕ → List ℕ
+headerBegun magic s = put 0 magic (replicate 64 0 ++ drop 64 s)
 
 -- the bytes s with their CRC stored
-unfoldable pub withSum : List ℕ → List ℕ
-withSum s = stored headerCrc (crcOf (take 60 s)) s
+unfoldable pub crcStored : List ℕ → List ℕ
+crcStored s = stored headerCrc (crcOf (take 60 s)) s
 
 -- the bytes s with the fields of an EC header stored
 unfoldable pub ecStored : EcHeader → List ℕ → List ℕ
@@ -28,8 +28,8 @@ ecStored h s = stored ecImageSeq (h .«image_seq») (stored ecDataStart (h .«da
 unfoldable pub kindStored : VidHeader → List ℕ → List ℕ
 kindStored h s = stored vidCompat (h .compat) (stored vidCopyFlag (h .«copy_flag») (stored vidType (h .«vol_type») (stored vidVersion (h .version) s)))
 
-unfoldable pub placeStored : VidHeader → List ℕ → List ℕ
-placeStored h s = stored vidSequence (h .sequence) (stored vidLnum (h .lnum) (stored vidVolume (h .volume) s))
+unfoldable pub volumeStored : VidHeader → List ℕ → List ℕ
+volumeStored h s = stored vidSequence (h .sequence) (stored vidLnum (h .lnum) (stored vidVolume (h .volume) s))
 
 unfoldable pub dataStored : VidHeader → List ℕ → List ℕ
 dataStored h s = stored vidDataCrc (h .«data_crc») (stored vidDataPad (h .«data_pad») (stored vidUsedLebs (h .«used_lebs») (stored vidDataSize (h .«data_size») s)))

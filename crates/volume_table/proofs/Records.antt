@@ -17,6 +17,8 @@ use Rattle.field.specs.Be.{toBeOn, toBe}
 use Rattle.crc32.specs.Crc.{crcOf}
 use Rattle.field.specs.Fields.{row, numberIn}
 use Rattle.field.proofs.Laws.{rows-fit}
+use Rattle.base.proofs.Below.{all-fails, all-more, above-zero}
+use Rattle.base.proofs.Lists.{part-take}
 use Rattle.volume_table.specs.Fields.{recordFields, recordCrc}
 use Rattle.volume_table.specs.Record.{nameEnds, recordRules, recordOf, recordCrcMatches, recordGood, emptyRecord}
 use Rattle.volume_table.specs.Record.{isEmpty, empty, good, bad, judgeRecord, shownRecord}
@@ -24,7 +26,6 @@ use Rattle.volume_table.specs.Sums.{tallied}
 use Rattle.volume_table.specs.Table.{emptyOrGood}
 use Rattle.volume_table.specs.declared.Tally.{Tally}
 use Rattle.volume_table.specs.declared.VolumeRecord.{VolumeRecord}
-use Rattle.volume_table.proofs.Laws.{part-take, all-broken, all-more, above-zero}
 
 -- ---- the fields
 
@@ -50,7 +51,7 @@ name-more name i e h = all-more (named name) i e (rw (ne-eqb _ _ h))
 
 pub name-cut : (name : List ℕ) (n i : ℕ) → i < n → getD name i 0 ≡ 0 → false ≡ nameEnds name n
 unfolding nameEnds
-name-cut name n i h e = rw (all-broken n (named name) i h (rw (eq-eqb _ _ e)))
+name-cut name n i h e = rw (all-fails n (named name) i h (rw (eq-eqb _ _ e)))
 
 pub name-whole : (name : List ℕ) (n : ℕ) → allBelow n (named name) ≡ true → eqb (getD name n 0) 0 ≡ nameEnds name n
 unfolding nameEnds
@@ -141,6 +142,6 @@ unfolding emptyOrGood
 fine-other size unit r p t g = g ∙ rw (← p, t)
 
 pub tallied-as : (size unit : ℕ) (s : Tally) (r : List ℕ) {v : VolumeRecord} {f : Bool} → v ≡ recordOf r → f ≡ emptyOrGood size unit r
-    → record { fine = f; reserved = s .reserved + v .reserved; autoresize = s .autoresize + bitAnd (v .flags) 1 } ≡ tallied size unit s r
+    → record { good = f; reserved = s .reserved + v .reserved; autoresize = s .autoresize + bitAnd (v .flags) 1 } ≡ tallied size unit s r
 unfolding tallied
 tallied-as size unit s r p q = rw (p, q)

@@ -15,7 +15,7 @@ use lib.Seq.{take-all}
 use Rattle.base.specs.Below.{anyBelow}
 use Rattle.base.specs.Lists.{part, eqs}
 use Rattle.base.proofs.Answers.{clash, one-broken}
-use Rattle.base.proofs.Below.{none-intro}
+use Rattle.base.proofs.Below.{none-intro, all-fails, all-more, not-above, above-zero}
 use Rattle.base.proofs.Lists.{eqs-true}
 use Rattle.field.specs.Fields.{bytesIn, numberIn}
 use Rattle.volume_table.specs.Fields.{recordNameLength, recordName}
@@ -25,7 +25,6 @@ use Rattle.volume_table.specs.Table.{recordCount, recordsPart, recordAt,
 use Rattle.volume_table.specs.Table.{autoresizes, tableRules, tableTests, tableGood, takenLeb, takenRecords}
 use Rattle.volume_table.specs.Table.{recordsTaken, copiesMark}
 use Rattle.volume_table.specs.declared.Tally.{Tally}
-use Rattle.volume_table.proofs.Laws.{all-broken, all-more, not-above, above-zero}
 
 -- ---- the records' part
 
@@ -99,15 +98,15 @@ module _ (size unit : ℕ) (t : List ℕ) where
   abbrev fineAt : ℕ → Bool
   fineAt i = emptyOrGood size unit (recordAt t i)
 
-  pub tally-none : TallyOf 0 size unit t (record { fine = true; reserved = 0; autoresize = 0 })
-  tally-none = record { fine = refl; reserved = λ _. refl; autoresize = λ _. refl }
+  pub tally-none : TallyOf 0 size unit t (record { good = true; reserved = 0; autoresize = 0 })
+  tally-none = record { good = refl; reserved = λ _. refl; autoresize = λ _. refl }
 
   module _ (i : ℕ) (s u : Tally) (e : u ≡ tallied size unit s (recordAt t i)) where
     -- one record more, and it is empty or good
-    pub tally-more : TallyOf i size unit t s → s .fine ≡ true → u .fine ≡ true → TallyOf (i + 1) size unit t u
+    pub tally-more : TallyOf i size unit t s → s .good ≡ true → u .good ≡ true → TallyOf (i + 1) size unit t u
     unfolding tallied autoresizes
     tally-more h f g = record {
-      fine = g ∙ sym (all-more fineAt i (sym (h .fine) ∙ f) (sym (ap (λ (x : Tally). x .fine) e) ∙ g));
+      good = g ∙ sym (all-more fineAt i (sym (h .good) ∙ f) (sym (ap (λ (x : Tally). x .good) e) ∙ g));
       reserved = λ _. ap (λ (x : Tally). x .reserved) e ∙ rw (add-one, h .reserved f);
       autoresize = λ _.
           ap (λ (x : Tally). x .autoresize) e
@@ -115,10 +114,10 @@ module _ (size unit : ℕ) (t : List ℕ) where
     }
 
     -- it is neither: the rest does not matter
-    pub tally-stop : (n : ℕ) → i < n → u .fine ≡ false → TallyOf n size unit t u
+    pub tally-stop : (n : ℕ) → i < n → u .good ≡ false → TallyOf n size unit t u
     unfolding tallied
     tally-stop n h g = record {
-      fine = g ∙ sym (all-broken n fineAt i h (sym (ap (λ (x : Tally). x .fine) e) ∙ g));
+      good = g ∙ sym (all-fails n fineAt i h (sym (ap (λ (x : Tally). x .good) e) ∙ g));
       reserved = λ b. clash g b;
       autoresize = λ b. clash g b;
     }
@@ -149,11 +148,11 @@ module _ (size unit pebs : ℕ) (content : List ℕ) {n : ℕ} {t : List ℕ} {s
   fails : (k : ℕ) → getD (tableTests n size unit pebs t) k true ≡ false → false ≡ tableGood size unit pebs content
   fails = one-fails size unit pebs content (h .count) (h .records)
 
-  pub not-fine : s .fine ≡ false → false ≡ tableGood size unit pebs content
+  pub not-fine : s .good ≡ false → false ≡ tableGood size unit pebs content
   unfolding tableTests tableRules
-  not-fine f = fails 2 (sym (h .sums .fine) ∙ f)
+  not-fine f = fails 2 (sym (h .sums .good) ∙ f)
 
-  module _ (f : s .fine ≡ true) where
+  module _ (f : s .good ≡ true) where
     pub too-many : 1 < s .autoresize → false ≡ tableGood size unit pebs content
     unfolding tableTests tableRules
     too-many l = fails 4 (lt-leb _ _ (rw (h .sums .autoresize f) at l))
@@ -168,7 +167,7 @@ module _ (size unit pebs : ℕ) (content : List ℕ) {n : ℕ} {t : List ℕ} {s
     unfolding tableGood tableTests tableRules
     names-decide z l a r d =
         d
-        ∙ rw (← (h .count), ← (h .records), above-zero _ z, le-leb _ _ l, ← (h .sums .fine), f, ← (h .sums .autoresize f), le-leb _ _ a, ← (h .sums .reserved f), le-leb _ _ r)
+        ∙ rw (← (h .count), ← (h .records), above-zero _ z, le-leb _ _ l, ← (h .sums .good), f, ← (h .sums .autoresize f), le-leb _ _ a, ← (h .sums .reserved f), le-leb _ _ r)
         (sym (and-true (not (anyBelow n (λ (j : ℕ). anyBelow j (repeats t j))))))
 
 -- ---- the table taken

@@ -61,9 +61,10 @@ pub struct TableChoice {
     pub copies_mark: u32,
 }
 
-// What a pass over records adds up: all empty or good so far, PEBs reserved, how many autoresize.
+// What a pass over records adds up: PEBs reserved, how many autoresize; and whether the last record is empty or good. The pass ends
+// at one that is neither.
 struct Tally {
-    fine: bool,
+    good: bool,
     reserved: u64,
     autoresize: u32,
 }

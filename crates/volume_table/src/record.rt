@@ -212,13 +212,13 @@ pub fn tally_record(sum: Tally, r: &[u8], leb_size: u32, unit: u32, empty: &[u8]
     let autoresize = sum.autoresize + (v.flags & AUTORESIZE) as u32;
     if is_empty(r, empty) {
         return Tally {
-            fine: true,
+            good: true,
             reserved,
             autoresize,
         };
     }
     Tally {
-        fine: is_good(r, v, leb_size, unit),
+        good: is_good(r, v, leb_size, unit),
         reserved,
         autoresize,
     }

@@ -115,7 +115,7 @@ fn tally(t: &[u8], n: usize, leb_size: u32, unit: u32, empty: &[u8]) -> Tally
     ensures { λ r. ⌜ TallyOf n «leb_size» unit (now (t .entry)) r ⌝ }
 {
     let mut sum = Tally {
-        fine: true,
+        good: true,
         reserved: 0,
         autoresize: 0,
     };
@@ -123,7 +123,7 @@ fn tally(t: &[u8], n: usize, leb_size: u32, unit: u32, empty: &[u8]) -> Tally
     while i < n {
         let at = RECORD_SIZE * i;
         sum = tally_record(sum, &t[at..at + RECORD_SIZE], leb_size, unit, empty);
-        if !sum.fine {
+        if !sum.good {
             return sum;
         }
         i += 1;
@@ -145,7 +145,7 @@ pub fn table_good(content: &[u8], leb_size: u32, unit: u32, peb_count: u32) -> b
     let t = records_part(content, leb_size);
     let empty = empty_record();
     let sum = tally(t, n, leb_size, unit, &empty);
-    if !sum.fine {
+    if !sum.good {
         return false;
     }
     if 1 < sum.autoresize {

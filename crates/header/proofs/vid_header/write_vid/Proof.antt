@@ -27,7 +27,7 @@ returns-3 c =
     let a = c .before .before .before .before .before .before .before .before .before .before .before .before .before .before .before .before .before .before .before .before .before .before .before .before .before .args in
     let s : 64 ≤ length (a .out .now) = omega arith in
     let g = sym (c .before .before .before .before .before .before .before .before .before .before .before .before .before .before .before .before .before .before .before .before .before .before .vid-readable .ensures) ∙ not-false (c .before .before .before .before .before .before .before .before .before .before .before .before .before .before .before .before .before .before .before .before .before .before .vid-readable .result) (c .before .before .before .before .before .before .before .before .before .before .before .before .before .before .before .before .before .before .before .before .before .if2 .left) in
-    (rw (le-ltb _ _ s, g), vid-wrote (a .out .now) s (a .leb-size) (a .h) g (c .before .before .before .before .before .before .before .before .before .before .before .before .before .before .before .before .before .before .begin .ensures) (c .before .before .before .before .before .before .before .before .before .before .before .before .before .before .set-kind .ensures) (c .before .before .before .before .before .before .before .before .before .before .set-place .ensures) (c .before .before .before .before .before .before .set-data .ensures) (c .before .before .finish .ensures))
+    (rw (le-ltb _ _ s, g), vid-wrote (a .out .now) s (a .leb-size) (a .h) g (c .before .before .before .before .before .before .before .before .before .before .before .before .before .before .before .before .before .before .begin .ensures) (c .before .before .before .before .before .before .before .before .before .before .before .before .before .before .set-kind .ensures) (c .before .before .before .before .before .before .before .before .before .before .set-volume .ensures) (c .before .before .before .before .before .before .set-data .ensures) (c .before .before .finish .ensures))
 
 pub write-vid-spec : {M : Type 1} → statement M
 write-vid-spec =

@@ -1,8 +1,9 @@
 -- `volume_table::record::rules_hold` meets its contract: one broken rule is enough. Assumes nothing.
 use borrow.Author.Needs.{needs}
 use borrow.Author.Tests.{lt-leb, ne-eqb}
+use Rattle.base.proofs.Answers.{was-false, was-true}
+use Rattle.base.proofs.Below.{not-above}
 use Rattle.volume_table.specs.Record.{recordRules}
-use Rattle.volume_table.proofs.Laws.{was-false, was-true, not-above}
 use Rattle.volume_table.proofs.Records.{broken, flags-decide}
 use Rattle.volume_table.proofs.record.rules_hold.Statement.{statement}
 use Rattle.volume_table.proofs.record.rules_hold.Tie as tie

@@ -6,8 +6,8 @@ use native.Mathlib.Nat.{add-sub-cancel-left}
 use native.Mathlib.Omega.{arith}
 use borrow.Author.Needs.{needs}
 use Rattle.base.specs.Below.{anyBelow}
-use Rattle.base.proofs.Below.{any-intro}
-use Rattle.volume_table.proofs.Laws.{any-more, lent-length}
+use Rattle.base.proofs.Below.{any-intro, any-more}
+use Rattle.base.proofs.Lists.{lent-length}
 use Rattle.volume_table.proofs.Tables.{empty-at, repeats, none-repeats, repeats-as}
 use Rattle.volume_table.proofs.table.name_repeats.Statement.{statement}
 use Rattle.volume_table.proofs.table.name_repeats.Tie as tie

@@ -2,7 +2,7 @@
 use mathlib.Core.Path.{ap₂, _∙_}
 use borrow.Author.Needs.{needs}
 use Rattle.base.specs.Lists.{eqs}
-use Rattle.volume_table.proofs.Laws.{was-false, was-true}
+use Rattle.base.proofs.Answers.{was-false, was-true}
 use Rattle.volume_table.proofs.Tables.{other-name, one-name}
 use Rattle.volume_table.proofs.table.names_clash.Statement.{statement}
 use Rattle.volume_table.proofs.table.names_clash.Tie as tie

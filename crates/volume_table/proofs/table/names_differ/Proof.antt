@@ -5,8 +5,7 @@ use Prim.Native.Nat.{ℕ, _≤_, _-_}
 use native.Mathlib.Omega.{arith}
 use borrow.Author.Needs.{needs}
 use Rattle.base.specs.Below.{anyBelow}
-use Rattle.base.proofs.Below.{any-intro}
-use Rattle.volume_table.proofs.Laws.{any-more}
+use Rattle.base.proofs.Below.{any-intro, any-more}
 use Rattle.volume_table.proofs.Tables.{repeats}
 use Rattle.volume_table.proofs.table.names_differ.Statement.{statement}
 use Rattle.volume_table.proofs.table.names_differ.Tie as tie

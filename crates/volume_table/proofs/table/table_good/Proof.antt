@@ -33,17 +33,17 @@ tally-requires c κs = (omega (arith, count-small (c .before .before .before .be
 returns-3 : tie.Need-returns-3
 returns-3 c =
     let a = c .before .before .before .before .before .before .before .before .before .before .args in
-    not-fine (a .leb-size) (a .unit) (a .peb-count) (a .content .now) (summed (c .before .before)) (not-true (c .before .before .tally .result .fine) (c .if3 .taken))
+    not-fine (a .leb-size) (a .unit) (a .peb-count) (a .content .now) (summed (c .before .before)) (not-true (c .before .before .tally .result .good) (c .if3 .taken))
 
 returns-4 : tie.Need-returns-4
 returns-4 c =
     let a = c .before .before .before .before .before .before .before .before .before .before .before .before .args in
-    too-many (a .leb-size) (a .unit) (a .peb-count) (a .content .now) (summed (c .before .before .before .before)) (not-false (c .before .before .before .before .tally .result .fine) (c .before .before .if3 .left)) (c .if4 .taken)
+    too-many (a .leb-size) (a .unit) (a .peb-count) (a .content .now) (summed (c .before .before .before .before)) (not-false (c .before .before .before .before .tally .result .good) (c .before .before .if3 .left)) (c .if4 .taken)
 
 returns-5 : tie.Need-returns-5
 returns-5 c =
     let a = c .before .before .before .before .before .before .before .before .before .before .before .before .before .before .before .args in
-    too-much (a .leb-size) (a .unit) (a .peb-count) (a .content .now) (summed (c .before .before .before .before .before .before .before)) (not-false (c .before .before .before .before .before .before .before .tally .result .fine) (c .before .before .before .before .before .if3 .left)) (rw (c .before .before .most-reserved .ensures) at (c .if5 .taken))
+    too-much (a .leb-size) (a .unit) (a .peb-count) (a .content .now) (summed (c .before .before .before .before .before .before .before)) (not-false (c .before .before .before .before .before .before .before .tally .result .good) (c .before .before .before .before .before .if3 .left)) (rw (c .before .before .most-reserved .ensures) at (c .if5 .taken))
 
 names-differ-requires : tie.Need-names-differ-requires
 names-differ-requires c κs = (omega (arith, count-small (c .before .before .before .before .before .before .before .before .before .before .before .before .before .before .before .before .args .leb-size)), (whole (c .before .before .before .before .before .before .before .before .before .before .before), c .before .before .before .before .before .before .before .before .before .before .empty-record .ensures))
@@ -51,7 +51,7 @@ names-differ-requires c κs = (omega (arith, count-small (c .before .before .bef
 returns-6 : tie.Need-returns-6
 returns-6 c =
     let a = c .before .before .before .before .before .before .before .before .before .before .before .before .before .before .before .before .before .args in
-    names-decide (a .leb-size) (a .unit) (a .peb-count) (a .content .now) (summed (c .before .before .before .before .before .before .before .before .before)) (not-false (c .before .before .before .before .before .before .before .before .before .tally .result .fine) (c .before .before .before .before .before .before .before .if3 .left))
+    names-decide (a .leb-size) (a .unit) (a .peb-count) (a .content .now) (summed (c .before .before .before .before .before .before .before .before .before)) (not-false (c .before .before .before .before .before .before .before .before .before .tally .result .good) (c .before .before .before .before .before .before .before .if3 .left))
     (c .before .before .before .before .before .before .before .before .before .before .before .before .before .before .if1 .left) (whole (c .before .before .before .before .before .before .before .before .before .before .before .before)) (c .before .before .before .before .before .if4 .left) (rw (c .before .before .before .before .most-reserved .ensures) at (c .before .before .if5 .left)) (c .names-differ .ensures)
 
 pub table-good-spec : {M : Type 1} → statement M

@@ -6,16 +6,16 @@ use native.Mathlib.Nat.{add-sub-cancel-left}
 use native.Mathlib.Omega.{arith}
 use borrow.Author.Needs.{needs}
 use borrow.Author.Tests.{not-true, not-false}
+use Rattle.base.proofs.Lists.{lent-length}
 use Rattle.volume_table.specs.Sums.{tallied, TallyOf}
 use Rattle.volume_table.specs.Table.{recordAt}
-use Rattle.volume_table.proofs.Laws.{lent-length}
 use Rattle.volume_table.proofs.Tables.{tally-none, tally-more, tally-stop}
 use Rattle.volume_table.proofs.table.tally.Statement.{statement}
 use Rattle.volume_table.proofs.table.tally.Tie as tie
 
 abbrev Inv-loop : tie.InvT-loop
 Inv-loop t n leb-size unit empty sum₀ i₀ sum i =
-    (i ≤ n) × ((sum .fine ≡ true) × ((sum .reserved ≤ i * 2 ^ 32) × ((sum .autoresize ≤ i) × TallyOf i leb-size unit t sum)))
+    (i ≤ n) × ((sum .good ≡ true) × ((sum .reserved ≤ i * 2 ^ 32) × ((sum .autoresize ≤ i) × TallyOf i leb-size unit t sum)))
 
 abbrev μ-loop : tie.MeasureT-loop
 μ-loop t n leb-size unit empty sum₀ i₀ sum i = n - i
@@ -34,13 +34,13 @@ returns : tie.Need-returns Inv-loop μ-loop
 returns c =
     let a = c .before .before .before .before .before .before .before .before .args in
     let l = c .before .before .before .before .before .loop in
-    tally-stop (a .leb-size) (a .unit) (a .t .now) (l .i) (l .sum) (c .before .before .tally-record .result) (next (c .before .before)) (a .n) (omega arith) (not-true (c .before .before .tally-record .result .fine) (c .if1 .taken))
+    tally-stop (a .leb-size) (a .unit) (a .t .now) (l .i) (l .sum) (c .before .before .tally-record .result) (next (c .before .before)) (a .n) (omega arith) (not-true (c .before .before .tally-record .result .good) (c .if1 .taken))
 
 loop-again : tie.Need-loop-again Inv-loop μ-loop
 loop-again c =
     let a = c .before .before .before .before .before .before .before .before .args in
     let l = c .before .before .before .before .before .loop in
-    let f = not-false (c .before .before .tally-record .result .fine) (c .if1 .left) in
+    let f = not-false (c .before .before .tally-record .result .good) (c .if1 .left) in
     (omega arith, (f, (omega arith, (omega arith, tally-more (a .leb-size) (a .unit) (a .t .now) (l .i) (l .sum) (c .before .before .tally-record .result) (next (c .before .before)) (l .inv .1 .1 .1 .1) (l .inv .1 .0) f))))
 
 returns-2 : tie.Need-returns-2 Inv-loop μ-loop
