@@ -128,7 +128,8 @@ fn set_data(h: VidHeader, out: &mut [u8])
 
 // The header is written to the first 64 bytes, with its CRC and zero padding.
 pub fn write_vid(h: VidHeader, leb_size: u32, out: &mut [u8]) -> Written
-    ensures { λ r. ⌜ (written r ≡ vidWritten «leb_size» h (now (out .entry))) × (now (out .exit) ≡ vidOut «leb_size» h (now (out .entry))) ⌝ }
+    ensures { λ r. ⌜ (written r ≡ vidWritten «leb_size» h (now (out .entry)))
+        × (now (out .exit) ≡ vidOut «leb_size» h (now (out .entry))) ⌝ }
 {
     if out.len() < 64 {
         return Written::Short;

@@ -3,8 +3,8 @@ use mathlib.Core.List.{List, [], _∷_}
 use Rattle.field.specs.Fields.{field}
 use Rattle.field.specs.declared.Field.{Field}
 
--- "reserved PEBs 0-3, alignment 4-7, data pad 8-11, type 12, update marker 13, name length 14-15, name 16-143, flags 144, ..
--- CRC of 0-167 at 168-171"
+-- "reserved PEBs 0-3, alignment 4-7, data pad 8-11, type 12, update marker 13, name length 14-15, name 16-143,
+-- flags 144, .. CRC of 0-167 at 168-171"
 abbrev pub recordReserved : Field
 recordReserved = field 0 4
 
@@ -35,5 +35,5 @@ recordCrc = field 168 4
 -- one table of offsets and widths
 abbrev pub recordFields : List Field
 recordFields =
-    recordReserved ∷ recordAlignment ∷ recordDataPad ∷ recordType ∷ recordMarker ∷ recordNameLength ∷ recordName ∷ recordFlags
-    ∷ recordCrc ∷ []
+    recordReserved ∷ recordAlignment ∷ recordDataPad ∷ recordType ∷ recordMarker ∷ recordNameLength ∷ recordName
+    ∷ recordFlags ∷ recordCrc ∷ []

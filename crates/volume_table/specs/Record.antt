@@ -85,18 +85,16 @@ recordKind Good = given good
 recordKind Bad = given bad
 recordKind Short = refused 4 0
 
--- the numbers and name that are handed out beside it: those of the bytes, also where they are not good; zeroes where there are too few
+-- the numbers and name handed out beside it: those of the bytes, good or not; zeroes where there are too few
 unfoldable pub shownRecord : List ℕ → VolumeRecord
 shownRecord s = cond (ltb (length s) 172) (recordOf (replicate 172 0)) (recordOf s)
 
--- ---- a record written
-
--- bytes 0-167: "reserved PEBs 0-3, alignment 4-7, data pad 8-11, type 12, update marker 13, name length 14-15, name 16-143, flags 144,
--- zero 145-167"
+-- a record as it is written: "reserved PEBs 0-3, alignment 4-7, data pad 8-11, type 12, update marker 13,
+-- name length 14-15, name 16-143, flags 144, zero 145-167"
 unfoldable pub recordNumbers : VolumeRecord → List ℕ
 recordNumbers v =
-    toBe 4 (v .reserved) ++ toBe 4 (v .alignment) ++ toBe 4 (v .«data_pad») ++ toBe 1 (v .«vol_type») ++ toBe 1 (v .«update_marker»)
-    ++ toBe 2 (v .«name_length»)
+    toBe 4 (v .reserved) ++ toBe 4 (v .alignment) ++ toBe 4 (v .«data_pad»)
+    ++ toBe 1 (v .«vol_type») ++ toBe 1 (v .«update_marker») ++ toBe 2 (v .«name_length»)
 
 unfoldable pub recordTail : VolumeRecord → List ℕ
 recordTail v = toBe 1 (v .flags) ++ replicate 23 0

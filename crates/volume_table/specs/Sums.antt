@@ -1,4 +1,4 @@
--- What the contracts of the private functions cite: the sums of a pass over a table's records. No public promise names them. Assumes nothing.
+-- What private contracts cite: the sums of a pass over records. No public promise names them. Assumes nothing.
 use mathlib.Core.Path.{_≡_}
 use mathlib.Core.Bool.{true}
 use mathlib.Core.List.{List}

@@ -61,8 +61,8 @@ pub struct TableChoice {
     pub copies_mark: u32,
 }
 
-// What a pass over records adds up: PEBs reserved, how many autoresize; and whether the last record is empty or good. The pass ends
-// at one that is neither.
+// What a pass over records adds up: PEBs reserved, and how many autoresize. `good` is of the last record, empty or
+// good; the pass ends at one that is neither.
 struct Tally {
     good: bool,
     reserved: u64,

@@ -169,7 +169,8 @@ fn most_reserved(peb_count: u32) -> u64
 
 // The choice where the copies' records are equal.
 fn choice_of_equal(good: bool) -> TableChoice
-    ensures { λ r. ⌜ (takenNumber (r .taken) ≡ cond good (given 0) (cond good (given 1) (refused 11 0))) × (r .«copies_mark» ≡ cond good 0 1) ⌝ }
+    ensures { λ r. ⌜ (takenNumber (r .taken) ≡ cond good (given 0) (cond good (given 1) (refused 11 0)))
+        × (r .«copies_mark» ≡ cond good 0 1) ⌝ }
 {
     if good {
         return TableChoice {
@@ -185,7 +186,8 @@ fn choice_of_equal(good: bool) -> TableChoice
 
 // The choice where they differ.
 fn choice_of(good0: bool, good1: bool) -> TableChoice
-    ensures { λ r. ⌜ (takenNumber (r .taken) ≡ cond good0 (given 0) (cond good1 (given 1) (refused 11 0))) × (r .«copies_mark» ≡ cond (good0 && good1) 2 1) ⌝ }
+    ensures { λ r. ⌜ (takenNumber (r .taken) ≡ cond good0 (given 0) (cond good1 (given 1) (refused 11 0)))
+        × (r .«copies_mark» ≡ cond (good0 && good1) 2 1) ⌝ }
 {
     if good0 {
         if good1 {
@@ -219,8 +221,10 @@ pub fn choose_table(
     unit: u32,
     peb_count: u32,
 ) -> TableChoice
-    ensures taken { λ r. ⌜ takenNumber (r .taken) ≡ takenLeb «leb_size» unit «peb_count» (now (copy0 .entry)) (now (copy1 .entry)) ⌝ }
-    ensures mark { λ r. ⌜ r .«copies_mark» ≡ copiesMark «leb_size» unit «peb_count» (now (copy0 .entry)) (now (copy1 .entry)) ⌝ }
+    ensures taken { λ r. ⌜ takenNumber (r .taken)
+        ≡ takenLeb «leb_size» unit «peb_count» (now (copy0 .entry)) (now (copy1 .entry)) ⌝ }
+    ensures mark { λ r. ⌜ r .«copies_mark»
+        ≡ copiesMark «leb_size» unit «peb_count» (now (copy0 .entry)) (now (copy1 .entry)) ⌝ }
 {
     let good0 = table_good(copy0, leb_size, unit, peb_count);
     if base::same(records_part(copy0, leb_size), records_part(copy1, leb_size)) {

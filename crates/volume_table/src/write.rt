@@ -60,7 +60,7 @@ fn store_crc(out: &mut [u8])
     set_field(out, RECORD_CRC, crc as u64)
 }
 
-// A record is written to the first 172 bytes, with its CRC and zero padding, if they are lent; else nothing changes (refusal 4).
+// A record is written to the first 172 bytes, with its CRC and zero padding; false where fewer are lent (refusal 4).
 pub fn write_record(v: VolumeRecord, out: &mut [u8]) -> bool
     ensures { λ r. ⌜ (r ≡ leb 172 (length (now (out .entry)))) × (now (out .exit) ≡ recordOut v (now (out .entry))) ⌝ }
 {
