@@ -2,7 +2,7 @@
 use mathlib.Core.Path.{_≡_, refl, sym, ap, _∙_}
 use mathlib.Core.Bool.{true}
 use mathlib.Core.List.{List, _++_, append-assoc}
-use Prim.Native.Nat.{ℕ, _≤_}
+use Prim.Native.Nat.{ℕ, _≤_, _<_, _^_}
 use native.Mathlib.Omega.{arith}
 use borrow.Author.Tests.{eq-eqb, le-leb}
 use lib.ListN.{length, take, drop, replicate, length-append}
@@ -14,12 +14,26 @@ use Rattle.field.specs.Be.{beOf, toBeOn, toBe}
 use Rattle.field.proofs.Laws.{read-back-fits, each-toBe, length-toBe}
 use Rattle.crc32.specs.Crc.{crcOf}
 use Rattle.crc32.proofs.Laws.{crcOf-lt}
-use Rattle.volume_table.specs.Record.{recordOf, recordCrcMatches, recordNumbers, recordTail, recordHead}
-use Rattle.volume_table.specs.Record.{recordBytes, recordOut, RecordFits}
+use Rattle.volume_table.specs.Record.{recordOf, recordCrcMatches, recordHead}
+use Rattle.volume_table.specs.Record.{recordBytes, recordOut}
 use Rattle.volume_table.specs.Stores.{sizesStored, kindStored, nameStored, crcStored}
 use Rattle.volume_table.specs.declared.VolumeRecord.{VolumeRecord}
 
+module _ (v : VolumeRecord) where
+  -- what stands before the name, and after it
+  recordNumbers : List ℕ
+  recordNumbers =
+      toBe 4 (v .reserved) ++ toBe 4 (v .alignment) ++ toBe 4 (v .«data_pad»)
+      ++ toBe 1 (v .«vol_type») ++ toBe 1 (v .«update_marker») ++ toBe 2 (v .«name_length»)
+
+  recordTail : List ℕ
+  recordTail = toBe 1 (v .flags) ++ replicate 23 0
+
 module _ (v : VolumeRecord) (long : length (v .name) ≡ 128) where
+  head-is : recordHead v ≡ recordNumbers v ++ (v .name ++ recordTail v)
+  unfolding recordHead recordNumbers recordTail
+  head-is = refl
+
   numbers-stored : (t : List ℕ) → kindStored v (sizesStored v (replicate 172 0 ++ t))
       ≡ recordNumbers v ++ (replicate 128 0 ++ (recordTail v ++ (replicate 4 0 ++ t)))
   unfolding sizesStored kindStored recordNumbers recordTail toBeOn
@@ -30,11 +44,11 @@ module _ (v : VolumeRecord) (long : length (v .name) ≡ 128) where
   numbers-length = refl
 
   pub head-length : length (recordHead v) ≡ 168
-  unfolding recordHead recordTail toBeOn
-  head-length = rw (length-append, length-append, numbers-length, long)
+  unfolding recordTail toBeOn
+  head-length = ap length head-is ∙ rw (length-append, length-append, numbers-length, long)
 
   head-stored : (t : List ℕ) → nameStored (v .name) (kindStored v (sizesStored v (replicate 172 0 ++ t))) ≡ recordHead v ++ (replicate 4 0 ++ t)
-  unfolding nameStored recordHead
+  unfolding nameStored recordHead recordNumbers recordTail
   head-stored t =
       rw (numbers-stored t, put-middle 16 (v .name) (recordNumbers v) (replicate 128 0) (recordTail v ++ (replicate 4 0 ++ t)) numbers-length long)
       (sym (simp append-assoc))
@@ -56,6 +70,18 @@ module _ (v : VolumeRecord) (long : length (v .name) ≡ 128) where
       rw (le-leb _ _ h, u, s, r, q, p) (ap crcStored (head-stored (drop 172 out)) ∙ crc-stored (drop 172 out))
 
 -- ---- what was written is read
+
+-- the numbers are as large as their bytes allow, and the name is 128 bytes (they are so by their types)
+pub record RecordFits (v : VolumeRecord) : Type 0 where
+  pub reserved : v .reserved < 256 ^ 4
+  pub alignment : v .alignment < 256 ^ 4
+  pub data-pad : v .«data_pad» < 256 ^ 4
+  pub vol-type : v .«vol_type» < 256 ^ 1
+  pub update-marker : v .«update_marker» < 256 ^ 1
+  pub name-length : v .«name_length» < 256 ^ 2
+  pub name-long : length (v .name) ≡ 128
+  pub name-bytes : Bytes (v .name)
+  pub flags : v .flags < 256 ^ 1
 
 module _ (v : VolumeRecord) (f : RecordFits v) where
   head-bytes : Bytes (recordHead v)

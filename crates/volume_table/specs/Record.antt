@@ -1,6 +1,5 @@
 -- 01 'The volume table': a volume record. Assumes nothing.
-use mathlib.Core.Path.{_≡_}
-use Prim.Native.Nat.{ℕ, _%_, _^_, _<_}
+use Prim.Native.Nat.{ℕ, _%_}
 use mathlib.Core.Bool.{Bool, not, _&&_, _||_, cond}
 use mathlib.Core.List.{List, [], _∷_, _++_}
 use lib.Bits.{bitAnd}
@@ -8,7 +7,7 @@ use lib.Dec.{eqb, ltb, leb}
 use lib.ListN.{length, take, drop, getD, replicate}
 use Rattle.base.specs.Answers.{Answer, given, refused, allOf}
 use Rattle.base.specs.Below.{allBelow}
-use Rattle.base.specs.Lists.{eqs, Bytes}
+use Rattle.base.specs.Lists.{eqs}
 use Rattle.field.specs.Be.{toBe}
 use Rattle.field.specs.Fields.{bytesIn, numberIn}
 use Rattle.crc32.specs.Crc.{crcOf}
@@ -91,16 +90,11 @@ shownRecord s = cond (ltb (length s) 172) (recordOf (replicate 172 0)) (recordOf
 
 -- a record as it is written: "reserved PEBs 0-3, alignment 4-7, data pad 8-11, type 12, update marker 13,
 -- name length 14-15, name 16-143, flags 144, zero 145-167"
-unfoldable pub recordNumbers : VolumeRecord → List ℕ
-recordNumbers v =
+unfoldable pub recordHead : VolumeRecord → List ℕ
+recordHead v =
     toBe 4 (v .reserved) ++ toBe 4 (v .alignment) ++ toBe 4 (v .«data_pad»)
     ++ toBe 1 (v .«vol_type») ++ toBe 1 (v .«update_marker») ++ toBe 2 (v .«name_length»)
-
-unfoldable pub recordTail : VolumeRecord → List ℕ
-recordTail v = toBe 1 (v .flags) ++ replicate 23 0
-
-unfoldable pub recordHead : VolumeRecord → List ℕ
-recordHead v = recordNumbers v ++ (v .name ++ recordTail v)
+    ++ (v .name ++ (toBe 1 (v .flags) ++ replicate 23 0))
 
 -- "CRC of 0-167 at 168-171"
 unfoldable pub recordBytes : VolumeRecord → List ℕ
@@ -109,15 +103,3 @@ recordBytes v = recordHead v ++ toBe 4 (crcOf (recordHead v))
 -- the lent bytes afterwards: refusal 4 changes nothing, and bytes beyond 172 never change
 unfoldable pub recordOut : VolumeRecord → List ℕ → List ℕ
 recordOut v out = cond (leb 172 (length out)) (recordBytes v ++ drop 172 out) out
-
--- the numbers are as large as their bytes allow, and the name is 128 bytes (they are so by their types)
-pub record RecordFits (v : VolumeRecord) : Type 0 where
-  pub reserved : v .reserved < 256 ^ 4
-  pub alignment : v .alignment < 256 ^ 4
-  pub data-pad : v .«data_pad» < 256 ^ 4
-  pub vol-type : v .«vol_type» < 256 ^ 1
-  pub update-marker : v .«update_marker» < 256 ^ 1
-  pub name-length : v .«name_length» < 256 ^ 2
-  pub name-long : length (v .name) ≡ 128
-  pub name-bytes : Bytes (v .name)
-  pub flags : v .flags < 256 ^ 1
