@@ -33,16 +33,21 @@ module _ (t : List ℕ) where
 
 -- the steps of a write, one after the other
 module _ (out : List ℕ) {a b d : List ℕ} (long : 64 ≤ length out) where
-  pub ec-wrote : (h : EcHeader) → isGood (judgeEc h) ≡ true → a ≡ headerBegun ecMagic out → b ≡ ecStored h a → d ≡ crcStored b → d ≡ ecOut h out
+  pub ec-wrote : (h : EcHeader) → isGood (judgeEc h) ≡ true → a ≡ headerBegun ecMagic out → b ≡ ecStored h a
+      → d ≡ crcStored b → d ≡ ecOut h out
   unfolding ecOut headerBegun
-  ec-wrote h g p q r = rw (le-ltb _ _ long, g) (r ∙ ap crcStored (q ∙ ap (ecStored h) p ∙ ec-head (drop 64 out) h) ∙ ec-sum (drop 64 out) h)
+  ec-wrote h g p q r =
+      rw (le-ltb _ _ long, g)
+      (r ∙ ap crcStored (q ∙ ap (ecStored h) p ∙ ec-head (drop 64 out) h) ∙ ec-sum (drop 64 out) h)
 
-  pub vid-wrote : {e f : List ℕ} (size : ℕ) (h : VidHeader) → isGood (judgeVid size h) ≡ true → a ≡ headerBegun vidMagic out → b ≡ kindStored h a → d ≡ volumeStored h b
+  pub vid-wrote : {e f : List ℕ} (size : ℕ) (h : VidHeader) → isGood (judgeVid size h) ≡ true
+      → a ≡ headerBegun vidMagic out → b ≡ kindStored h a → d ≡ volumeStored h b
       → e ≡ dataStored h d → f ≡ crcStored e → f ≡ vidOut size h out
   unfolding vidOut headerBegun
   vid-wrote size h g p q r s u =
       rw (le-ltb _ _ long, g)
-      (u ∙ ap crcStored (s ∙ ap (dataStored h) (r ∙ ap (volumeStored h) (q ∙ ap (kindStored h) p)) ∙ vid-head (drop 64 out) h) ∙ vid-sum (drop 64 out) h)
+      (u ∙ ap crcStored (s ∙ ap (dataStored h) (r ∙ ap (volumeStored h) (q ∙ ap (kindStored h) p)) ∙ vid-head
+      (drop 64 out) h) ∙ vid-sum (drop 64 out) h)
 
 -- a header is 64 bytes, and one that is good is stored over the first 64
 pub ec-64 : (h : EcHeader) → length (ecBytes h) ≡ 64
@@ -53,10 +58,12 @@ pub vid-64 : (h : VidHeader) → length (vidBytes h) ≡ 64
 unfolding vidBytes vidHead toBeOn
 vid-64 h = refl
 
-pub ec-over : (h : EcHeader) (out : List ℕ) → 64 ≤ length out → isGood (judgeEc h) ≡ true → ecOut h out ≡ ecBytes h ++ drop 64 out
+pub ec-over : (h : EcHeader) (out : List ℕ) → 64 ≤ length out → isGood (judgeEc h) ≡ true
+    → ecOut h out ≡ ecBytes h ++ drop 64 out
 unfolding ecOut
 ec-over h out l g = rw (le-ltb _ _ l, g)
 
-pub vid-over : (size : ℕ) (h : VidHeader) (out : List ℕ) → 64 ≤ length out → isGood (judgeVid size h) ≡ true → vidOut size h out ≡ vidBytes h ++ drop 64 out
+pub vid-over : (size : ℕ) (h : VidHeader) (out : List ℕ) → 64 ≤ length out → isGood (judgeVid size h) ≡ true
+    → vidOut size h out ≡ vidBytes h ++ drop 64 out
 unfolding vidOut
 vid-over size h out l g = rw (le-ltb _ _ l, g)

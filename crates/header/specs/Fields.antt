@@ -104,7 +104,7 @@ module _ {A : Type 0} where
   abbrev pub readHeader : List ℕ → (List ℕ → Verdict A) → List ℕ → Verdict A
   readHeader magic judge s = cond (eqs (part 0 4 s) magic && crcMatches s) (judge s) bad
 
-  -- a verdict as an answer: a newer header is refusal 5, "header version above 1"; attaching alone knows its place, the PEB
+  -- a verdict as an answer: a newer header is refusal 5, "header version above 1"; its place is known to attaching
   abbrev pub verdictAnswer : Verdict A → Answer (Verdict A)
   verdictAnswer (good h) = given (good h)
   verdictAnswer bad = given bad

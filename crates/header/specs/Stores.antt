@@ -29,7 +29,8 @@ ecStored h s =
 -- the bytes s with the fields of a VID header stored, in three runs
 unfoldable pub kindStored : VidHeader → List ℕ → List ℕ
 kindStored h s =
-    storedAll ((vidVersion, h .version) ∷ (vidType, h .«vol_type») ∷ (vidCopyFlag, h .«copy_flag») ∷ (vidCompat, h .compat) ∷ []) s
+    storedAll
+    ((vidVersion, h .version) ∷ (vidType, h .«vol_type») ∷ (vidCopyFlag, h .«copy_flag») ∷ (vidCompat, h .compat) ∷ []) s
 
 unfoldable pub volumeStored : VidHeader → List ℕ → List ℕ
 volumeStored h s = storedAll ((vidVolume, h .volume) ∷ (vidLnum, h .lnum) ∷ (vidSequence, h .sequence) ∷ []) s
@@ -37,4 +38,5 @@ volumeStored h s = storedAll ((vidVolume, h .volume) ∷ (vidLnum, h .lnum) ∷ 
 unfoldable pub dataStored : VidHeader → List ℕ → List ℕ
 dataStored h s =
     storedAll
-    ((vidDataSize, h .«data_size») ∷ (vidUsedLebs, h .«used_lebs») ∷ (vidDataPad, h .«data_pad») ∷ (vidDataCrc, h .«data_crc») ∷ []) s
+    ((vidDataSize, h .«data_size») ∷ (vidUsedLebs, h .«used_lebs») ∷ (vidDataPad, h .«data_pad»)
+    ∷ (vidDataCrc, h .«data_crc») ∷ []) s

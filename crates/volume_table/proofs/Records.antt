@@ -36,7 +36,8 @@ fits i = rows-fit 172 128 recordFields refl i .0
 -- ---- the empty record
 
 -- 168 zeroes stored in the record, then their CRC
-pub zeroes-summed : {a b : List ℕ} {k : ℕ} → k ≡ crcOf (replicate 168 0) → a ≡ put 0 (replicate 168 0) (replicate 172 0xFF) → b ≡ put 168 (toBe 4 k) a → b ≡ emptyRecord
+pub zeroes-summed : {a b : List ℕ} {k : ℕ} → k ≡ crcOf (replicate 168 0)
+    → a ≡ put 0 (replicate 168 0) (replicate 172 0xFF) → b ≡ put 168 (toBe 4 k) a → b ≡ emptyRecord
 unfolding emptyRecord toBeOn
 zeroes-summed p q r = rw (r, q, p)
 
@@ -46,7 +47,8 @@ zeroes-summed p q r = rw (r, q, p)
 abbrev pub named : List ℕ → ℕ → Bool
 named name i = not (eqb (getD name i 0) 0)
 
-pub name-more : (name : List ℕ) (i : ℕ) → allBelow i (named name) ≡ true → (getD name i 0 ≡ 0 → ⊥) → allBelow (i + 1) (named name) ≡ true
+pub name-more : (name : List ℕ) (i : ℕ) → allBelow i (named name) ≡ true → (getD name i 0 ≡ 0 → ⊥)
+    → allBelow (i + 1) (named name) ≡ true
 name-more name i e h = all-more (named name) i e (rw (ne-eqb _ _ h))
 
 pub name-cut : (name : List ℕ) (n i : ℕ) → i < n → getD name i 0 ≡ 0 → false ≡ nameEnds name n
@@ -71,8 +73,10 @@ module _ (size unit : ℕ) (v : VolumeRecord) where
   broken k e = sym (one-broken (recordRules size unit v) k e)
 
   -- with the other rules kept, the flags decide
-  pub flags-decide : (v .reserved ≡ 0 → ⊥) → (v .alignment ≡ 0 → ⊥) → v .alignment ≤ size → eqb (v .alignment) 1 || eqb (v .alignment % unit) 0 ≡ true
-      → v .«data_pad» ≡ size % v .alignment → eqb (v .«vol_type») 1 || eqb (v .«vol_type») 2 ≡ true → v .«update_marker» ≤ 1
+  pub flags-decide : (v .reserved ≡ 0 → ⊥) → (v .alignment ≡ 0 → ⊥) → v .alignment ≤ size
+      → eqb (v .alignment) 1 || eqb (v .alignment % unit) 0 ≡ true
+      → v .«data_pad» ≡ size % v .alignment → eqb (v .«vol_type») 1 || eqb (v .«vol_type») 2 ≡ true
+      → v .«update_marker» ≤ 1
       → (v .«name_length» ≡ 0 → ⊥) → v .«name_length» ≤ 127 → nameEnds (v .name) (v .«name_length») ≡ true
       → eqb (bitAnd (v .flags) 0xFC) 0 ≡ allOf (recordRules size unit v)
   unfolding recordRules
@@ -83,7 +87,8 @@ module _ (size unit : ℕ) (v : VolumeRecord) where
 -- ---- what a record is
 
 module _ (size unit : ℕ) (r : List ℕ) where
-  pub not-summed : {s k : ℕ} → s ≡ crcOf (take 168 r) → k ≡ numberIn recordCrc r → (s ≡ k → ⊥) → false ≡ recordGood size unit r
+  pub not-summed : {s k : ℕ} → s ≡ crcOf (take 168 r) → k ≡ numberIn recordCrc r → (s ≡ k → ⊥)
+      → false ≡ recordGood size unit r
   unfolding recordGood recordCrcMatches
   not-summed p q n = rw (← p, ← q, ne-eqb _ _ n)
 
@@ -113,7 +118,8 @@ unfolding judgeRecord shownRecord
 read-short size unit s h p = (rw (lt-ltb _ _ h), p ∙ rw (lt-ltb _ _ h))
 
 -- `b` is whether the record is empty, `g` whether it is good
-module _ (size unit : ℕ) (s : List ℕ) {v : VolumeRecord} {b : Bool} (h : 172 ≤ length s) (p : v ≡ recordOf (take 172 s)) (c : b ≡ isEmpty (take 172 s)) where
+module _ (size unit : ℕ) (s : List ℕ) {v : VolumeRecord} {b : Bool} (h : 172 ≤ length s) (p : v ≡ recordOf (take 172 s))
+    (c : b ≡ isEmpty (take 172 s)) where
   shown : v ≡ shownRecord s
   unfolding shownRecord
   shown = p ∙ rw (le-ltb _ _ h) (record-start s)
@@ -137,11 +143,13 @@ pub fine-empty : (size unit : ℕ) (r : List ℕ) {b : Bool} → b ≡ isEmpty r
 unfolding emptyOrGood
 fine-empty size unit r p t = rw (← p, t)
 
-pub fine-other : (size unit : ℕ) (r : List ℕ) {b g : Bool} → b ≡ isEmpty r → b ≡ false → g ≡ recordGood size unit r → g ≡ emptyOrGood size unit r
+pub fine-other : (size unit : ℕ) (r : List ℕ) {b g : Bool} → b ≡ isEmpty r → b ≡ false → g ≡ recordGood size unit r
+    → g ≡ emptyOrGood size unit r
 unfolding emptyOrGood
 fine-other size unit r p t g = g ∙ rw (← p, t)
 
-pub tallied-as : (size unit : ℕ) (s : Tally) (r : List ℕ) {v : VolumeRecord} {f : Bool} → v ≡ recordOf r → f ≡ emptyOrGood size unit r
+pub tallied-as : (size unit : ℕ) (s : Tally) (r : List ℕ) {v : VolumeRecord} {f : Bool} → v ≡ recordOf r
+    → f ≡ emptyOrGood size unit r
     → record { good = f; reserved = s .reserved + v .reserved; autoresize = s .autoresize + bitAnd (v .flags) 1 } ≡ tallied size unit s r
 unfolding tallied
 tallied-as size unit s r p q = rw (p, q)

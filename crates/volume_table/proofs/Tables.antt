@@ -32,44 +32,53 @@ pub count-small : (size : ℕ) → recordCount size ≤ 128
 unfolding recordCount
 count-small size = min-le-left 128 _
 
-pub part-short : (size : ℕ) (content : List ℕ) {n : ℕ} → n ≡ recordCount size → length content < 172 * n → content ≡ recordsPart size content
+pub part-short : (size : ℕ) (content : List ℕ) {n : ℕ} → n ≡ recordCount size → length content < 172 * n
+    → content ≡ recordsPart size content
 unfolding recordsPart
 part-short size content e h = sym (take-all (172 * recordCount size) content (omega arith))
 
-pub part-long : (size : ℕ) (content : List ℕ) {n : ℕ} → n ≡ recordCount size → take (172 * n - 0) content ≡ recordsPart size content
+pub part-long : (size : ℕ) (content : List ℕ) {n : ℕ} → n ≡ recordCount size
+    → take (172 * n - 0) content ≡ recordsPart size content
 unfolding recordsPart
 part-long size content e = rw (sub-zero, e)
 
 -- a copy that is long enough for its records has them all
-pub all-there : (size : ℕ) (content : List ℕ) {n : ℕ} {t : List ℕ} → n ≡ recordCount size → t ≡ recordsPart size content → 172 * n ≤ length content → 172 * n ≤ length t
+pub all-there : (size : ℕ) (content : List ℕ) {n : ℕ} {t : List ℕ} → n ≡ recordCount size → t ≡ recordsPart size content
+    → 172 * n ≤ length content → 172 * n ≤ length t
 unfolding recordsPart
 all-there size content p q h = rw q (omega (arith, length-take (172 * recordCount size) content))
 
-cut-short : (size : ℕ) (content : List ℕ) {n : ℕ} → n ≡ recordCount size → length content < 172 * n → length (recordsPart size content) < 172 * n
+cut-short : (size : ℕ) (content : List ℕ) {n : ℕ} → n ≡ recordCount size → length content < 172 * n
+    → length (recordsPart size content) < 172 * n
 unfolding recordsPart
 cut-short size content p h = omega (arith, length-take (172 * recordCount size) content)
 
 -- ---- names
 
 -- a name ends with its field
-pub name-whole-field : (r : List ℕ) {n : ℕ} {b : List ℕ} → b ≡ bytesIn recordName r → n ≡ numberIn recordNameLength r → length b < n → b ≡ nameOf r
+pub name-whole-field : (r : List ℕ) {n : ℕ} {b : List ℕ} → b ≡ bytesIn recordName r → n ≡ numberIn recordNameLength r
+    → length b < n → b ≡ nameOf r
 unfolding nameOf recordOf
 name-whole-field r {n} {b} p q h = rw (← p, ← q) (sym (take-all n b (omega arith)))
 
-pub name-front : (r : List ℕ) {n : ℕ} {b : List ℕ} → b ≡ bytesIn recordName r → n ≡ numberIn recordNameLength r → take (n - 0) b ≡ nameOf r
+pub name-front : (r : List ℕ) {n : ℕ} {b : List ℕ} → b ≡ bytesIn recordName r → n ≡ numberIn recordNameLength r
+    → take (n - 0) b ≡ nameOf r
 unfolding nameOf recordOf
 name-front r p q = rw (sub-zero, p, q)
 
 -- ---- two records with one name
 
 -- a record where it stands
-pub empty-at : (at : ℕ) (t : List ℕ) {b : Bool} → b ≡ isEmpty (take (at + 172 - at) (drop at t)) → b ≡ isEmpty (part at 172 t)
+pub empty-at : (at : ℕ) (t : List ℕ) {b : Bool} → b ≡ isEmpty (take (at + 172 - at) (drop at t))
+    → b ≡ isEmpty (part at 172 t)
 empty-at at t q = rw add-sub-cancel-left at q
 
-pub other-name : (a b : List ℕ) → eqs (nameOf a) (nameOf b) ≡ false → false ≡ not (isEmpty a) && eqs (nameOf a) (nameOf b)
+pub other-name : (a b : List ℕ) → eqs (nameOf a) (nameOf b) ≡ false
+    → false ≡ not (isEmpty a) && eqs (nameOf a) (nameOf b)
 other-name a b p = rw (p, and-false)
 
-pub one-name : (a b : List ℕ) {e : Bool} → eqs (nameOf a) (nameOf b) ≡ true → e ≡ isEmpty a → not e ≡ not (isEmpty a) && eqs (nameOf a) (nameOf b)
+pub one-name : (a b : List ℕ) {e : Bool} → eqs (nameOf a) (nameOf b) ≡ true → e ≡ isEmpty a
+    → not e ≡ not (isEmpty a) && eqs (nameOf a) (nameOf b)
 one-name a b p q = rw (p, q, and-true)
 
 module _ (t : List ℕ) (j : ℕ) where
@@ -125,18 +134,22 @@ module _ (size unit : ℕ) (t : List ℕ) where
 -- ---- is the table good?
 
 -- one rule broken is enough
-one-fails : (size unit pebs : ℕ) (content : List ℕ) {n : ℕ} {t : List ℕ} → n ≡ recordCount size → t ≡ recordsPart size content
+one-fails : (size unit pebs : ℕ) (content : List ℕ) {n : ℕ} {t : List ℕ} → n ≡ recordCount size
+    → t ≡ recordsPart size content
     → (k : ℕ) → getD (tableTests n size unit pebs t) k true ≡ false → false ≡ tableGood size unit pebs content
 unfolding tableGood
 one-fails size unit pebs content {n} {t} p q k e = rw (← p, ← q) (sym (one-broken (tableTests n size unit pebs t) k e))
 
-pub no-records : (size unit pebs : ℕ) (content : List ℕ) {n : ℕ} → n ≡ recordCount size → n ≡ 0 → false ≡ tableGood size unit pebs content
+pub no-records : (size unit pebs : ℕ) (content : List ℕ) {n : ℕ} → n ≡ recordCount size → n ≡ 0
+    → false ≡ tableGood size unit pebs content
 unfolding tableTests tableRules
 no-records size unit pebs content p z = one-fails size unit pebs content p refl 0 (not-above _ z)
 
-pub too-short : (size unit pebs : ℕ) (content : List ℕ) {n : ℕ} → n ≡ recordCount size → length content < 172 * n → false ≡ tableGood size unit pebs content
+pub too-short : (size unit pebs : ℕ) (content : List ℕ) {n : ℕ} → n ≡ recordCount size → length content < 172 * n
+    → false ≡ tableGood size unit pebs content
 unfolding tableTests tableRules
-too-short size unit pebs content p h = one-fails size unit pebs content p refl 1 (lt-leb _ _ (cut-short size content p h))
+too-short size unit pebs content p h =
+    one-fails size unit pebs content p refl 1 (lt-leb _ _ (cut-short size content p h))
 
 -- the count n, the records t and their sums s, as computed
 pub record Summed (size unit : ℕ) (content : List ℕ) (n : ℕ) (t : List ℕ) (s : Tally) : Type 0 where
@@ -144,7 +157,8 @@ pub record Summed (size unit : ℕ) (content : List ℕ) (n : ℕ) (t : List ℕ
   pub records : t ≡ recordsPart size content
   pub sums : TallyOf n size unit t s
 
-module _ (size unit pebs : ℕ) (content : List ℕ) {n : ℕ} {t : List ℕ} {s : Tally} (h : Summed size unit content n t s) where
+module _ (size unit pebs : ℕ) (content : List ℕ) {n : ℕ} {t : List ℕ} {s : Tally}
+    (h : Summed size unit content n t s) where
   fails : (k : ℕ) → getD (tableTests n size unit pebs t) k true ≡ false → false ≡ tableGood size unit pebs content
   fails = one-fails size unit pebs content (h .count) (h .records)
 
@@ -173,27 +187,31 @@ module _ (size unit pebs : ℕ) (content : List ℕ) {n : ℕ} {t : List ℕ} {s
 -- ---- the table taken
 
 module _ (size unit pebs : ℕ) (copy0 copy1 : List ℕ) where
-  good-as : recordsPart size copy0 ≡ recordsPart size copy1 → tableGood size unit pebs copy0 ≡ tableGood size unit pebs copy1
+  good-as : recordsPart size copy0 ≡ recordsPart size copy1
+      → tableGood size unit pebs copy0 ≡ tableGood size unit pebs copy1
   unfolding tableGood
   good-as e = rw e
 
   module _ {g : Bool} {k : Answer ℕ} {m : ℕ} (p : g ≡ tableGood size unit pebs copy0) where
     -- equal records are judged once
-    pub chosen-equal : eqs (recordsPart size copy0) (recordsPart size copy1) ≡ true → k ≡ cond g (given 0) (cond g (given 1) (refused 11 0)) → m ≡ cond g 0 1
+    pub chosen-equal : eqs (recordsPart size copy0) (recordsPart size copy1) ≡ true
+        → k ≡ cond g (given 0) (cond g (given 1) (refused 11 0)) → m ≡ cond g 0 1
         → (k ≡ takenLeb size unit pebs copy0 copy1) × (m ≡ copiesMark size unit pebs copy0 copy1)
     unfolding takenLeb copiesMark
     chosen-equal e a b =
         let q : g ≡ tableGood size unit pebs copy1 = p ∙ good-as (eqs-true _ _ e) in
         (a ∙ rw (← p, ← q), b ∙ rw (← p, ← q, e, and-self))
 
-    pub chosen-unequal : {h : Bool} → h ≡ tableGood size unit pebs copy1 → eqs (recordsPart size copy0) (recordsPart size copy1) ≡ false
+    pub chosen-unequal : {h : Bool} → h ≡ tableGood size unit pebs copy1
+        → eqs (recordsPart size copy0) (recordsPart size copy1) ≡ false
         → k ≡ cond g (given 0) (cond h (given 1) (refused 11 0)) → m ≡ cond (g && h) 2 1
         → (k ≡ takenLeb size unit pebs copy0 copy1) × (m ≡ copiesMark size unit pebs copy0 copy1)
     unfolding takenLeb copiesMark
     chosen-unequal q e a b = (a ∙ rw (← p, ← q), b ∙ rw (← p, ← q, e))
 
   -- a choice that names the LEB whose table is taken shows its records
-  pub taken-records : {k : Answer ℕ} → k ≡ takenLeb size unit pebs copy0 copy1 → recordsTaken size k copy0 copy1 ≡ takenRecords size unit pebs copy0 copy1
+  pub taken-records : {k : Answer ℕ} → k ≡ takenLeb size unit pebs copy0 copy1
+      → recordsTaken size k copy0 copy1 ≡ takenRecords size unit pebs copy0 copy1
   unfolding takenLeb takenRecords
   taken-records e = rw e (go (tableGood size unit pebs copy0) (tableGood size unit pebs copy1))
     where

@@ -63,7 +63,8 @@ module _ (v : VolumeRecord) (long : length (v .name) ≡ 128) where
       ∙ sym (append-assoc (recordHead v) (toBe 4 c) t)
 
   -- the stores, one after the other
-  pub stored-is : (out : List ℕ) {a b d e f : List ℕ} → 172 ≤ length out → a ≡ replicate 172 0 ++ drop 172 out → b ≡ sizesStored v a
+  pub stored-is : (out : List ℕ) {a b d e f : List ℕ} → 172 ≤ length out → a ≡ replicate 172 0 ++ drop 172 out
+      → b ≡ sizesStored v a
       → d ≡ kindStored v b → e ≡ nameStored (v .name) d → f ≡ crcStored e → f ≡ recordOut v out
   unfolding recordOut
   stored-is out h p q r s u =
@@ -89,7 +90,8 @@ module _ (v : VolumeRecord) (f : RecordFits v) where
   head-bytes =
       bytes-append (recordNumbers v) (v .name ++ recordTail v)
       (bytes-each (recordNumbers v) (search (each-append, each-toBe) depth 12))
-      (bytes-append (v .name) (recordTail v) (f .name-bytes) (bytes-each (recordTail v) (search (each-append, each-toBe, each-zero) depth 12)))
+      (bytes-append (v .name) (recordTail v) (f .name-bytes)
+      (bytes-each (recordTail v) (search (each-append, each-toBe, each-zero) depth 12)))
 
   pub record-crc : recordCrcMatches (recordBytes v) ≡ true
   unfolding recordCrcMatches recordBytes
@@ -115,5 +117,7 @@ module _ (v : VolumeRecord) (f : RecordFits v) where
     «update_marker» = read-back-fits 1 (v .«update_marker») (f .update-marker) i;
     «name_length» = read-back-fits 2 (v .«name_length») (f .name-length) i;
     name = behind (toBe 4 (crcOf (recordHead v))) .0 i;
-    flags = (ap (λ (l : List ℕ). beOf (take 1 l)) (behind (toBe 4 (crcOf (recordHead v))) .1) ∙ read-back-fits 1 (v .flags) (f .flags)) i;
+    flags =
+        (ap (λ (l : List ℕ). beOf (take 1 l)) (behind (toBe 4 (crcOf (recordHead v))) .1) ∙ read-back-fits 1 (v .flags)
+        (f .flags)) i;
   }

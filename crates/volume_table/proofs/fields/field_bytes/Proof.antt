@@ -8,4 +8,6 @@ returns : tie.Need-returns
 returns c = rw (add-sub-cancel-left, ← (c .before .before .field-of .ensures .0))
 
 pub field-bytes-spec : {M : Type 1} → statement M
-field-bytes-spec = tie.close (tie.spec (λ c κs. search needs) (λ c. search needs) (λ c. search needs) (λ c. search needs) (λ c. search needs) returns)
+field-bytes-spec =
+    tie.close (tie.spec (λ c κs. search needs) (λ c. search needs) (λ c. search needs) (λ c. search needs)
+    (λ c. search needs) returns)

@@ -6,7 +6,9 @@ use Rattle.volume_table.proofs.fields.get_field.Statement.{statement}
 use Rattle.volume_table.proofs.fields.get_field.Tie as tie
 
 read-requires : tie.Need-read-requires
-read-requires c κs = let i = c .before .before .args .i in rw (c .field-of .ensures .0) (omega (arith, fits i), c .before .before .pre .1 .0)
+read-requires c κs =
+    let i = c .before .before .args .i in
+    rw (c .field-of .ensures .0) (omega (arith, fits i), c .before .before .pre .1 .0)
 
 returns : tie.Need-returns
 returns c = rw (← (c .before .field-of .ensures .0)) (c .read .ensures)

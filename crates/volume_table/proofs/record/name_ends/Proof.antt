@@ -16,10 +16,13 @@ abbrev μ-loop : tie.MeasureT-loop
 μ-loop n name i₀ i = n - i
 
 returns : tie.Need-returns Inv-loop μ-loop
-returns c = name-cut (c .before .before .before .args .t1) (c .before .before .before .args .n) (c .before .before .loop .i) (omega arith) (c .if1 .taken)
+returns c =
+    let start = c .before .before .before in
+    name-cut (start .args .t1) (start .args .n) (c .before .before .loop .i) (omega arith) (c .if1 .taken)
 
 loop-again : tie.Need-loop-again Inv-loop μ-loop
-loop-again c = (omega arith, name-more (c .before .before .before .args .t1) (c .before .before .loop .i) (c .before .before .loop .inv .1) (c .if1 .left))
+loop-again c =
+    (omega arith, name-more (c .before .before .before .args .t1) (c .before .before .loop .i) (c .before .before .loop .inv .1) (c .if1 .left))
 
 returns-2 : tie.Need-returns-2 Inv-loop μ-loop
 returns-2 c =

@@ -16,4 +16,5 @@ returns : tie.Need-returns
 returns c = c .before .store .ensures ∙ put-all _ _ (long (c .before .before)) ∙ c .before .before .field-bytes .ensures
 
 pub name-field-spec : {M : Type 1} → statement M
-name-field-spec = tie.close (tie.spec (λ c. search needs) (λ c κs. search needs) (λ c κs. omega (arith, long c)) returns)
+name-field-spec =
+    tie.close (tie.spec (λ c. search needs) (λ c κs. search needs) (λ c κs. omega (arith, long c)) returns)
