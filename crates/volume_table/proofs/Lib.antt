@@ -1,4 +1,2 @@
-pub mod Records
 pub mod Tables
 pub mod Good
-pub mod Written

@@ -18,8 +18,9 @@ use Rattle.base.proofs.Answers.{clash, one-broken}
 use Rattle.base.proofs.Below.{none-intro, all-fails, all-more, not-above, above-zero}
 use Rattle.base.proofs.Lists.{eqs-true}
 use Rattle.field.specs.Fields.{bytesIn, numberIn}
-use Rattle.volume_table.specs.Fields.{recordNameLength, recordName}
-use Rattle.volume_table.specs.Record.{recordOf, isEmpty}
+use Rattle.volume_record.specs.Fields.{recordNameLength, recordName}
+use Rattle.volume_record.specs.Record.{recordOf, recordGood, isEmpty}
+use Rattle.volume_record.specs.declared.VolumeRecord.{VolumeRecord}
 use Rattle.volume_table.specs.Sums.{tallied, TallyOf}
 use Rattle.volume_table.specs.Table.{recordCount, recordsPart, recordAt, emptyOrGood, nameOf, sameNames}
 use Rattle.volume_table.specs.Table.{autoresizes, tableRules, tableTests, tableGood, takenLeb, takenRecords}
@@ -94,6 +95,23 @@ module _ (t : List ℕ) (j : ℕ) where
       → r ≡ not (isEmpty (recordAt t i)) && eqs (nameOf (recordAt t i)) (nameOf (recordAt t j)) → r ≡ repeats i
   unfolding sameNames
   repeats-as i p q r = r ∙ rw (← p, q)
+
+-- ---- the sums with one record more
+
+pub fine-empty : (size unit : ℕ) (r : List ℕ) {b : Bool} → b ≡ isEmpty r → b ≡ true → true ≡ emptyOrGood size unit r
+unfolding emptyOrGood
+fine-empty size unit r p t = rw (← p, t)
+
+pub fine-other : (size unit : ℕ) (r : List ℕ) {b g : Bool} → b ≡ isEmpty r → b ≡ false → g ≡ recordGood size unit r
+    → g ≡ emptyOrGood size unit r
+unfolding emptyOrGood
+fine-other size unit r p t g = g ∙ rw (← p, t)
+
+pub tallied-as : (size unit : ℕ) (s : Tally) (r : List ℕ) {v : VolumeRecord} {f : Bool} → v ≡ recordOf r
+    → f ≡ emptyOrGood size unit r
+    → record { good = f; reserved = s .reserved + v .reserved; autoresize = s .autoresize + bitAnd (v .flags) 1 } ≡ tallied size unit s r
+unfolding tallied
+tallied-as size unit s r p q = rw (p, q)
 
 -- ---- the sums
 

@@ -5,7 +5,7 @@ use mathlib.Core.List.{List}
 use Prim.Native.Nat.{ℕ, _+_}
 use lib.Bits.{bitAnd}
 use Rattle.base.specs.Below.{allBelow, countBelow, sumBelow}
-use Rattle.volume_table.specs.Record.{recordOf}
+use Rattle.volume_record.specs.Record.{recordOf}
 use Rattle.volume_table.specs.Table.{recordAt, emptyOrGood, autoresizes}
 use Rattle.volume_table.specs.declared.Tally.{Tally}
 

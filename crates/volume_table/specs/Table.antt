@@ -8,7 +8,7 @@ use lib.ListN.{length, take}
 use Rattle.base.specs.Answers.{Answer, given, refused, allOf}
 use Rattle.base.specs.Below.{allBelow, anyBelow, countBelow, sumBelow}
 use Rattle.base.specs.Lists.{part, eqs}
-use Rattle.volume_table.specs.Record.{recordOf, isEmpty, recordGood}
+use Rattle.volume_record.specs.Record.{recordOf, isEmpty, recordGood}
 use Rattle.volume_table.specs.declared.Taken.{Taken}
 use Rattle.volume_table.specs.declared.Taken.the-variants.{Leb, Neither}
 

@@ -2,25 +2,27 @@
 ghost use mathlib.Core.Path.{_≡_};
 ghost use mathlib.Core.Bool.{not, _&&_, cond};
 ghost use Rattle.base.specs.Answers.{given, refused};
-ghost use Prim.Native.Nat.{ℕ, _+_, _-_, _*_, _≤_, _<_};
+ghost use Prim.Native.Nat.{ℕ, _+_, _-_, _*_, _^_, _≤_, _<_};
 ghost use lib.ListN.{length};
 ghost use Rattle.base.specs.Below.{anyBelow};
 ghost use Rattle.base.specs.Lists.{eqs};
-ghost use Rattle.volume_table.specs.Record.{emptyRecord, isEmpty};
+ghost use Rattle.volume_record.specs.Record.{emptyRecord, isEmpty};
 ghost use Rattle.volume_table.specs.Table.{recordCount, recordsPart, recordAt, nameOf, sameNames, reservedLimit};
 ghost use Rattle.volume_table.specs.Table.{tableGood, takenLeb, recordsTaken, copiesMark, takenNumber};
-ghost use Rattle.volume_table.specs.Sums.{TallyOf};
+ghost use Rattle.volume_table.specs.Sums.{tallied, TallyOf};
 use crate::TableChoice;
 use crate::Taken;
 use crate::Tally;
-use crate::fields::RECORD_NAME;
-use crate::fields::RECORD_NAME_LENGTH;
-use crate::fields::RECORD_SIZE;
-use crate::fields::field_bytes;
-use crate::fields::get_field;
-use crate::record::empty_record;
-use crate::record::is_empty;
-use crate::record::tally_record;
+use volume_record::RECORD_NAME;
+use volume_record::RECORD_NAME_LENGTH;
+use volume_record::RECORD_SIZE;
+use volume_record::field_bytes;
+use volume_record::get_field;
+use volume_record::empty_record;
+use volume_record::is_empty;
+use volume_record::AUTORESIZE;
+use volume_record::is_good;
+use volume_record::parse;
 
 // "at most 128"
 const MOST_RECORDS: usize = 128;
@@ -107,6 +109,30 @@ fn names_differ(t: &[u8], n: usize, empty: &[u8]) -> bool
         j += 1;
     }
     true
+}
+
+// The sums with one record more.
+fn tally_record(sum: Tally, r: &[u8], leb_size: u32, unit: u32, empty: &[u8]) -> Tally
+    requires { ⌜ (length (now r) ≡ 172) × ((now empty ≡ emptyRecord)
+        × ((sum .reserved < 2 ^ 40) × (sum .autoresize < 128))) ⌝ }
+    ensures { λ t. ⌜ (t ≡ tallied «leb_size» unit sum (now (r .entry)))
+        × ((t .reserved < sum .reserved + 2 ^ 32) × (t .autoresize ≤ sum .autoresize + 1)) ⌝ }
+{
+    let v = parse(r);
+    let reserved = sum.reserved + v.reserved as u64;
+    let autoresize = sum.autoresize + (v.flags & AUTORESIZE) as u32;
+    if is_empty(r, empty) {
+        return Tally {
+            good: true,
+            reserved,
+            autoresize,
+        };
+    }
+    Tally {
+        good: is_good(r, v, leb_size, unit),
+        reserved,
+        autoresize,
+    }
 }
 
 // The first n records: are all empty or good, and what they reserve and how many autoresize if so.
