@@ -13,14 +13,14 @@ ghost use Rattle.volume_table.specs.Sums.{tallied, TallyOf};
 use crate::TableChoice;
 use crate::Taken;
 use crate::Tally;
+use volume_record::AUTORESIZE;
 use volume_record::RECORD_NAME;
 use volume_record::RECORD_NAME_LENGTH;
 use volume_record::RECORD_SIZE;
+use volume_record::empty_record;
 use volume_record::field_bytes;
 use volume_record::get_field;
-use volume_record::empty_record;
 use volume_record::is_empty;
-use volume_record::AUTORESIZE;
 use volume_record::is_good;
 use volume_record::parse;
 
