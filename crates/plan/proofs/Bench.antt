@@ -17,7 +17,7 @@ use Rattle.header.specs.Ec.{ecFields, ecRules, judgeEc, readEc, ecHead, ecBytes
 use Rattle.header.specs.Vid.{layoutVolume, vidFields, volumeRule, staticRule, dynamicRule, layoutRule, vidRules, judgeVid, readVid, vidHead, vidBytes}
 use Rattle.header.specs.declared.EcHeader.{EcHeader}
 use Rattle.header.specs.declared.VidHeader.{VidHeader}
-use Rattle.volume_table.specs.Record.{recordOf, recordCrcMatches, emptyRecord, isEmpty, nameEnds, recordRules, recordGood}
+use Rattle.volume_record.specs.Record.{recordOf, recordCrcMatches, emptyRecord, isEmpty, nameEnds, recordRules, recordGood}
 use Rattle.volume_table.specs.Table.{recordCount, recordsPart, emptyOrGood, nameOf, sameNames, autoresizes, tableRules, tableTests, tableGood, takenLeb, takenRecords}
 use Rattle.report.specs.View.{Copy, Views, Medium, ecGood, vidBlank, allFF, copyOf, viewOf}
 use Rattle.report.specs.Scan.{imageSeq, viewRefusal, refusal5678, refusal10}

@@ -27,7 +27,7 @@ use Rattle.header.specs.declared.EcHeader.{EcHeader}
 use Rattle.header.proofs.Laws.{ec-good, vid-good}
 use Rattle.header.proofs.RoundTrip.{ec-read-fits, vid-read-fits}
 use Rattle.volume_table.specs.Table.{recordAt}
-use Rattle.volume_table.specs.declared.VolumeRecord.{VolumeRecord}
+use Rattle.volume_record.specs.declared.VolumeRecord.{VolumeRecord}
 use Rattle.volume_table.proofs.Good.{good-pads}
 use Rattle.report.specs.View.{Copy, copyOf, vidPart, pebAt, Views, Medium, mediumOf, ecs, copies}
 use Rattle.report.specs.Scan.{imageSeq}

@@ -1,9 +1,9 @@
 // Judges for each frame a volume record or two copies of a volume table, as its first byte says, and prints the answer.
 use frames::Frame;
-use volume_table::RecordKind;
-use volume_table::RecordRead;
+use volume_record::RecordKind;
+use volume_record::RecordRead;
+use volume_record::VolumeRecord;
 use volume_table::Taken;
-use volume_table::VolumeRecord;
 
 fn main() {
     let mut buf = [0u8; 65536];
@@ -29,7 +29,7 @@ fn answer(payload: &[u8]) {
     let leb_size = u32_at(payload, 1);
     let unit = u32_at(payload, 5);
     if frames::number_at(payload, 0, 1) == 1 {
-        print_record(volume_table::read_record(frames::rest(payload, 9), leb_size, unit));
+        print_record(volume_record::read_record(frames::rest(payload, 9), leb_size, unit));
         return;
     }
     let peb_count = u32_at(payload, 9);
