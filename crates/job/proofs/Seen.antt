@@ -1,20 +1,25 @@
 -- What the reader sees of a PEB's headers: written ones, torn ones, and a copy. Assumes nothing.
-use mathlib.Core.Path.{_≡_, refl, subst}
+use mathlib.Core.Path.{_≡_, refl, _∙_, ap, subst}
 use mathlib.Core.Logic.{_⊎_, inl, inr}
 use mathlib.Core.Bool.{Bool, true, false, not, _&&_, _||_, cond}
 use mathlib.Core.Option.{some}
 use mathlib.Core.List.{List, [], append-nil}
-use Prim.Native.Nat.{ℕ}
-use lib.ListN.{take, replicate}
-use Rattle.base.specs.Lists.{part, eqs}
+use Prim.Native.Nat.{ℕ, _-_}
+use native.Mathlib.Omega.{arith}
+use lib.ListN.{take, replicate, length-replicate}
+use lib.Seq.{take-at}
+use Rattle.base.specs.Lists.{part, put, eqs}
 use Rattle.base.proofs.Answers.{clash}
+use Rattle.base.proofs.Stores.{put-behind, drop-replicate, take-replicate}
 use Rattle.field.specs.Be.{toBeOn}
+use Rattle.geometry.specs.Placed.{Placed}
 use Rattle.geometry.specs.declared.Geometry.{Geometry}
 use Rattle.header.specs.Fields.{crcMatches, Verdict, good, bad, newer, readHeader}
 use Rattle.header.specs.Ec.{ecMagic, ecFields, judgeEc, readEc, ecHead, ecBytes, EcFits}
 use Rattle.header.specs.Vid.{vidMagic, vidFields, judgeVid, readVid, vidHead, vidBytes, VidFits}
 use Rattle.header.specs.declared.EcHeader.{EcHeader}
 use Rattle.header.specs.declared.VidHeader.{VidHeader}
+use Rattle.header.proofs.Writes.{ec-64}
 use Rattle.header.proofs.RoundTrip.{ec-judged, vid-judged}
 use Rattle.report.specs.View.{allFF, Copy, ecGood, ecBlank, ecLost, vidGood, vidBlank, vidBad, ecOf, copyOf, vidOf, vidPart, viewOf, goodEc, goodVid}
 use Rattle.report.proofs.First.{none-some}
@@ -116,3 +121,18 @@ ec-seen g P h e = go (allFF (take 64 P)) (readEc (take 64 P)) refl e
     go false (good x) r e = let z : x ≡ h = cc in rw z at r
     go false bad r e = none-some e
     go false newer r e = none-some e
+
+-- a PEB that was erased, with its EC header stored again
+module _ (g : Geometry) (P : Placed g) (Y : List ℕ) (h : EcHeader) (is : Y ≡ put 0 (ecBytes h) (replicate (g .«peb_size») 0xFF)) where
+  pub renewed-ec : take 64 Y ≡ ecBytes h
+  renewed-ec = ap (take 64) is ∙ take-at (ecBytes h) _ 64 (ec-64 h)
+
+  pub renewed-vid : vidPart g Y ≡ replicate 64 0xFF
+  renewed-vid =
+      let e = ec-64 h in
+      ap (vidPart g) is
+      ∙ ap (take 64)
+      (put-behind 0 (ecBytes h) (replicate (g .«peb_size») 0xFF)
+      (rw length-replicate (omega (arith, P .vid-after-ec, P .data-after-vid, P .leb-fills))) (g .«vid_start») (omega (arith, P .vid-after-ec))
+      ∙ drop-replicate 0xFF (g .«vid_start») (g .«peb_size»))
+      ∙ take-replicate 0xFF 64 (g .«peb_size» - g .«vid_start») (omega (arith, P .data-after-vid, P .leb-fills))

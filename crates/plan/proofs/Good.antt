@@ -1,4 +1,5 @@
--- The headers of an accepted move: what they have to do with the copy that it moves, and that they are good. Assumes nothing.
+-- The headers of an accepted move: what they have to do with the copy that it moves, and that they are good. Assumes
+-- nothing.
 use mathlib.Core.Path.{_≡_, refl, sym, _∙_}
 use mathlib.Core.Logic.{_≢_, _⊎_, inl, inr}
 use mathlib.Core.Bool.{Bool, true, false, not, _&&_, _||_, cond}
