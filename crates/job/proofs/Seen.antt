@@ -1,7 +1,7 @@
 -- What the reader sees of a PEB's headers: written ones, torn ones, and a copy. Assumes nothing.
 use mathlib.Core.Path.{_≡_, refl, _∙_, ap, subst}
 use mathlib.Core.Logic.{_⊎_, inl, inr}
-use mathlib.Core.Bool.{Bool, true, false, not, _&&_, _||_, cond}
+use mathlib.Core.Bool.{Bool, true, false, not, _||_, cond, and-false}
 use mathlib.Core.Option.{some}
 use mathlib.Core.List.{List, [], append-nil}
 use Prim.Native.Nat.{ℕ, _-_}
@@ -9,7 +9,7 @@ use native.Mathlib.Omega.{arith}
 use lib.ListN.{take, replicate, length-replicate}
 use lib.Seq.{take-at}
 use Rattle.base.specs.Lists.{part, put, eqs}
-use Rattle.base.proofs.Answers.{clash}
+use Rattle.base.proofs.Answers.{by-test, clash}
 use Rattle.base.proofs.Stores.{put-behind, drop-replicate, take-replicate}
 use Rattle.field.specs.Be.{toBeOn}
 use Rattle.geometry.specs.Placed.{Placed}
@@ -41,11 +41,7 @@ vid-reads size h f = rw append-nil at (vid-judged h [] size f)
 
 -- a header whose CRC does not match is bad
 torn-read : {A : Type 0} (magic : List ℕ) (judge : List ℕ → Verdict A) (s : List ℕ) → crcMatches s ≡ false → readHeader magic judge s ≡ bad
-torn-read {A} magic judge s e = rw e (go (eqs (part 0 4 s) magic))
-  where
-    go : (b : Bool) → cond (b && false) (judge s) bad ≡ bad
-    go true = refl
-    go false = refl
+torn-read {A} magic judge s e = rw (e, and-false (eqs (part 0 4 s) magic))
 
 module _ (g : Geometry) (P : List ℕ) where
   -- ---- the EC header
@@ -56,13 +52,10 @@ module _ (g : Geometry) (P : List ℕ) where
 
   pub ec-torn : allFF (take 64 P) || not (crcMatches (take 64 P)) ≡ true → (viewOf g P .ec ≡ ecBlank) ⊎ (viewOf g P .ec ≡ ecLost)
   unfolding viewOf readEc
-  ec-torn e = go (allFF (take 64 P)) (crcMatches (take 64 P)) refl e
-    where
-      go : (b c : Bool) → crcMatches (take 64 P) ≡ c → b || not c ≡ true
-          → (cond b ecBlank (ecOf (readEc (take 64 P))) ≡ ecBlank) ⊎ (cond b ecBlank (ecOf (readEc (take 64 P))) ≡ ecLost)
-      go true c q r = inl refl
-      go false true q r = clash refl r
-      go false false q r = inr (rw (torn-read ecMagic (λ l. judgeEc (ecFields l)) (take 64 P) q))
+  ec-torn e =
+      by-test (allFF (take 64 P)) (λ b. inl (rw b))
+      (λ b. by-test (crcMatches (take 64 P)) (λ q. clash refl (rw (b, q) at e))
+      (λ q. inr (rw (b, torn-read ecMagic (λ l. judgeEc (ecFields l)) (take 64 P) q))))
 
   -- ---- the VID header
 
@@ -73,14 +66,10 @@ module _ (g : Geometry) (P : List ℕ) where
 
   pub vid-torn : allFF (vidPart g P) || not (crcMatches (vidPart g P)) ≡ true → (viewOf g P .vid ≡ vidBlank) ⊎ (viewOf g P .vid ≡ vidBad)
   unfolding viewOf readVid
-  vid-torn e = go (allFF (vidPart g P)) (crcMatches (vidPart g P)) refl e
-    where
-      go : (b c : Bool) → crcMatches (vidPart g P) ≡ c → b || not c ≡ true
-          → (cond b vidBlank (vidOf g P (readVid (g .«leb_size») (vidPart g P))) ≡ vidBlank)
-          ⊎ (cond b vidBlank (vidOf g P (readVid (g .«leb_size») (vidPart g P))) ≡ vidBad)
-      go true c q r = inl refl
-      go false true q r = clash refl r
-      go false false q r = inr (rw (torn-read vidMagic (λ l. judgeVid (g .«leb_size») (vidFields l)) (vidPart g P) q))
+  vid-torn e =
+      by-test (allFF (vidPart g P)) (λ b. inl (rw b))
+      (λ b. by-test (crcMatches (vidPart g P)) (λ q. clash refl (rw (b, q) at e))
+      (λ q. inr (rw (b, torn-read vidMagic (λ l. judgeVid (g .«leb_size») (vidFields l)) (vidPart g P) q))))
 
   pub vid-erased : vidPart g P ≡ replicate 64 0xFF → viewOf g P .vid ≡ vidBlank
   unfolding viewOf allFF

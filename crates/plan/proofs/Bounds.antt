@@ -10,10 +10,10 @@ use native.Mathlib.Nat.{sub-zero}
 use lib.Dec.{eqb, leb, lit<}
 use borrow.Author.Tests.{eqb-true, eq-eqb, leb-true}
 use lib.ListN.{length, take, drop, getD, length-take, length-drop}
-use Rattle.base.specs.Answers.{allOf, mapO}
+use Rattle.base.specs.Answers.{allOf}
 use Rattle.base.specs.Below.{firstBelow}
 use Rattle.base.specs.Lists.{Bytes}
-use Rattle.base.proofs.Answers.{clash, and-left, and-right, each-holds}
+use Rattle.base.proofs.Answers.{by-option, clash, and-left, and-right, each-holds}
 use Rattle.base.proofs.Below.{first-hit}
 use Rattle.base.proofs.Highest.{max-most}
 use Rattle.base.proofs.Lists.{length-part, bytes-take, bytes-drop, bytes-part}
@@ -33,7 +33,7 @@ use Rattle.report.specs.View.{Copy, copyOf, vidPart, pebAt, Views, Medium, medi
 use Rattle.report.specs.Scan.{imageSeq}
 use Rattle.report.specs.Choice.{chosen}
 use Rattle.report.specs.Volumes.{faceOf, facesOf, tableLeb, recordFor, reservedOf, orZero}
-use Rattle.report.specs.Report.{counterOr, meanOf, highestOf, sequenceOr0, faces, places, records, refusal}
+use Rattle.report.specs.Report.{meanOf, highestOf, sequenceOr0, faces, places, records, refusal}
 use Rattle.report.proofs.Choice.{chosen-at}
 use Rattle.report.proofs.Facts.{parts}
 use Rattle.report.proofs.Mean.{mean-between}
@@ -112,13 +112,10 @@ module _ (g : Geometry) (P : Placed g) (n : ℕ) (image : List ℕ) (bytes : Byt
     counter-most = ec-good (take 64 (peb i)) (ec-seen g (peb i) h is) .1
 
   -- the highest sequence
-  sequence-most : (i : ℕ) → i < n → (x : Option Copy) → copies vs i ≡ x → sequenceOr0 x ≤ 256 ^ 8 - 1
-  sequence-most i h none e = omega arith
-  sequence-most i h (some c) e = let w = copy-widths i h c e .sequence in omega arith
-
   highest-most : highestOf n (copies vs) ≤ 256 ^ 8 - 1
   unfolding highestOf
-  highest-most = max-most n (λ i. sequenceOr0 (copies vs i)) (256 ^ 8 - 1) (λ i h. sequence-most i h (copies vs i) refl)
+  highest-most = max-most n (λ i. sequenceOr0 (copies vs i)) (256 ^ 8 - 1)
+      (λ i h. by-option (copies vs i) (λ e. rw e (omega arith)) (λ c e. rw e (let w = copy-widths i h c e .sequence in omega arith)))
 
   -- where one EC header is good: the old PEB's counter, and the image sequence
   module _ (t : ℕ) (t<n : t < n) (s : EcHeader) (is : ecs vs t ≡ some s) where
@@ -130,19 +127,13 @@ module _ (g : Geometry) (P : Placed g) (n : ℕ) (image : List ℕ) (bytes : Byt
 
     old-counter-most : (o : ℕ) → o < n → oldCounter m o ≤ 0x7FFFFFFF
     unfolding oldCounter
-    old-counter-most o h = go (ecs vs o) refl
-      where
-        go : (x : Option EcHeader) → ecs vs o ≡ x → counterOr (meanOf m) x ≤ 0x7FFFFFFF
-        go none e = mean-most
-        go (some x) e = counter-most o h x e
+    old-counter-most o h = by-option (ecs vs o) (λ e. rw e mean-most) (λ x e. rw e (counter-most o h x e))
 
   image-small : orZero (imageSeq n vs) < 256 ^ 4
   unfolding imageSeq
-  image-small = go (firstBelow n (ecs vs)) refl
-    where
-      go : (x : Option (ℕ × EcHeader)) → firstBelow n (ecs vs) ≡ x → orZero (mapO (λ (x : ℕ × EcHeader). x .1 .«image_seq») x) < 256 ^ 4
-      go none q = lit< tt
-      go (some x) q = let h = first-hit n (ecs vs) (x .0) (x .1) q in ec-widths (x .0) (h .0) (x .1) (h .1) .image-seq
+  image-small =
+      by-option (firstBelow n (ecs vs)) (λ q. rw q (lit< tt))
+      (λ x q. let h = first-hit n (ecs vs) (x .0) (x .1) q in rw q (ec-widths (x .0) (h .0) (x .1) (h .1) .image-seq))
 
   -- ---- the rounded data size fits the LEB: by the table's rule on pads and refusal 12
 

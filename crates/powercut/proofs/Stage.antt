@@ -1,12 +1,13 @@
 -- A stopped move, seen on the views: the image still attaches, and what it says. Assumes nothing.
 use mathlib.Core.Path.{_≡_, refl, sym, _∙_, fun-ext}
 use mathlib.Core.Logic.{_≢_, _⊎_, inl, inr, ⊎-elim}
-use mathlib.Core.Bool.{Bool, true, false, _&&_, cond}
+use mathlib.Core.Bool.{Bool, true, false, _&&_, cond, and-false}
 use mathlib.Core.Option.{Option, none, some}
 use Prim.Native.Nat.{ℕ, _<_}
 use native.Mathlib.Omega.{arith}
 use lib.Dec.{eqb}
 use borrow.Author.Tests.{eqb-true, eq-eqb, ne-eqb}
+use Rattle.base.proofs.Answers.{by-test}
 use Rattle.base.proofs.Below.{eq-or-ne}
 use Rattle.header.specs.declared.EcHeader.{EcHeader}
 use Rattle.header.specs.declared.VidHeader.{VidHeader}
@@ -36,13 +37,12 @@ repeats-before (some c) (some d) x₀ y₀ p q e =
 
 repeats-not : (c d : Copy) → c .header .sequence ≢ d .header .sequence → repeats (some c) (some d) ≡ false
 repeats-not c d ne =
-    rw (ne-eqb (c .header .sequence) (d .header .sequence) ne) (go (isMappable (c .header .volume)) (eqb (c .header .volume) (d .header .volume)) (eqb (c .header .lnum) (d .header .lnum)))
-  where
-    go : (x y z : Bool) → x && (y && (z && false)) ≡ false
-    go true true true = refl
-    go true true false = refl
-    go true false z = refl
-    go false y z = refl
+    rw (
+      ne-eqb (c .header .sequence) (d .header .sequence) ne,
+      and-false (eqb (c .header .lnum) (d .header .lnum)),
+      and-false (eqb (c .header .volume) (d .header .volume)),
+      and-false (isMappable (c .header .volume)),
+    )
 
 module _ (new : Copy) where
   Lower : Option Copy → Type 0
@@ -107,12 +107,8 @@ pub record Keeps (m : Medium) (vs′ : Views) (v l t : ℕ) (w : Bool) : Type 0 
   pub new-places : places (withViews m vs′) ≡ cond w (placesWith v l t (places m)) (places m)
 
 key-miss : {A : Type 0} (v l v′ l′ : ℕ) → ((v ≡ v′) → (l ≡ l′) → ⊥) → (x y : A) → cond (eqb v v′ && eqb l l′) x y ≡ y
-key-miss {A} v l v′ l′ ne x y = go (eqb v v′) refl (eqb l l′) refl
-  where
-    go : (p : Bool) → eqb v v′ ≡ p → (q : Bool) → eqb l l′ ≡ q → cond (p && q) x y ≡ y
-    go true e true f = absurd (ne (eqb-true v v′ e) (eqb-true l l′ f))
-    go true e false f = refl
-    go false e q f = refl
+key-miss {A} v l v′ l′ ne x y =
+    by-test (eqb v v′) (λ p. by-test (eqb l l′) (λ q. absurd (ne (eqb-true v v′ p) (eqb-true l l′ q))) (λ q. rw (p, q))) (λ p. rw p)
 
 module _ (m : Medium) (vs′ : Views) (v l o t : ℕ) (old : Copy) (h : VidHeader)
     (ok : refusal m ≡ none) (b : Ready m v l o t old h)
