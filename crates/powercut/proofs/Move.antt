@@ -53,7 +53,7 @@ use Rattle.powercut.specs.Book.{headerWhole, runWhole, isWritten}
 use Rattle.powercut.specs.Premise.{premiseRules, premiseOf}
 use Rattle.powercut.specs.Claim.{Freed, Moved}
 use Rattle.header.proofs.Writes.{ec-64, vid-64}
-use Rattle.powercut.proofs.Stage.{Ready, Keeps}
+use Rattle.job.proofs.Stage.{Ready, Keeps}
 use Rattle.powercut.proofs.Stops.{stopped, finished}
 
 runnable-by : (p : Plan) (g : Geometry) (image : List ℕ) (n : ℕ) → allOf (geometryRules (p .«peb_size») (p .unit) (p .«sub_unit»)) ≡ true

@@ -28,7 +28,7 @@ use Rattle.report.proofs.First.{none-some}
 use Rattle.plan.specs.declared.Plan.{Plan}
 use Rattle.plan.proofs.Good.{Good}
 use Rattle.job.specs.Torn.{unlike}
-use Rattle.powercut.proofs.Stage.{Ready, Keeps, o-before, keeps-torn, keeps-half, keeps-whole}
+use Rattle.job.proofs.Stage.{Ready, Keeps, o-before, keeps-torn, keeps-half, keeps-whole}
 use Rattle.job.proofs.Seen.{ec-written, ec-torn, vid-written, vid-torn, vid-erased, Read, same-header}
 
 -- O is the old PEB at first, X and Y the target and the old PEB in the stopped image

@@ -1,4 +1,4 @@
--- A stopped move, seen on the views: the image still attaches, and what it says. Assumes nothing.
+-- A LEB that gets a new PEB, seen on the views at any stop: the image still attaches, and what it says. Assumes nothing.
 use mathlib.Core.Path.{_≡_, refl, sym, _∙_, fun-ext}
 use mathlib.Core.Logic.{_≢_, _⊎_, inl, inr, ⊎-elim}
 use mathlib.Core.Bool.{Bool, true, false, _&&_, cond, and-false}
@@ -72,7 +72,7 @@ module _ (n : ℕ) (cs cs′ : ℕ → Option Copy) (v l o t : ℕ) (old new : C
   unfolding Lower
   lower i k ne c q = let r = from i k ne c q in rw (r .2) (m .above i k (r .0) (r .1))
 
-  none9-moved : refusal9 n cs ≡ none → refusal9 n cs′ ≡ none
+  pub none9-moved : refusal9 n cs ≡ none → refusal9 n cs′ ≡ none
   none9-moved e = no-9 n cs′ λ i j h k. go i j h k (eq-or-ne i t) (eq-or-ne j t)
     where
       go : (i j : ℕ) → i < n → j < i → (i ≡ t) ⊎ (i ≢ t) → (j ≡ t) ⊎ (j ≢ t) → repeats (cs′ i) (cs′ j) ≡ false
@@ -81,9 +81,9 @@ module _ (n : ℕ) (cs cs′ : ℕ → Option Copy) (v l o t : ℕ) (old new : C
       go i j h k (inr p) (inl q) = rw (q, m .is) (none-repeats-new new (cs′ i) (lower i h p))
       go i j h k (inr p) (inr q) = repeats-before (cs′ i) (cs′ j) (cs i) (cs j) (from i h p) (from j (omega arith) q) (none9-at n cs e i j h k)
 
--- ---- a move that was begun, and how it can have stopped
+-- ---- how it can have stopped
 
--- what an accepted move starts from; h is the new VID header
+-- what it starts from: LEB l of volume v in PEB o, with the copy old; t is the new PEB, h its VID header
 pub record Ready (m : Medium) (v l o t : ℕ) (old : Copy) (h : VidHeader) : Type 0 where
   pub is-chosen : chosen (m .count) (copies (m .views)) v l ≡ some (o, old)
   pub is-mappable : isMappable v ≡ true
