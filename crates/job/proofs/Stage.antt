@@ -1,16 +1,17 @@
--- A stopped move, seen on the views: the image still attaches, and what it says. Assumes nothing.
+-- A LEB that gets a new PEB, seen on the views at any stop: the image still attaches, and what it says. Assumes nothing.
 use mathlib.Core.Path.{_≡_, refl, sym, _∙_, fun-ext}
 use mathlib.Core.Logic.{_≢_, _⊎_, inl, inr, ⊎-elim}
-use mathlib.Core.Bool.{Bool, true, false, _&&_, cond}
+use mathlib.Core.Bool.{Bool, true, false, _&&_, cond, and-false}
 use mathlib.Core.Option.{Option, none, some}
 use Prim.Native.Nat.{ℕ, _<_}
 use native.Mathlib.Omega.{arith}
 use lib.Dec.{eqb}
 use borrow.Author.Tests.{eqb-true, eq-eqb, ne-eqb}
+use Rattle.base.proofs.Answers.{by-test}
 use Rattle.base.proofs.Below.{eq-or-ne}
 use Rattle.header.specs.declared.EcHeader.{EcHeader}
 use Rattle.header.specs.declared.VidHeader.{VidHeader}
-use Rattle.report.specs.View.{Copy, ecGood, vidGood, vidBlank, Views, Medium, ecs, copies, isMappable}
+use Rattle.report.specs.View.{Copy, ecGood, vidGood, vidBlank, vidBad, Views, Medium, ecs, copies, isMappable}
 use Rattle.report.specs.Scan.{imageSeq, ecRefusal, vidRefusal, refusal5678}
 use Rattle.report.specs.Choice.{sound, repeats, refusal9, chosen}
 use Rattle.report.specs.Volumes.{faceOf, facesOf, placesOf, tableLeb, tableRecords}
@@ -36,13 +37,12 @@ repeats-before (some c) (some d) x₀ y₀ p q e =
 
 repeats-not : (c d : Copy) → c .header .sequence ≢ d .header .sequence → repeats (some c) (some d) ≡ false
 repeats-not c d ne =
-    rw (ne-eqb (c .header .sequence) (d .header .sequence) ne) (go (isMappable (c .header .volume)) (eqb (c .header .volume) (d .header .volume)) (eqb (c .header .lnum) (d .header .lnum)))
-  where
-    go : (x y z : Bool) → x && (y && (z && false)) ≡ false
-    go true true true = refl
-    go true true false = refl
-    go true false z = refl
-    go false y z = refl
+    rw (
+      ne-eqb (c .header .sequence) (d .header .sequence) ne,
+      and-false (eqb (c .header .lnum) (d .header .lnum)),
+      and-false (eqb (c .header .volume) (d .header .volume)),
+      and-false (isMappable (c .header .volume)),
+    )
 
 module _ (new : Copy) where
   Lower : Option Copy → Type 0
@@ -72,7 +72,7 @@ module _ (n : ℕ) (cs cs′ : ℕ → Option Copy) (v l o t : ℕ) (old new : C
   unfolding Lower
   lower i k ne c q = let r = from i k ne c q in rw (r .2) (m .above i k (r .0) (r .1))
 
-  none9-moved : refusal9 n cs ≡ none → refusal9 n cs′ ≡ none
+  pub none9-moved : refusal9 n cs ≡ none → refusal9 n cs′ ≡ none
   none9-moved e = no-9 n cs′ λ i j h k. go i j h k (eq-or-ne i t) (eq-or-ne j t)
     where
       go : (i j : ℕ) → i < n → j < i → (i ≡ t) ⊎ (i ≢ t) → (j ≡ t) ⊎ (j ≢ t) → repeats (cs′ i) (cs′ j) ≡ false
@@ -81,9 +81,9 @@ module _ (n : ℕ) (cs cs′ : ℕ → Option Copy) (v l o t : ℕ) (old new : C
       go i j h k (inr p) (inl q) = rw (q, m .is) (none-repeats-new new (cs′ i) (lower i h p))
       go i j h k (inr p) (inr q) = repeats-before (cs′ i) (cs′ j) (cs i) (cs j) (from i h p) (from j (omega arith) q) (none9-at n cs e i j h k)
 
--- ---- a move that was begun, and how it can have stopped
+-- ---- how it can have stopped
 
--- what an accepted move starts from; h is the new VID header
+-- what it starts from: LEB l of volume v in PEB o, with the copy old; t is the new PEB, h its VID header
 pub record Ready (m : Medium) (v l o t : ℕ) (old : Copy) (h : VidHeader) : Type 0 where
   pub is-chosen : chosen (m .count) (copies (m .views)) v l ≡ some (o, old)
   pub is-mappable : isMappable v ≡ true
@@ -100,20 +100,6 @@ pub record Ready (m : Medium) (v l o t : ℕ) (old : Copy) (h : VidHeader) : Typ
 abbrev pub withViews : Medium → Views → Medium
 withViews m vs′ = record { geometry = m .geometry; count = m .count; views = vs′ }
 
--- the new VID header is not there yet; it is, with data that do not match; the new copy is whole, and of the old one nothing is left
--- but its header, if that
-pub data Stopped (m : Medium) (vs′ : Views) (o t : ℕ) (old : Copy) (h : VidHeader) : Type 0 where
-  torn : vs′ o ≡ m .views o → copies vs′ t ≡ none → vidRefusal (vs′ t .vid) ≡ none → Stopped m vs′ o t old h
-  half : (new : Copy) → vs′ o ≡ m .views o → vs′ t .vid ≡ vidGood new → new .header ≡ h → sound new ≡ false → Stopped m vs′ o t old h
-  whole : (new : Copy) → vs′ t .vid ≡ vidGood new → new .header ≡ h → sound new ≡ true → faceOf (m .geometry) new ≡ faceOf (m .geometry) old
-      → ecRefusal (m .geometry) (seqIn m) (vs′ o .ec) ≡ none → vidRefusal (vs′ o .vid) ≡ none
-      → ((c : Copy) → copies vs′ o ≡ some c → c .header ≡ old .header) → Stopped m vs′ o t old h
-
-abbrev pub isWhole : {m : Medium} {vs′ : Views} {o t : ℕ} {old : Copy} {h : VidHeader} → Stopped m vs′ o t old h → Bool
-isWhole (torn a b c) = false
-isWhole (half new a b c d) = false
-isWhole (whole new a b c d e f k) = true
-
 -- what a stopped image keeps; w: is the new copy whole?
 pub record Keeps (m : Medium) (vs′ : Views) (v l t : ℕ) (w : Bool) : Type 0 where
   pub attaches : refusal (withViews m vs′) ≡ none
@@ -121,12 +107,8 @@ pub record Keeps (m : Medium) (vs′ : Views) (v l t : ℕ) (w : Bool) : Type 0 
   pub new-places : places (withViews m vs′) ≡ cond w (placesWith v l t (places m)) (places m)
 
 key-miss : {A : Type 0} (v l v′ l′ : ℕ) → ((v ≡ v′) → (l ≡ l′) → ⊥) → (x y : A) → cond (eqb v v′ && eqb l l′) x y ≡ y
-key-miss {A} v l v′ l′ ne x y = go (eqb v v′) refl (eqb l l′) refl
-  where
-    go : (p : Bool) → eqb v v′ ≡ p → (q : Bool) → eqb l l′ ≡ q → cond (p && q) x y ≡ y
-    go true e true f = absurd (ne (eqb-true v v′ e) (eqb-true l l′ f))
-    go true e false f = refl
-    go false e q f = refl
+key-miss {A} v l v′ l′ ne x y =
+    by-test (eqb v v′) (λ p. by-test (eqb l l′) (λ q. absurd (ne (eqb-true v v′ p) (eqb-true l l′ q))) (λ q. rw (p, q))) (λ p. rw p)
 
 module _ (m : Medium) (vs′ : Views) (v l o t : ℕ) (old : Copy) (h : VidHeader)
     (ok : refusal m ≡ none) (b : Ready m v l o t old h)
@@ -185,7 +167,7 @@ module _ (m : Medium) (vs′ : Views) (v l o t : ℕ) (old : Copy) (h : VidHeade
   unfolding facesOf placesOf
   by-chosen e = (fun-ext (λ v′. fun-ext (λ l′. rw (e v′ l′))), fun-ext (λ v′. fun-ext (λ l′. rw (e v′ l′))))
 
-  o-before : (ecRefusal (m .geometry) (seqIn m) (vs o .ec) ≡ none) × (vidRefusal (vs o .vid) ≡ none)
+  pub o-before : (ecRefusal (m .geometry) (seqIn m) (vs o .ec) ≡ none) × (vidRefusal (vs o .vid) ≡ none)
   o-before = none5678-at m (P .none5678) o (at-o .0)
 
   new-unrefused : (new : Copy) → vs′ t .vid ≡ vidGood new → new .header ≡ h → vidRefusal (vs′ t .vid) ≡ none
@@ -203,20 +185,25 @@ module _ (m : Medium) (vs′ : Views) (v l o t : ℕ) (old : Copy) (h : VidHeade
     above = λ i k c q. rw en (b .above i k c q);
   }
 
-  keeps-torn : vs′ o ≡ vs o → copies vs′ t ≡ none → vidRefusal (vs′ t .vid) ≡ none → Keeps m vs′ v l t false
-  keeps-torn eo nc vt =
+  -- the new VID header is not there yet
+  pub keeps-torn : vs′ o ≡ vs o → (vs′ t .vid ≡ vidBlank) ⊎ (vs′ t .vid ≡ vidBad) → Keeps m vs′ v l t false
+  keeps-torn eo et =
       let e = by-chosen (chosen-cong n (copies vs) (copies vs′) same) in
-      finish false o old (at-o .0) (rw eo (at-o .1)) (after58 (rw eo (o-before .0)) (rw eo (o-before .1)) vt)
+      finish false o old (at-o .0) (rw eo (at-o .1)) (after58 (rw eo (o-before .0)) (rw eo (o-before .1)) (none-there .1))
       (no-9 n (copies vs′) (λ i j k q. rw (same i k, same j (omega arith)) (none9-at n (copies vs) (P .none9) i j k q)))
       (e .0) (e .1)
     where
+      none-there : (copies vs′ t ≡ none) × (vidRefusal (vs′ t .vid) ≡ none)
+      none-there = ⊎-elim (λ q. (rw q, rw q)) (λ q. (rw q, rw q)) et
+
       same : (i : ℕ) → i < n → copies vs′ i ≡ copies vs i
       same i k =
-          ⊎-elim (λ (e : i ≡ t). rw (e, nc, b .free-vid))
+          ⊎-elim (λ (e : i ≡ t). rw (e, none-there .0, b .free-vid))
           (λ (ni : i ≢ t). ⊎-elim (λ (e : i ≡ o). rw (e, eo)) (λ (nq : i ≢ o). rw (rest i k ni nq)) (eq-or-ne i o))
           (eq-or-ne i t)
 
-  keeps-half : (new : Copy) → vs′ o ≡ vs o → vs′ t .vid ≡ vidGood new → new .header ≡ h → sound new ≡ false → Keeps m vs′ v l t false
+  -- it is, with data that do not match
+  pub keeps-half : (new : Copy) → vs′ o ≡ vs o → vs′ t .vid ≡ vidGood new → new .header ≡ h → sound new ≡ false → Keeps m vs′ v l t false
   keeps-half new eo et en u =
       let mv = moving new et en in
       let e = by-chosen (chosen-unsound n (copies vs) (copies vs′) v l o t old new mv u (b .is-sound) (rw eo)) in
@@ -227,7 +214,8 @@ module _ (m : Medium) (vs′ : Views) (v l o t : ℕ) (old : Copy) (h : VidHeade
       left : (c : Copy) → copies vs o ≡ some c → c .header ≡ old .header
       left c q = let p : some c ≡ some old = sym q ∙ at-o .1 in let r : c ≡ old = cc in rw r
 
-  keeps-whole : (new : Copy) → vs′ t .vid ≡ vidGood new → new .header ≡ h → sound new ≡ true → faceOf (m .geometry) new ≡ faceOf (m .geometry) old
+  -- the new copy is whole, and of the old one nothing is left but its header, if that
+  pub keeps-whole : (new : Copy) → vs′ t .vid ≡ vidGood new → new .header ≡ h → sound new ≡ true → faceOf (m .geometry) new ≡ faceOf (m .geometry) old
       → ecRefusal (m .geometry) (seqIn m) (vs′ o .ec) ≡ none → vidRefusal (vs′ o .vid) ≡ none
       → ((c : Copy) → copies vs′ o ≡ some c → c .header ≡ old .header) → Keeps m vs′ v l t true
   unfolding facesOf placesOf
@@ -250,8 +238,3 @@ module _ (m : Medium) (vs′ : Views) (v l o t : ℕ) (old : Copy) (h : VidHeade
       place-at v′ l′ (inr ne) =
           rw (chosen-other n (copies vs) (copies vs′) v l o t old new mv s left v′ l′ ne)
           (sym (key-miss v l v′ l′ ne (some t) (places m v′ l′)))
-
-  pub keeps : (st : Stopped m vs′ o t old h) → Keeps m vs′ v l t (isWhole st)
-  keeps (torn eo nc vt) = keeps-torn eo nc vt
-  keeps (half new eo et en u) = keeps-half new eo et en u
-  keeps (whole new et en s fe ro rv left) = keeps-whole new et en s fe ro rv left
