@@ -19,6 +19,13 @@ pub fn refusal(number: u32, place: u32) {
     frames::next_number(place as u64);
 }
 
+// All words of the lent tables.
+pub fn tables(pebs: &[u32], map: &[u32], states: &[u32]) {
+    frames::words(b"pebs", pebs);
+    frames::words(b"map", map);
+    frames::words(b"states", states);
+}
+
 fn print_report(r: Report) {
     frames::word(b"attached");
     frames::next_number(r.peb_count as u64);

@@ -1,8 +1,8 @@
-// Carries out the calls of each frame on its image, and prints what each answers and leaves.
-ghost use Prim.Native.Nat.{_≤_, _<_};
+// Carries out the operations of each frame on its image, and prints what each answers and leaves.
+ghost use Prim.Native.Nat.{_≤_};
 ghost use lib.ListN.{length};
-ghost use Rattle.frames.specs.Frame.{Onward};
-use frames::Frame;
+use lookup::LebPlace;
+use lookup::PebReport;
 use plan::Begun;
 use plan::Plan;
 use plan::Stepped;
@@ -11,63 +11,34 @@ mod printed;
 mod read;
 
 fn main() {
+    for _ in 0..frames::count() {
+        turn();
+    }
+}
+
+// The operations of the next frame. Image and lent tables are made anew for each.
+fn turn() {
     let mut buf = [0u8; 65536];
-    let mut image = [0u8; 262144];
-    let mut pebs = [0u32; 16384];
-    let mut map = [0u32; 16384];
-    let mut states = [0u32; 16384];
-    // A proved loop ends: no input has so many frames.
-    for _ in 0u32..1000000 {
-        if !turn(&mut buf, &mut image, &mut pebs, &mut map, &mut states) {
-            break;
-        }
-    }
+    let mut image = [0xFFu8; 262144];
+    let mut pebs = [0xDEADBEEFu32; 16384];
+    let mut map = [0xDEADBEEFu32; 16384];
+    let mut states = [0xDEADBEEFu32; 16384];
+    let n = frames::next(&mut buf);
+    lend(&buf[0..n], &mut image, &mut pebs, &mut map, &mut states);
 }
 
-// The calls of the next frame, if there is one.
-fn turn(
-    buf: &mut [u8],
-    image: &mut [u8],
-    pebs: &mut [u32],
-    map: &mut [u32],
-    states: &mut [u32],
-) -> bool {
-    let Frame::Payload(n) = frames::next(buf) else {
-        return false;
-    };
-    frame(&buf[0..n], image, pebs, map, states);
-    true
-}
-
-// Slip, lengths of the lent tables, image; then the calls.
-fn frame(payload: &[u8], image: &mut [u8], pebs: &mut [u32], map: &mut [u32], states: &mut [u32]) {
-    let n = frames::number_at(payload, 0, 2) as usize;
-    let body = frames::rest(payload, 2);
-    if body.len() < n {
-        return;
-    }
-    let rest = &body[n..];
-    let size = frames::number_at(rest, 6, 4) as usize;
-    if image.len() < size {
-        return;
-    }
+// Lengths of the lent tables and the image, slip, patches, and operations.
+fn lend(payload: &[u8], image: &mut [u8], pebs: &mut [u32], map: &mut [u32], states: &mut [u32]) {
+    let p = frames::length_at(payload, 0, 2, pebs.len());
+    let m = frames::length_at(payload, 2, 2, map.len());
+    let s = frames::length_at(payload, 4, 2, states.len());
+    let size = frames::length_at(payload, 6, 4, image.len());
+    let rest = frames::rest(payload, 10);
     let lent = &mut image[0..size];
-    base::fill(lent, size, 0xFF);
-    let p = frames::number_at(rest, 0, 2) as usize;
-    let m = frames::number_at(rest, 2, 2) as usize;
-    let s = frames::number_at(rest, 4, 2) as usize;
-    if pebs.len() < p {
-        return;
-    }
-    if map.len() < m {
-        return;
-    }
-    if states.len() < s {
-        return;
-    }
-    lend(
-        &body[0..n],
-        frames::rest(rest, 10),
+    let at = frames::patches(lent, rest, frames::part_at(rest, 0).end);
+    operations(
+        frames::bytes_at(rest, 0),
+        &rest[at..],
         lent,
         &mut pebs[0..p],
         &mut map[0..m],
@@ -75,7 +46,14 @@ fn frame(payload: &[u8], image: &mut [u8], pebs: &mut [u32], map: &mut [u32], st
     );
 }
 
-fn lend(
+// Where the next operation stands, and the plan that the last one left.
+struct Next {
+    at: usize,
+    plan: Plan,
+}
+
+// A number of operations, and as many parts, each carried out on what the one before left.
+fn operations(
     slip: &[u8],
     s: &[u8],
     image: &mut [u8],
@@ -83,177 +61,164 @@ fn lend(
     map: &mut [u32],
     states: &mut [u32],
 ) {
-    frames::mark(pebs);
-    frames::mark(map);
-    frames::mark(states);
-    let from = patches(image, s, 0);
-    calls(slip, s, from, image, pebs, map, states);
-}
-
-// A number of patches, and the patches. Answers the place after them.
-fn patches(image: &mut [u8], s: &[u8], at: usize) -> usize
-    requires { ⌜ at ≤ length (now s) ⌝ }
-    ensures { λ r. ⌜ Onward at r (length (now (s .entry))) ⌝ }
-{
-    let count = frames::number_at(s, at, 2);
-    let mut end = read::onward(s, at, 2);
-    let mut i: u64 = 0;
-    while i < count {
-        end = frames::patch_at(image, s, end);
-        i += 1;
-    }
-    end
-}
-
-// What a call leaves beside image and tables.
-struct Next {
-    at: usize,
-    plan: Plan,
-}
-
-// All calls, each on what the one before left.
-fn calls(
-    slip: &[u8],
-    s: &[u8],
-    from: usize,
-    image: &mut [u8],
-    pebs: &mut [u32],
-    map: &mut [u32],
-    states: &mut [u32],
-)
-    requires { ⌜ from ≤ length (now s) ⌝ }
-{
-    let mut at = from;
-    let mut plan = read::plan_at(s, from);
-    while at < s.len() {
-        let next = call(slip, s, at, plan, image, pebs, map, states);
-        plan = next.plan;
-        at = next.at;
+    let mut next = first(s);
+    for _ in 0..frames::number_at(s, 0, 2) {
+        next = operation(slip, s, next, image, pebs, map, states);
     }
 }
 
-fn call(
+fn first(s: &[u8]) -> Next
+    ensures { λ r. ⌜ r .at ≤ length (now (s .entry)) ⌝ }
+{
+    Next {
+        at: frames::onward(s, 0, 2),
+        plan: read::no_plan(),
+    }
+}
+
+fn operation(
     slip: &[u8],
     s: &[u8],
-    at: usize,
-    plan: Plan,
+    next: Next,
     image: &mut [u8],
     pebs: &mut [u32],
     map: &mut [u32],
     states: &mut [u32],
 ) -> Next
-    requires { ⌜ at < length (now s) ⌝ }
-    ensures { λ r. ⌜ Onward at (r .at) (length (now (s .entry))) ⌝ }
+    requires { ⌜ next .at ≤ length (now s) ⌝ }
+    ensures { λ r. ⌜ r .at ≤ length (now (s .entry)) ⌝ }
 {
-    let op = frames::number_at(s, at, 1);
-    if op == 5 {
-        return Next {
-            at: cut(image, s, at),
-            plan,
-        };
-    }
-    let p = act(op, slip, s, at, plan, image, pebs, map, states);
+    let at = next.at;
+    let plan = carry_out(
+        slip,
+        frames::bytes_at(s, at),
+        next.plan,
+        image,
+        pebs,
+        map,
+        states,
+    );
     Next {
-        at: read::onward(s, at, size(op)),
-        plan: p,
+        at: frames::part_at(s, at).end,
+        plan,
     }
 }
 
-// Bytes of a call.
-fn size(op: u64) -> usize
-    ensures { λ r. ⌜ 0 < r ⌝ }
-{
-    if op == 1 {
-        return 13;
-    }
-    if op == 3 {
-        return 3;
-    }
-    if op == 4 {
-        return 82;
-    }
-    1
-}
-
-// What a cut left of the image is in the payload.
-fn cut(image: &mut [u8], s: &[u8], at: usize) -> usize
-    requires { ⌜ at < length (now s) ⌝ }
-    ensures { λ r. ⌜ Onward at r (length (now (s .entry))) ⌝ }
-{
-    let end = patches(image, s, at + 1);
-    frames::word(b"cut");
-    printed::image(image);
-    end
-}
-
-fn act(
-    op: u64,
+// An operation's number, and its operands.
+fn carry_out(
     slip: &[u8],
     s: &[u8],
-    at: usize,
     plan: Plan,
     image: &mut [u8],
     pebs: &mut [u32],
     map: &mut [u32],
     states: &mut [u32],
-) -> Plan
-    requires { ⌜ at < length (now s) ⌝ }
-{
+) -> Plan {
+    let op = frames::number_at(s, 0, 1);
     if op == 1 {
-        return begin(slip, s, at, plan, image, pebs, map, states);
+        return begin(slip, s, plan, image, pebs, map, states);
     }
-    if op == 2 {
-        return step(plan, image);
+    if op == 6 {
+        attach(slip, image, pebs, map, states);
+        return plan;
     }
-    if op == 3 {
-        return run(plan, image, frames::number_at(s, at + 1, 2));
+    if op == 8 {
+        look_up(s, pebs, map);
+        printed::image(image);
+        return plan;
     }
-    if op == 4 {
-        return step(read::plan_at(s, at + 1), image);
-    }
-    attach(slip, image, pebs, map, states);
-    plan
+    go_on(op, s, plan, image)
 }
 
 // A refused beginning leaves the plan of an earlier one.
 fn begin(
     slip: &[u8],
     s: &[u8],
-    at: usize,
     plan: Plan,
     image: &[u8],
     pebs: &mut [u32],
     map: &mut [u32],
     states: &mut [u32],
-) -> Plan
-    requires { ⌜ at < length (now s) ⌝ }
-{
-    let volume = read::low(frames::number_at(s, at + 1, 4));
-    let leb = read::low(frames::number_at(s, at + 5, 4));
-    let target = read::low(frames::number_at(s, at + 9, 4));
-    let r = mover::begin(slip, image, pebs, map, states, volume, leb, target);
-    let p = begun(r, plan);
-    frames::word(b" ");
-    printed::tables(pebs, map, states);
+) -> Plan {
+    let volume = frames::u32_at(s, 1);
+    let lnum = frames::u32_at(s, 5);
+    let target = frames::u32_at(s, 9);
+    let r = mover::begin(slip, image, pebs, map, states, volume, lnum, target);
+    printed::begun(r);
     printed::image(image);
-    p
+    show::tables(pebs, map, states);
+    plan_begun(r, plan)
 }
 
-fn begun(r: Begun, plan: Plan) -> Plan {
+fn plan_begun(r: Begun, plan: Plan) -> Plan {
     match r {
-        Begun::Planned(p) => {
-            printed::plan(p);
-            return p;
-        }
-        Begun::Refused { number, place } => {
-            show::refusal(number, place);
-            return plan;
-        }
+        Begun::Planned(p) => return p,
+        Begun::Refused { number, place } => return plan,
     }
 }
 
+fn attach(slip: &[u8], image: &[u8], pebs: &mut [u32], map: &mut [u32], states: &mut [u32]) {
+    show::answer(attach::attach(slip, image, pebs, map, states));
+    show::tables(pebs, map, states);
+    printed::image(image);
+}
+
+// What tables of so many PEBs and entries say of a PEB and of a LEB.
+fn look_up(s: &[u8], pebs: &[u32], map: &[u32]) {
+    match lookup::peb_report(pebs, frames::u32_at(s, 1), frames::u32_at(s, 5)) {
+        PebReport::Given { class, counter } => printed::peb(class, counter),
+        PebReport::Absent => frames::word(b"peb absent"),
+    }
+    match lookup::find_leb(
+        map,
+        frames::u32_at(s, 9),
+        frames::u32_at(s, 13),
+        frames::u32_at(s, 17),
+    ) {
+        LebPlace::At(peb) => printed::leb(peb),
+        LebPlace::Absent => frames::word(b" leb absent"),
+    }
+    frames::word(b" ");
+}
+
+// An operation on plan and image alone.
+fn go_on(op: u64, s: &[u8], plan: Plan, image: &mut [u8]) -> Plan {
+    if op == 2 {
+        return step(plan, image);
+    }
+    if op == 3 {
+        return run(plan, image, frames::number_at(s, 1, 2));
+    }
+    if op == 4 {
+        return step(read::plan_in(s), image);
+    }
+    if op == 5 {
+        cut(s, image);
+        return plan;
+    }
+    finish(plan, image);
+    plan
+}
+
+// What a cut left of the image is in the payload.
+fn cut(s: &[u8], image: &mut [u8]) {
+    frames::patches(image, frames::rest(s, 1), 0);
+    frames::word(b"cut ");
+    printed::image(image);
+}
+
+fn finish(plan: Plan, image: &mut [u8]) {
+    frames::word(b"finished ");
+    printed::stepped(mover::finish(plan, image));
+    printed::image(image);
+}
+
+fn next_step(plan: Plan, image: &mut [u8]) -> Stepped {
+    mover::step(plan, image)
+}
+
 fn step(plan: Plan, image: &mut [u8]) -> Plan {
-    let r = mover::step(plan, image);
+    let r = next_step(plan, image);
     printed::stepped(r);
     printed::image(image);
     plan_after(r, plan)
@@ -278,33 +243,16 @@ fn is_on(r: Stepped) -> bool {
 // Steps until one does not go on, at most so many.
 fn run(plan: Plan, image: &mut [u8], most: u64) -> Plan {
     let mut p = plan;
-    let mut went: u64 = 0;
-    while went < most {
-        let r = mover::step(p, image);
+    for went in 0..most {
+        let r = next_step(p, image);
         if !is_on(r) {
-            ran(went, r, image);
+            printed::ran(went, r);
+            printed::image(image);
             return p;
         }
         p = plan_after(r, p);
-        went += 1;
     }
-    ran(went, Stepped::On(p), image);
+    printed::ran(most, Stepped::On(p));
+    printed::image(image);
     p
-}
-
-fn ran(went: u64, r: Stepped, image: &[u8]) {
-    frames::word(b"ran");
-    frames::next_number(went);
-    frames::word(b" ");
-    printed::stepped(r);
-    printed::image(image);
-}
-
-fn attach(slip: &[u8], image: &[u8], pebs: &mut [u32], map: &mut [u32], states: &mut [u32]) {
-    show::answer(attach::attach(slip, image, pebs, map, states));
-    frames::words(b"pebs", pebs);
-    frames::words(b"map", map);
-    frames::words(b"states", states);
-    printed::tables(pebs, map, states);
-    printed::image(image);
 }

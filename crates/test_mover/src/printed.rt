@@ -1,6 +1,7 @@
 // Plans, answers and checksums as lines.
 use header::EcHeader;
 use header::VidHeader;
+use plan::Begun;
 use plan::Plan;
 use plan::Stepped;
 
@@ -26,7 +27,15 @@ fn ec(h: EcHeader) {
     frames::next_number(h.image_seq as u64);
 }
 
-pub fn plan(p: Plan) {
+pub fn begun(r: Begun) {
+    match r {
+        Begun::Planned(p) => plan(p),
+        Begun::Refused { number, place } => show::refusal(number, place),
+    }
+    frames::word(b" ");
+}
+
+fn plan(p: Plan) {
     frames::word(b"planned");
     frames::next_number(p.peb_size as u64);
     frames::next_number(p.unit as u64);
@@ -44,41 +53,37 @@ pub fn stepped(r: Stepped) {
         Stepped::Done => frames::word(b"done"),
         Stepped::Refused => show::refusal(18, 0),
     }
+    frames::word(b" ");
 }
 
 // The number of steps run.
-pub fn on(p: Plan) {
+fn on(p: Plan) {
     frames::word(b"on");
     frames::next_number(p.steps as u64);
 }
 
-// The checksums of the lent tables, whose words count as four bytes, the highest first.
-pub fn tables(pebs: &[u32], map: &[u32], states: &[u32]) {
-    frames::word(b"tables");
-    frames::next_number(words_crc(pebs) as u64);
-    frames::next_number(words_crc(map) as u64);
-    frames::next_number(words_crc(states) as u64);
+// How many steps went on, and the last answer.
+pub fn ran(went: u64, r: Stepped) {
+    frames::word(b"ran");
+    frames::next_number(went);
+    frames::word(b" ");
+    stepped(r);
 }
 
 // The image's checksum, and the end of the line.
 pub fn image(bytes: &[u8]) {
-    frames::word(b" image");
+    frames::word(b"image");
     frames::next_number(crc32::crc32(bytes) as u64);
     frames::line_end();
 }
 
-fn words_crc(words: &[u32]) -> u32 {
-    let mut c: u32 = 0xFFFFFFFF;
-    let mut i: usize = 0;
-    while i < words.len() {
-        c = with_word(c, words[i]);
-        i += 1;
-    }
-    c
+pub fn peb(class: u32, counter: u32) {
+    frames::word(b"peb");
+    frames::next_number(class as u64);
+    frames::next_number(counter as u64);
 }
 
-fn with_word(c: u32, w: u32) -> u32 {
-    let mut bytes = [0u8; 4];
-    field::write(&mut bytes, 0, 4, w as u64);
-    crc32::update(c, &bytes)
+pub fn leb(peb: u32) {
+    frames::word(b" leb");
+    frames::next_number(peb as u64);
 }

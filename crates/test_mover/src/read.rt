@@ -1,88 +1,49 @@
 // What a payload's bytes say.
-ghost use Prim.Native.Nat.{_≤_, _<_};
-ghost use lib.ListN.{length};
-ghost use Rattle.frames.specs.Frame.{Onward};
 use header::EcHeader;
 use header::VidHeader;
 use plan::Plan;
 
-// The place n bytes on, or the end.
-pub fn onward(s: &[u8], at: usize, n: usize) -> usize
-    requires { ⌜ (at ≤ length (now s)) × (0 < n) ⌝ }
-    ensures { λ r. ⌜ Onward at r (length (now (s .entry))) ⌝ }
-{
-    if s.len() - at < n {
-        return s.len();
-    }
-    at + n
-}
-
-// A number that fits four bytes.
-pub fn low(n: u64) -> u32 {
-    (n % 4294967296) as u32
-}
-
-// The number in four bytes, k bytes on; 0 beyond the end.
-fn small(s: &[u8], at: usize, k: usize) -> u32
-    requires { ⌜ (at ≤ length (now s)) × (k ≤ 128) ⌝ }
-{
-    low(frames::number_at(s, at + k, 4))
-}
-
-fn byte(s: &[u8], at: usize, k: usize) -> u8
-    requires { ⌜ (at ≤ length (now s)) × (k ≤ 128) ⌝ }
-{
-    (frames::number_at(s, at + k, 1) % 256) as u8
-}
-
-fn large(s: &[u8], at: usize, k: usize) -> u64
-    requires { ⌜ (at ≤ length (now s)) × (k ≤ 128) ⌝ }
-{
-    frames::number_at(s, at + k, 8)
-}
-
-fn vid_at(s: &[u8], at: usize) -> VidHeader
-    requires { ⌜ at ≤ length (now s) ⌝ }
-{
+fn vid_in(s: &[u8]) -> VidHeader {
     VidHeader {
-        version: byte(s, at, 20),
-        vol_type: byte(s, at, 21),
-        copy_flag: byte(s, at, 22),
-        compat: byte(s, at, 23),
-        volume: small(s, at, 24),
-        lnum: small(s, at, 28),
-        data_size: small(s, at, 32),
-        used_lebs: small(s, at, 36),
-        data_pad: small(s, at, 40),
-        data_crc: small(s, at, 44),
-        sequence: large(s, at, 48),
+        version: frames::u8_at(s, 21),
+        vol_type: frames::u8_at(s, 22),
+        copy_flag: frames::u8_at(s, 23),
+        compat: frames::u8_at(s, 24),
+        volume: frames::u32_at(s, 25),
+        lnum: frames::u32_at(s, 29),
+        data_size: frames::u32_at(s, 33),
+        used_lebs: frames::u32_at(s, 37),
+        data_pad: frames::u32_at(s, 41),
+        data_crc: frames::u32_at(s, 45),
+        sequence: frames::number_at(s, 49, 8),
     }
 }
 
-fn ec_at(s: &[u8], at: usize) -> EcHeader
-    requires { ⌜ at ≤ length (now s) ⌝ }
-{
+fn ec_in(s: &[u8]) -> EcHeader {
     EcHeader {
-        version: byte(s, at, 56),
-        counter: large(s, at, 57),
-        vid_start: small(s, at, 65),
-        data_start: small(s, at, 69),
-        image_seq: small(s, at, 73),
+        version: frames::u8_at(s, 57),
+        counter: frames::number_at(s, 58, 8),
+        vid_start: frames::u32_at(s, 66),
+        data_start: frames::u32_at(s, 70),
+        image_seq: frames::u32_at(s, 74),
     }
 }
 
-// A plan's 81 bytes.
-pub fn plan_at(s: &[u8], at: usize) -> Plan
-    requires { ⌜ at ≤ length (now s) ⌝ }
-{
+// A plan's 81 bytes behind an operation's number.
+pub fn plan_in(s: &[u8]) -> Plan {
     Plan {
-        peb_size: small(s, at, 0),
-        unit: small(s, at, 4),
-        sub_unit: small(s, at, 8),
-        old: small(s, at, 12),
-        target: small(s, at, 16),
-        vid: vid_at(s, at),
-        ec: ec_at(s, at),
-        steps: small(s, at, 77),
+        peb_size: frames::u32_at(s, 1),
+        unit: frames::u32_at(s, 5),
+        sub_unit: frames::u32_at(s, 9),
+        old: frames::u32_at(s, 13),
+        target: frames::u32_at(s, 17),
+        vid: vid_in(s),
+        ec: ec_in(s),
+        steps: frames::u32_at(s, 78),
     }
+}
+
+// The plan of no bytes.
+pub fn no_plan() -> Plan {
+    plan_in(b"")
 }

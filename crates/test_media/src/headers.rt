@@ -1,39 +1,18 @@
-// Reads or writes for each frame a header, as its first byte says, and prints the answer and the lent buffer.
-use frames::Frame;
+// Reads or writes a header, as the first byte says, and prints the answer and the lent buffer.
 use header::EcHeader;
 use header::EcRead;
 use header::VidHeader;
 use header::VidRead;
 use header::Written;
 
-fn main() {
-    let mut buf = [0u8; 65536];
-    // A proved loop ends: no input has so many frames.
-    for _ in 0u32..1000000 {
-        if !turn(&mut buf) {
-            break;
-        }
-    }
-}
-
-// The answer to the next frame, if there is one.
-fn turn(buf: &mut [u8]) -> bool {
-    let Frame::Payload(n) = frames::next(buf) else {
-        return false;
-    };
-    answer(&buf[0..n]);
-    frames::line_end();
-    true
-}
-
-fn answer(payload: &[u8]) {
+pub fn answer(payload: &[u8]) {
     let operation = frames::number_at(payload, 0, 1);
     if operation == 1 {
         print_ec(header::read_ec(frames::rest(payload, 1)));
         return;
     }
     if operation == 2 {
-        let leb_size = u32_at(payload, 1);
+        let leb_size = frames::u32_at(payload, 1);
         print_vid(header::read_vid(frames::rest(payload, 5), leb_size));
         return;
     }
@@ -42,14 +21,6 @@ fn answer(payload: &[u8]) {
         return;
     }
     write_vid(payload);
-}
-
-fn u8_at(payload: &[u8], at: usize) -> u8 {
-    (frames::number_at(payload, at, 1) % 0x100) as u8
-}
-
-fn u32_at(payload: &[u8], at: usize) -> u32 {
-    (frames::number_at(payload, at, 4) % 0x100000000) as u32
 }
 
 fn print_ec(r: EcRead) {
@@ -118,11 +89,11 @@ fn vid_into(h: VidHeader, leb_size: u32, out: &mut [u8]) {
 
 fn write_ec(payload: &[u8]) {
     let h = EcHeader {
-        version: u8_at(payload, 1),
+        version: frames::u8_at(payload, 1),
         counter: frames::number_at(payload, 2, 8),
-        vid_start: u32_at(payload, 10),
-        data_start: u32_at(payload, 14),
-        image_seq: u32_at(payload, 18),
+        vid_start: frames::u32_at(payload, 10),
+        data_start: frames::u32_at(payload, 14),
+        image_seq: frames::u32_at(payload, 18),
     };
     let from = frames::rest(payload, 22);
     let n = from.len();
@@ -136,16 +107,16 @@ fn write_ec(payload: &[u8]) {
 
 fn write_vid(payload: &[u8]) {
     let h = VidHeader {
-        version: u8_at(payload, 5),
-        vol_type: u8_at(payload, 6),
-        copy_flag: u8_at(payload, 7),
-        compat: u8_at(payload, 8),
-        volume: u32_at(payload, 9),
-        lnum: u32_at(payload, 13),
-        data_size: u32_at(payload, 17),
-        used_lebs: u32_at(payload, 21),
-        data_pad: u32_at(payload, 25),
-        data_crc: u32_at(payload, 29),
+        version: frames::u8_at(payload, 5),
+        vol_type: frames::u8_at(payload, 6),
+        copy_flag: frames::u8_at(payload, 7),
+        compat: frames::u8_at(payload, 8),
+        volume: frames::u32_at(payload, 9),
+        lnum: frames::u32_at(payload, 13),
+        data_size: frames::u32_at(payload, 17),
+        used_lebs: frames::u32_at(payload, 21),
+        data_pad: frames::u32_at(payload, 25),
+        data_crc: frames::u32_at(payload, 29),
         sequence: frames::number_at(payload, 33, 8),
     };
     let from = frames::rest(payload, 41);
@@ -155,5 +126,5 @@ fn write_vid(payload: &[u8]) {
     }
     let mut out = [0u8; 128];
     base::store(&mut out, 0, from);
-    vid_into(h, u32_at(payload, 1), &mut out[0..n]);
+    vid_into(h, frames::u32_at(payload, 1), &mut out[0..n]);
 }

@@ -1,38 +1,17 @@
-// Judges for each frame a volume record or two copies of a volume table, as its first byte says, and prints the answer.
-use frames::Frame;
+// Judges a volume record or two copies of a volume table, as the first byte says, and prints the answer.
 use volume_table::RecordKind;
 use volume_table::RecordRead;
 use volume_table::Taken;
 use volume_table::VolumeRecord;
 
-fn main() {
-    let mut buf = [0u8; 65536];
-    // A proved loop ends: no input has so many frames.
-    for _ in 0u32..1000000 {
-        if !turn(&mut buf) {
-            break;
-        }
-    }
-}
-
-// The answer to the next frame, if there is one.
-fn turn(buf: &mut [u8]) -> bool {
-    let Frame::Payload(n) = frames::next(buf) else {
-        return false;
-    };
-    answer(&buf[0..n]);
-    frames::line_end();
-    true
-}
-
-fn answer(payload: &[u8]) {
-    let leb_size = u32_at(payload, 1);
-    let unit = u32_at(payload, 5);
+pub fn answer(payload: &[u8]) {
+    let leb_size = frames::u32_at(payload, 1);
+    let unit = frames::u32_at(payload, 5);
     if frames::number_at(payload, 0, 1) == 1 {
         print_record(volume_table::read_record(frames::rest(payload, 9), leb_size, unit));
         return;
     }
-    let peb_count = u32_at(payload, 9);
+    let peb_count = frames::u32_at(payload, 9);
     let copies = frames::rest(payload, 17);
     let split = frames::number_at(payload, 13, 4) as usize;
     if copies.len() < split {
@@ -45,10 +24,6 @@ fn answer(payload: &[u8]) {
         unit,
         peb_count,
     );
-}
-
-fn u32_at(payload: &[u8], at: usize) -> u32 {
-    (frames::number_at(payload, at, 4) % 0x100000000) as u32
 }
 
 fn print_record(r: RecordRead) {

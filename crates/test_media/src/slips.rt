@@ -1,29 +1,8 @@
-// Prints for each frame the geometry that its slip gives, or the refusal.
-use frames::Frame;
+// The geometry that a slip gives, or the refusal.
 use geometry::Geometry;
 use geometry::GeometryRead;
 
-fn main() {
-    let mut buf = [0u8; 65536];
-    // A proved loop ends: no input has so many frames.
-    for _ in 0u32..1000000 {
-        if !turn(&mut buf) {
-            break;
-        }
-    }
-}
-
-// The answer to the next frame, if there is one.
-fn turn(buf: &mut [u8]) -> bool {
-    let Frame::Payload(n) = frames::next(buf) else {
-        return false;
-    };
-    answer(&buf[0..n]);
-    frames::line_end();
-    true
-}
-
-fn answer(slip: &[u8]) {
+pub fn answer(slip: &[u8]) {
     match geometry::read_slip(slip) {
         GeometryRead::Good(g) => print_geometry(g),
         GeometryRead::Malformed => frames::word(b"refused 1"),
