@@ -12,7 +12,7 @@ from frames import (LENT_BEFORE, MAX_IMAGE, MAX_LENT_WORDS, Fields,
                     as_patches, attach_head, attach_lines, attach_parts,
                     counted, line, part, patch, patched, tables_lines)
 
-BEGIN, STEP, RUN, STEP_PLAN, CUT, ATTACH, FINISH, LOOK_UP = range(1, 9)
+BEGIN, PLAN, RUN, FINISH, CUT, ATTACH, LOOK_UP = range(1, 8)
 
 # The numbers of a plan with their widths, in the order of payloads and
 # lines: the two headers' fields in the order of their bytes.
@@ -74,9 +74,6 @@ class Bench:
             return line(answer, self.plan.steps)
         return answer
 
-    def step(self):
-        return line(self.one_step(), *self.image_words())
-
     def run(self, most):
         """Steps until one does not answer `on`, at most so many."""
         assert most > 0
@@ -88,10 +85,6 @@ class Bench:
                 break
             went_on += 1
         return line("ran", went_on, answer, *self.image_words())
-
-    def step_plan(self, plan):
-        self.plan = plan
-        return self.step()
 
     def finish(self):
         """All steps that are left; the plan stays as it is."""
@@ -139,12 +132,11 @@ def answer_of(bench, fields):
     operation = fields.number(1)
     if operation == BEGIN:
         return bench.begin(*[fields.number(4) for _ in range(3)])
-    if operation == STEP:
-        return bench.step()
+    if operation == PLAN:
+        bench.plan = plan_from(fields)
+        return ""
     if operation == RUN:
         return bench.run(fields.number(2))
-    if operation == STEP_PLAN:
-        return bench.step_plan(plan_from(fields))
     if operation == CUT:
         return bench.cut(patched(fields, bench.image))
     if operation == FINISH:
@@ -163,7 +155,7 @@ def mover_answer(payload):
         operation_bytes = fields.bytes(fields.number(2))
         lines.append(operation_lines(bench, operation_bytes))
     assert fields.at_end()
-    return "\n".join(lines)
+    return "\n".join(filter(None, lines))
 
 
 # ------------------------------------------------------- writing payloads
@@ -200,16 +192,18 @@ class Script:
         return self.bench.begin(volume, leb, target)
 
     def step(self):
-        self.note(STEP)
-        return self.bench.step()
+        """One step; gives its answer alone."""
+        return self.run(1).split(" ", 2)[2]
 
     def run(self, most):
         self.note(RUN, most.to_bytes(2, "big"))
         return self.bench.run(most)
 
     def step_plan(self, plan):
-        self.note(STEP_PLAN, plan_bytes(plan))
-        return self.bench.step_plan(plan)
+        """One step of a given plan."""
+        self.note(PLAN, plan_bytes(plan))
+        self.bench.plan = plan
+        return self.step()
 
     def attach(self):
         self.note(ATTACH)
@@ -256,8 +250,7 @@ def patches_between(before, after):
 # ------------------------------------------------------------------ kinds
 
 # The operation that a line belongs to, by its first word.
-OPERATION_OF = {"planned": "begin", "on": "step", "done": "step",
-                "ran": "run", "attached": "attach"}
+OPERATION_OF = {"planned": "begin", "attached": "attach"}
 
 
 def mover_kinds(payload, answer):
@@ -279,9 +272,7 @@ def kind_of_line(words):
     if words[0] == "finished":
         return "finish " + refusal_or_first(words[1:])
     if words[0] == "refused":
-        # A beginning never answers 18, and a step nothing else.
-        operation = "attach" if words[4:] == [] else (
-            "step" if words[1] == str(mover.PLAN_NOT_FIT) else "begin")
+        operation = "begin" if words[4:] else "attach"
     else:
         operation = OPERATION_OF[words[0]]
     return operation + " " + refusal_or_first(words)

@@ -188,12 +188,9 @@ PROGRAMS = (
         "peb absent leb given": 19,
         "peb given leb absent": 71,
         "peb given leb given": 20,
-        "run done": 566,
-        "run on": 211,
-        "run refused 18": 44,
-        "step done": 70,
-        "step on": 184,
-        "step refused 18": 676,
+        "run done": 636,
+        "run on": 395,
+        "run refused 18": 720,
     }),
 )
 

@@ -2,6 +2,13 @@
 ghost use Prim.Native.Nat.{_≤_, _<_};
 ghost use lib.ListN.{length};
 
+mod headers;
+
+pub use headers::ec_at;
+pub use headers::print_ec;
+pub use headers::print_vid;
+pub use headers::vid_at;
+
 // How many frames follow: the first four bytes, the highest first.
 pub fn count() -> u64 {
     let mut head = [0u8; 4];
@@ -102,6 +109,15 @@ pub fn part_at(payload: &[u8], at: usize) -> Part
     }
 }
 
+// The bytes of the i-th part behind a number of parts.
+pub fn nth_part<'a>(payload: &'a [u8], i: u64) -> &'a [u8] {
+    let mut at = onward(payload, 0, 2);
+    for _ in 0..i {
+        at = part_at(payload, at).end;
+    }
+    bytes_at(payload, at)
+}
+
 // The bytes of the part at `at`.
 pub fn bytes_at<'a>(payload: &'a [u8], at: usize) -> &'a [u8]
     requires { ⌜ at ≤ length (now payload) ⌝ }
@@ -113,7 +129,7 @@ pub fn bytes_at<'a>(payload: &'a [u8], at: usize) -> &'a [u8]
 }
 
 // The place n bytes on, or the end.
-pub fn onward(payload: &[u8], at: usize, n: usize) -> usize
+fn onward(payload: &[u8], at: usize, n: usize) -> usize
     requires { ⌜ at ≤ length (now payload) ⌝ }
     ensures { λ r. ⌜ r ≤ length (now (payload .entry)) ⌝ }
 {

@@ -25,44 +25,30 @@ pub fn answer(payload: &[u8]) {
 
 fn print_ec(r: EcRead) {
     match r {
-        EcRead::Good(h) => print_ec_fields(h),
+        EcRead::Good(h) => print_good_ec(h),
         EcRead::Lost => frames::word(b"lost"),
         EcRead::Newer => frames::word(b"newer"),
         EcRead::Short => frames::word(b"refused 4"),
     }
 }
 
-fn print_ec_fields(h: EcHeader) {
+fn print_good_ec(h: EcHeader) {
     frames::word(b"good");
-    frames::next_number(h.version as u64);
-    frames::next_number(h.counter);
-    frames::next_number(h.vid_start as u64);
-    frames::next_number(h.data_start as u64);
-    frames::next_number(h.image_seq as u64);
+    frames::print_ec(h);
 }
 
 fn print_vid(r: VidRead) {
     match r {
-        VidRead::Good(h) => print_vid_fields(h),
+        VidRead::Good(h) => print_good_vid(h),
         VidRead::Bad => frames::word(b"bad"),
         VidRead::Newer => frames::word(b"newer"),
         VidRead::Short => frames::word(b"refused 4"),
     }
 }
 
-fn print_vid_fields(h: VidHeader) {
+fn print_good_vid(h: VidHeader) {
     frames::word(b"good");
-    frames::next_number(h.version as u64);
-    frames::next_number(h.vol_type as u64);
-    frames::next_number(h.copy_flag as u64);
-    frames::next_number(h.compat as u64);
-    frames::next_number(h.volume as u64);
-    frames::next_number(h.lnum as u64);
-    frames::next_number(h.data_size as u64);
-    frames::next_number(h.used_lebs as u64);
-    frames::next_number(h.data_pad as u64);
-    frames::next_number(h.data_crc as u64);
-    frames::next_number(h.sequence);
+    frames::print_vid(h);
 }
 
 fn print_written(r: Written, out: &[u8]) {
@@ -88,13 +74,7 @@ fn vid_into(h: VidHeader, leb_size: u32, out: &mut [u8]) {
 }
 
 fn write_ec(payload: &[u8]) {
-    let h = EcHeader {
-        version: frames::u8_at(payload, 1),
-        counter: frames::number_at(payload, 2, 8),
-        vid_start: frames::u32_at(payload, 10),
-        data_start: frames::u32_at(payload, 14),
-        image_seq: frames::u32_at(payload, 18),
-    };
+    let h = frames::ec_at(payload, 1);
     let from = frames::rest(payload, 22);
     let n = from.len();
     if 128 < n {
@@ -106,19 +86,7 @@ fn write_ec(payload: &[u8]) {
 }
 
 fn write_vid(payload: &[u8]) {
-    let h = VidHeader {
-        version: frames::u8_at(payload, 5),
-        vol_type: frames::u8_at(payload, 6),
-        copy_flag: frames::u8_at(payload, 7),
-        compat: frames::u8_at(payload, 8),
-        volume: frames::u32_at(payload, 9),
-        lnum: frames::u32_at(payload, 13),
-        data_size: frames::u32_at(payload, 17),
-        used_lebs: frames::u32_at(payload, 21),
-        data_pad: frames::u32_at(payload, 25),
-        data_crc: frames::u32_at(payload, 29),
-        sequence: frames::number_at(payload, 33, 8),
-    };
+    let h = frames::vid_at(payload, 5);
     let from = frames::rest(payload, 41);
     let n = from.len();
     if 128 < n {

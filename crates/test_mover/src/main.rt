@@ -1,14 +1,9 @@
 // Carries out the operations of each frame on its image, and prints what each answers and leaves.
-ghost use Prim.Native.Nat.{_≤_};
-ghost use lib.ListN.{length};
 use lookup::LebPlace;
 use lookup::PebReport;
 use plan::Begun;
 use plan::Plan;
 use plan::Stepped;
-
-mod printed;
-mod read;
 
 fn main() {
     for _ in 0..frames::count() {
@@ -46,12 +41,6 @@ fn lend(payload: &[u8], image: &mut [u8], pebs: &mut [u32], map: &mut [u32], sta
     );
 }
 
-// Where the next operation stands, and the plan that the last one left.
-struct Next {
-    at: usize,
-    plan: Plan,
-}
-
 // A number of operations, and as many parts, each carried out on what the one before left.
 fn operations(
     slip: &[u8],
@@ -61,55 +50,32 @@ fn operations(
     map: &mut [u32],
     states: &mut [u32],
 ) {
-    let mut next = first(s);
-    for _ in 0..frames::number_at(s, 0, 2) {
-        next = operation(slip, s, next, image, pebs, map, states);
+    // Any plan: one is set before it is stepped.
+    let mut plan = show::plan_at(s, 0);
+    for i in 0..frames::number_at(s, 0, 2) {
+        plan = operation(slip, frames::nth_part(s, i), plan, image, pebs, map, states);
     }
 }
 
-fn first(s: &[u8]) -> Next
-    ensures { λ r. ⌜ r .at ≤ length (now (s .entry)) ⌝ }
-{
-    Next {
-        at: frames::onward(s, 0, 2),
-        plan: read::no_plan(),
-    }
-}
-
+// An operation's number, and its operands. Each is one of tables or one of steps.
 fn operation(
-    slip: &[u8],
-    s: &[u8],
-    next: Next,
-    image: &mut [u8],
-    pebs: &mut [u32],
-    map: &mut [u32],
-    states: &mut [u32],
-) -> Next
-    requires { ⌜ next .at ≤ length (now s) ⌝ }
-    ensures { λ r. ⌜ r .at ≤ length (now (s .entry)) ⌝ }
-{
-    let at = next.at;
-    let plan = carry_out(
-        slip,
-        frames::bytes_at(s, at),
-        next.plan,
-        image,
-        pebs,
-        map,
-        states,
-    );
-    Next {
-        at: frames::part_at(s, at).end,
-        plan,
-    }
-}
-
-// An operation's number, and its operands.
-fn carry_out(
     slip: &[u8],
     s: &[u8],
     plan: Plan,
     image: &mut [u8],
+    pebs: &mut [u32],
+    map: &mut [u32],
+    states: &mut [u32],
+) -> Plan {
+    let next = of_tables(slip, s, plan, image, pebs, map, states);
+    of_steps(s, next, image)
+}
+
+fn of_tables(
+    slip: &[u8],
+    s: &[u8],
+    plan: Plan,
+    image: &[u8],
     pebs: &mut [u32],
     map: &mut [u32],
     states: &mut [u32],
@@ -122,12 +88,11 @@ fn carry_out(
         attach(slip, image, pebs, map, states);
         return plan;
     }
-    if op == 8 {
-        look_up(s, pebs, map);
-        printed::image(image);
+    if op == 7 {
+        look_up(s, image, pebs, map);
         return plan;
     }
-    go_on(op, s, plan, image)
+    plan
 }
 
 // A refused beginning leaves the plan of an earlier one.
@@ -144,8 +109,8 @@ fn begin(
     let lnum = frames::u32_at(s, 5);
     let target = frames::u32_at(s, 9);
     let r = mover::begin(slip, image, pebs, map, states, volume, lnum, target);
-    printed::begun(r);
-    printed::image(image);
+    show::begun(r);
+    show::image(image);
     show::tables(pebs, map, states);
     plan_begun(r, plan)
 }
@@ -160,13 +125,13 @@ fn plan_begun(r: Begun, plan: Plan) -> Plan {
 fn attach(slip: &[u8], image: &[u8], pebs: &mut [u32], map: &mut [u32], states: &mut [u32]) {
     show::answer(attach::attach(slip, image, pebs, map, states));
     show::tables(pebs, map, states);
-    printed::image(image);
+    show::image(image);
 }
 
 // What tables of so many PEBs and entries say of a PEB and of a LEB.
-fn look_up(s: &[u8], pebs: &[u32], map: &[u32]) {
+fn look_up(s: &[u8], image: &[u8], pebs: &[u32], map: &[u32]) {
     match lookup::peb_report(pebs, frames::u32_at(s, 1), frames::u32_at(s, 5)) {
-        PebReport::Given { class, counter } => printed::peb(class, counter),
+        PebReport::Given { class, counter } => peb(class, counter),
         PebReport::Absent => frames::word(b"peb absent"),
     }
     match lookup::find_leb(
@@ -175,53 +140,68 @@ fn look_up(s: &[u8], pebs: &[u32], map: &[u32]) {
         frames::u32_at(s, 13),
         frames::u32_at(s, 17),
     ) {
-        LebPlace::At(peb) => printed::leb(peb),
-        LebPlace::Absent => frames::word(b" leb absent"),
+        LebPlace::At(p) => leb(p),
+        LebPlace::Absent => frames::word(b" leb absent "),
     }
+    show::image(image);
+}
+
+fn peb(class: u32, counter: u32) {
+    frames::word(b"peb");
+    frames::next_number(class as u64);
+    frames::next_number(counter as u64);
+}
+
+fn leb(peb: u32) {
+    frames::word(b" leb");
+    frames::next_number(peb as u64);
     frames::word(b" ");
 }
 
 // An operation on plan and image alone.
-fn go_on(op: u64, s: &[u8], plan: Plan, image: &mut [u8]) -> Plan {
+fn of_steps(s: &[u8], plan: Plan, image: &mut [u8]) -> Plan {
+    let op = frames::number_at(s, 0, 1);
     if op == 2 {
-        return step(plan, image);
+        return show::plan_at(s, 1);
     }
     if op == 3 {
         return run(plan, image, frames::number_at(s, 1, 2));
     }
     if op == 4 {
-        return step(read::plan_in(s), image);
+        finish(plan, image);
+        return plan;
     }
     if op == 5 {
         cut(s, image);
         return plan;
     }
-    finish(plan, image);
     plan
 }
 
-// What a cut left of the image is in the payload.
-fn cut(s: &[u8], image: &mut [u8]) {
-    frames::patches(image, frames::rest(s, 1), 0);
-    frames::word(b"cut ");
-    printed::image(image);
+// So many steps; those after the last one change nothing.
+fn run(plan: Plan, image: &mut [u8], most: u64) -> Plan {
+    let mut p = plan;
+    let mut r = Stepped::On(plan);
+    for _ in 0..most {
+        p = plan_after(r, p);
+        r = step(p, image);
+    }
+    let last = plan_after(r, p);
+    ran(plan.steps, last.steps, r, image);
+    last
 }
 
-fn finish(plan: Plan, image: &mut [u8]) {
-    frames::word(b"finished ");
-    printed::stepped(mover::finish(plan, image));
-    printed::image(image);
+// How many steps went on, and the last answer.
+fn ran(from: u32, to: u32, r: Stepped, image: &[u8]) {
+    frames::word(b"ran");
+    frames::next_number(std::num::wrapping_sub_u32(to, from) as u64);
+    frames::word(b" ");
+    show::stepped(r);
+    show::image(image);
 }
 
-fn next_step(plan: Plan, image: &mut [u8]) -> Stepped {
+fn step(plan: Plan, image: &mut [u8]) -> Stepped {
     mover::step(plan, image)
-}
-
-fn step(plan: Plan, image: &mut [u8]) -> Plan {
-    let r = next_step(plan, image);
-    printed::stepped(r);
-    printed::image(image);
-    plan_after(r, plan)
 }
 
 fn plan_after(r: Stepped, plan: Plan) -> Plan {
@@ -232,27 +212,15 @@ fn plan_after(r: Stepped, plan: Plan) -> Plan {
     }
 }
 
-fn is_on(r: Stepped) -> bool {
-    match r {
-        Stepped::On(p) => return true,
-        Stepped::Done => return false,
-        Stepped::Refused => return false,
-    }
+fn finish(plan: Plan, image: &mut [u8]) {
+    frames::word(b"finished ");
+    show::stepped(mover::finish(plan, image));
+    show::image(image);
 }
 
-// Steps until one does not go on, at most so many.
-fn run(plan: Plan, image: &mut [u8], most: u64) -> Plan {
-    let mut p = plan;
-    for went in 0..most {
-        let r = next_step(p, image);
-        if !is_on(r) {
-            printed::ran(went, r);
-            printed::image(image);
-            return p;
-        }
-        p = plan_after(r, p);
-    }
-    printed::ran(most, Stepped::On(p));
-    printed::image(image);
-    p
+// What a cut left of the image is in the payload.
+fn cut(s: &[u8], image: &mut [u8]) {
+    frames::patches(image, frames::rest(s, 1), 0);
+    frames::word(b"cut ");
+    show::image(image);
 }

@@ -7,15 +7,14 @@ use Rattle.test_mover.proofs.run.Statement.{statement}
 use Rattle.test_mover.proofs.run.Tie as tie
 
 abbrev Inv-loop : tie.InvT-loop
-Inv-loop image₀ most p₀ went₀ image p went = length image ≡ length image₀
+Inv-loop plan image₀ most p₀ r₀ i₀ image p r i = length image ≡ length image₀
 
 abbrev μ-loop : tie.MeasureT-loop
-μ-loop image₀ most p₀ went₀ image p went = most - went
+μ-loop plan image₀ most p₀ r₀ i₀ image p r i = most - i
 
 pub run-spec : {M : Type 1} → statement M
 run-spec =
     tie.close
     (tie.spec Inv-loop μ-loop
-    (λ c. search needs) (λ c κs. search needs) (λ c κs. search needs) (λ c κs. search needs) (λ c κs. search needs)
-    (λ c. search needs) (λ c. search needs) (λ c κs. search needs) (λ c. search needs) (λ c. search needs)
+    (λ c. search needs) (λ c κs. search needs) (λ c κs. search needs) (λ c. search needs) (λ c. search needs)
     (λ c. search needs) (λ c κs. search needs) (λ c κs. search needs) (λ c. search needs) (λ c. search needs))
