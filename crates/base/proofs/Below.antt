@@ -9,22 +9,8 @@ use native.Mathlib.Omega.{arith}
 use borrow.Author.Tests.{ltb-true, ltb-false, eqb-true, eqb-false}
 use lib.Dec.{ltb, eqb}
 use Rattle.base.specs.Below.{allBelow, anyBelow, sumBelow, numbered, firstBelow}
-use Rattle.base.proofs.Answers.{
-  clash,
-  by-test,
-  by-option,
-  not-so,
-  and-left,
-  and-right,
-  and-intro,
-  or-left,
-  or-right,
-  or-intro,
-  or-true-cases,
-  none-some,
-  orElse-none,
-  orElse-some,
-}
+use Rattle.base.proofs.Answers.{clash, by-test, by-option, not-so, and-left, and-right, and-intro, or-left}
+use Rattle.base.proofs.Answers.{or-right, or-intro, or-true-cases, none-some, orElse-none, orElse-some}
 
 -- ---- numbers in order
 

@@ -2,27 +2,19 @@
 use mathlib.Core.Path.{_≡_, refl, sym, ap, ap₂, subst, _∙_}
 use mathlib.Core.Bool.{Bool, true, false, _&&_}
 use mathlib.Core.Logic.{⊎-elim}
-use mathlib.Core.List.{
-  List,
-  [],
-  _∷_,
-  _++_,
-  map,
-  append-assoc,
-  List·Memᴰ,
-  List·Memᴰ·head,
-  List·Memᴰ·tail,
-  List·Memᴰ·not-nil,
-  List·Memᴰ·cases-cons,
-}
+use mathlib.Core.List.{List, [], _∷_, _++_, map, append-assoc, List·Memᴰ, List·Memᴰ·head, List·Memᴰ·tail}
+use mathlib.Core.List.{List·Memᴰ·not-nil, List·Memᴰ·cases-cons}
 use Prim.Native.Nat.{ℕ, zero, suc, _+_, _*_, _-_, _≤_, _<_}
-use native.Mathlib.Nat.{add-suc, suc-add, add-zero, zero-add, sub-zero, zero-sub, suc-sub-suc, add-sub-cancel-left, not-suc-le-zero, le-of-suc-le-suc}
+use native.Mathlib.Nat.{add-suc, suc-add, add-zero, zero-add, sub-zero, zero-sub, suc-sub-suc, add-sub-cancel-left}
+use native.Mathlib.Nat.{not-suc-le-zero, le-of-suc-le-suc}
 use native.Mathlib.Numerals.{add-one}
 use native.Mathlib.Omega.{arith}
 use borrow.Author.Tests.{eq-eqb, ne-eqb, eqb-true}
 use lib.Dec.{T, eqb, lit<}
-use lib.ListN.{length, take, drop, getD, set, replicate, length-take, length-drop, length-map, take-append-drop, List·getD-append}
-use lib.Seq.{take-all, take-nil, take-length, take-take, drop-cons, drop-drop, drop-at, take-append-seam, getD-drop, getD-append-add, paste, drop-length}
+use lib.ListN.{length, take, drop, getD, set, replicate, length-take, length-drop, length-map, take-append-drop}
+use lib.ListN.{List·getD-append}
+use lib.Seq.{take-all, take-nil, take-length, take-take, drop-cons, drop-drop, drop-at, take-append-seam, getD-drop}
+use lib.Seq.{getD-append-add, paste, drop-length}
 use Rattle.base.proofs.Answers.{by-test, not-so, and-left, and-right}
 use Rattle.base.specs.Lists.{part, put, eqs, table, rows, Bytes}
 

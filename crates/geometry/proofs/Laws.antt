@@ -3,7 +3,8 @@ use mathlib.Core.Path.{_≡_, sym, _∙_, subst}
 use mathlib.Core.Logic.{⊎-elim}
 use mathlib.Core.Bool.{Bool, true, false, false≢true, and-true, and-false}
 use Prim.Native.Nat.{ℕ, zero, suc, _+_, _-_, _*_, _/_, _%_, _^_, _≤_, _<_}
-use native.Mathlib.Nat.{pow-suc, one-le-pow, div-add-mod', mod-lt, mul-mod-left, mul-mod-right, mul-sub, mul-comm, mul-le-mul-right, div-lt-iff-lt-mul}
+use native.Mathlib.Nat.{pow-suc, one-le-pow, div-add-mod', mod-lt, mul-mod-left, mul-mod-right, mul-sub, mul-comm}
+use native.Mathlib.Nat.{mul-le-mul-right, div-lt-iff-lt-mul}
 use native.Mathlib.Numerals.{add-one}
 use native.Mathlib.Omega.{arith}
 use lib.Dec.{eqb, lit<}
@@ -17,7 +18,8 @@ use Rattle.base.proofs.Below.{any-intro}
 use Rattle.geometry.specs.declared.Geometry.{Geometry}
 use Rattle.geometry.specs.Slip.{hasField, valueAt, headRules, endsAt, wellFormed, slipGeometry, headRead}
 use Rattle.geometry.specs.Placed.{Placed}
-use Rattle.geometry.specs.Geometry.{goodUnit, roundUp, geometryRules, geometryOf, makeGeometry, vidStart, dataStart, lebSize}
+use Rattle.geometry.specs.Geometry.{goodUnit, roundUp, geometryRules, geometryOf, makeGeometry, vidStart}
+use Rattle.geometry.specs.Geometry.{dataStart, lebSize}
 
 -- ---- units
 

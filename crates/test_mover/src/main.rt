@@ -253,7 +253,7 @@ fn begun(r: Begun, plan: Plan) -> Plan {
 }
 
 fn step(plan: Plan, image: &mut [u8]) -> Plan {
-    let r = mover::step(plan, image);
+    let r = mover_steps::step(plan, image);
     printed::stepped(r);
     printed::image(image);
     plan_after(r, plan)
@@ -280,7 +280,7 @@ fn run(plan: Plan, image: &mut [u8], most: u64) -> Plan {
     let mut p = plan;
     let mut went: u64 = 0;
     while went < most {
-        let r = mover::step(p, image);
+        let r = mover_steps::step(p, image);
         if !is_on(r) {
             ran(went, r, image);
             return p;

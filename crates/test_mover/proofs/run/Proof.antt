@@ -7,7 +7,7 @@ use Rattle.test_mover.proofs.run.Statement.{statement}
 use Rattle.test_mover.proofs.run.Tie as tie
 use Rattle.test_mover.proofs.run.Reads as reads
 use Rattle.test_mover.proofs.run.Lts as lts
-use Rattle.mover.proofs.step.Reads as step-reads
+use Rattle.mover_steps.proofs.step.Reads as step-reads
 use Rattle.test_mover.proofs.is_on.Reads as is-on-reads
 use Rattle.test_mover.proofs.plan_after.Reads as plan-after-reads
 use Rattle.test_mover.proofs.ran.Reads as ran-reads

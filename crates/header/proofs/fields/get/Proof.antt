@@ -1,11 +1,9 @@
 -- `header::fields::get` meets its contract. Assumes nothing.
 use borrow.Author.Needs.{needs}
-use Rattle.header.specs.Fields.{fieldAt}
 use Rattle.header.proofs.fields.get.Statement.{statement}
 use Rattle.header.proofs.fields.get.Tie as tie
 
 returns : tie.Need-returns
-unfolding fieldAt
 returns c = (cc, rw (← (c .before .field-of .ensures .0)) (c .read .ensures .1))
 
 pub get-spec : {M : Type 1} → statement M

@@ -1,11 +1,9 @@
 -- `header::fields::set` meets its contract. Assumes nothing.
 use borrow.Author.Needs.{needs}
-use Rattle.header.specs.Stores.{stored}
 use Rattle.header.proofs.fields.set.Statement.{statement}
 use Rattle.header.proofs.fields.set.Tie as tie
 
 returns : tie.Need-returns
-unfolding stored
 returns c = cc
 
 pub set-spec : {M : Type 1} → statement M

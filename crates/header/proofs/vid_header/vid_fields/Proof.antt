@@ -1,7 +1,6 @@
 -- `header::vid_header::vid_fields` meets its contract. Assumes nothing.
 use native.Mathlib.Omega.{arith}
 use borrow.Author.Needs.{needs}
-use Rattle.header.specs.Fields.{fieldOf}
 use Rattle.header.specs.Vid.{vidFields}
 use Rattle.header.proofs.vid_header.vid_fields.Statement.{statement}
 use Rattle.header.proofs.vid_header.vid_fields.Tie as tie
@@ -11,7 +10,6 @@ unfolding vidFields
 returns c = cc
 
 pub vid-fields-spec : {M : Type 1} → statement M
-unfolding fieldOf
 vid-fields-spec =
     tie.close
     (tie.spec

@@ -4,7 +4,8 @@ use native.Mathlib.Omega.{arith}
 use borrow.Author.Needs.{needs}
 use borrow.Author.Tests.{not-true, not-false}
 use lib.ListN.{length}
-use Rattle.volume_table.proofs.Tables.{count-small, all-there, no-records, too-short, Summed, not-fine, too-many, too-much, names-decide}
+use Rattle.volume_table.proofs.Tables.{count-small, all-there, no-records, too-short, Summed, not-fine, too-many}
+use Rattle.volume_table.proofs.Tables.{too-much, names-decide}
 use Rattle.volume_table.proofs.table.table_good.Statement.{statement}
 use Rattle.volume_table.proofs.table.table_good.Tie as tie
 
