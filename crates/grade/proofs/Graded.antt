@@ -2,12 +2,11 @@
 use mathlib.Core.Path.{_≡_, refl, sym, ap, _∙_}
 use mathlib.Core.Bool.{Bool, true, false, not, _&&_, _||_, cond, true≢false}
 use mathlib.Core.Option.{Option, none, some}
-use mathlib.Core.List.{List, [], _∷_, _++_, append-nil}
-use Prim.Native.Nat.{ℕ, zero, suc, _+_, _*_, _<_}
-use native.Mathlib.Omega.{arith}
+use mathlib.Core.List.{List, [], _∷_, _++_}
+use Prim.Native.Nat.{ℕ, zero, suc, _<_}
 use borrow.Author.Tests.{ne-eqb}
 use lib.Dec.{eqb}
-use lib.ListN.{take, drop, getD, take-append-drop}
+use lib.ListN.{drop, getD, take-append-drop}
 use lib.Seq.{getD-take}
 use Rattle.base.specs.Below.{allBelow, concatBelow}
 use Rattle.base.proofs.Below.{all-cong}
@@ -61,7 +60,9 @@ module _ {m : Medium} {pebs states : List ℕ} {marked : ℕ} (o : Read m pebs s
 
   rows : pebs ≡ concatBelow (m .count) row ++ drop (pebWordsNeeded (m .count)) pebs
   unfolding pebWords
-  rows = sym (take-append-drop (pebWordsNeeded (m .count)) pebs) ∙ ap (λ (x : List ℕ). x ++ drop (pebWordsNeeded (m .count)) pebs) (o .pebs-are)
+  rows =
+      let k = pebWordsNeeded (m .count) in
+      sym (take-append-drop k pebs) ∙ ap (λ (x : List ℕ). x ++ drop k pebs) (o .pebs-are)
 
   peb-is : (i : ℕ) → i < m .count → soundPeb pebs i ≡ readable i && counted i
   unfolding counterAt
@@ -73,11 +74,15 @@ module _ {m : Medium} {pebs states : List ℕ} {marked : ℕ} (o : Read m pebs s
       )
 
   pebs-are : allBelow (m .count) (soundPeb pebs) ≡ allBelow (m .count) readable && allBelow (m .count) counted
-  pebs-are = all-cong (m .count) (soundPeb pebs) (λ (i : ℕ). readable i && counted i) peb-is ∙ all-both (m .count) readable counted
+  pebs-are =
+      all-cong (m .count) (soundPeb pebs) (λ (i : ℕ). readable i && counted i) peb-is
+      ∙ all-both (m .count) readable counted
 
   state-is : (v : ℕ) → v < stateWordsNeeded → getD states v 0 ≡ stateAt m v
   unfolding stateWords
-  state-is v h = sym (getD-take stateWordsNeeded states v 0 h) ∙ rw (o .states-are) (table-at (stateAt m) 0 stateWordsNeeded v h)
+  state-is v h =
+      sym (getD-take stateWordsNeeded states v 0 h)
+      ∙ rw (o .states-are) (table-at (stateAt m) 0 stateWordsNeeded v h)
 
   states-are : allBelow stateWordsNeeded (soundState states) ≡ allBelow stateWordsNeeded healthy
   states-are = all-cong stateWordsNeeded (soundState states) healthy (λ v h. rw (state-is v h))
@@ -88,4 +93,5 @@ module _ {m : Medium} {pebs states : List ℕ} {marked : ℕ} (o : Read m pebs s
   unfolding gradeOf
   graded k p s e f h =
       let a : eqb (mark m) 0 ≡ k = ap (λ (x : ℕ). eqb x 0) (sym (o .mark-is)) ∙ e in
-      rw (a, sym f ∙ pebs-are, sym h ∙ states-are) (reorder (allBelow (m .count) readable) (allBelow (m .count) counted) k _)
+      rw (a, sym f ∙ pebs-are, sym h ∙ states-are)
+      (reorder (allBelow (m .count) readable) (allBelow (m .count) counted) k _)

@@ -12,7 +12,8 @@ use Rattle.report.specs.Attach.{pebWords, stateWords}
 
 -- do the words of PEB i say that it is readable, and has its counter if it must?
 abbrev pub soundPeb : List ℕ → ℕ → Bool
-soundPeb pebs i = not (eqb (classWord pebs i) 4) && (mayBeLost (classWord pebs i) || not (eqb (counterWord pebs i) noWord))
+soundPeb pebs i =
+    not (eqb (classWord pebs i) 4) && (mayBeLost (classWord pebs i) || not (eqb (counterWord pebs i) noWord))
 
 -- is the state of volume v neither 2 nor 3?
 abbrev pub soundState : List ℕ → ℕ → Bool

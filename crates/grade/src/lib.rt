@@ -68,7 +68,8 @@ fn states_sound(states: &[u32]) -> bool
 pub fn grade(pebs: &[u32], states: &[u32], n: usize, mark: u32) -> u32
     requires { ⌜ (pebWordsNeeded n ≤ length (now pebs)) × (stateWordsNeeded ≤ length (now states)) ⌝ }
     ensures { λ r. ⌜ ((g : Geometry) (image : List ℕ)
-        → Read (mediumOf g n image) (now (pebs .entry)) (now (states .entry)) mark → r ≡ gradeOf (mediumOf g n image)) ⌝ }
+        → Read (mediumOf g n image) (now (pebs .entry)) (now (states .entry)) mark
+        → r ≡ gradeOf (mediumOf g n image)) ⌝ }
 {
     if mark != 0 {
         return 1;

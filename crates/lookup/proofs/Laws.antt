@@ -1,14 +1,13 @@
 -- What a look into tables finds. Assumes nothing.
 use mathlib.Core.Path.{_≡_}
-use mathlib.Core.Bool.{Bool, true, false, _&&_}
+use mathlib.Core.Bool.{true, false}
 use mathlib.Core.Option.{none, some}
 use mathlib.Core.List.{List}
 use Prim.Native.Nat.{ℕ, _+_, _*_, _≤_, _<_}
 use borrow.Author.Tests.{lt-ltb, le-ltb, le-leb, lt-leb}
-use lib.Dec.{eqb}
 use lib.ListN.{length}
 use Rattle.base.proofs.Below.{first-none, first-is}
-use Rattle.words.specs.Words.{pebStride, mapWordsNeeded, classWord, counterWord, volumeWord, lnumWord, pebWord, HasPeb}
+use Rattle.words.specs.Words.{pebStride, mapWordsNeeded, classWord, counterWord, pebWord, HasPeb}
 use Rattle.lookup.specs.Lookup.{pebIn, isEntry, placeAt, placeIn}
 
 -- ---- one PEB

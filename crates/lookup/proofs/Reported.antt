@@ -1,7 +1,6 @@
 -- What is found in the tables that attaching leaves is the report's. Assumes nothing.
 use mathlib.Core.Path.{_≡_, refl, sym, ap, ap₂, _∙_}
-use mathlib.Core.Bool.{_&&_, cond}
-use mathlib.Core.Option.{Option, none, some}
+use mathlib.Core.Option.{some}
 use mathlib.Core.List.{List, [], _∷_, _++_, append-assoc, List·Memᴰ, List·Memᴰ·head, List·Memᴰ·tail, List·Memᴰ·cases-cons, List·Memᴰ·not-nil}
 use mathlib.Core.Logic.{_⊎_, inl, inr}
 use Prim.Native.Nat.{ℕ, zero, suc, _+_, _*_, _-_, _≤_, _<_}
@@ -32,8 +31,9 @@ pub peb-reported : (m : Medium) (lent : Tables) (i : ℕ) → i < m .count
 unfolding pebWords
 peb-reported m lent i h =
     let row : ℕ → List ℕ = λ i. classAt m i ∷ counterAt m i ∷ [] in
-    let rest = drop (length (concatBelow (m .count) row)) (lent .pebs) in
-    sym (peb-there (concatBelow (m .count) row ++ rest) (m .count) i h (simp length-append (omega (arith, peb-words-length m))))
+    let rows = concatBelow (m .count) row in
+    let rest = drop (length rows) (lent .pebs) in
+    sym (peb-there (rows ++ rest) (m .count) i h (simp length-append (omega (arith, peb-words-length m))))
     ∙ rw (class-at (m .count) row rest refl (λ j. refl) i h, counter-at (m .count) row rest refl (λ j. refl) i h)
 
 -- ---- one LEB
@@ -101,8 +101,9 @@ module _ (m : Medium) (lent : Tables) where
   place-is : (v l : ℕ) → placeIn map′ (length es) v l ≡ mapO (λ x. x .1) (firstBelow (length es) (placeAt words v l))
   unfolding placeIn mapWords
   place-is v l =
-      let long : mapWordsNeeded (length es) ≤ length words = simp length-append (omega (arith, entry-words-length es)) in
-      rw (append-assoc (entryWords es) _ (drop (length (mapWords (m .count) es)) (lent .map)), le-leb _ (length words) long)
+      let long : length es * entryStride ≤ length words = simp length-append (omega (arith, entry-words-length es)) in
+      let beyond = drop (length (mapWords (m .count) es)) (lent .map) in
+      rw (append-assoc (entryWords es) _ beyond, le-leb _ (length words) long)
 
   -- an entry at which a place is found
   entry-found : (v l : ℕ) (x : ℕ × ℕ) → firstBelow (length es) (placeAt words v l) ≡ some x
@@ -126,7 +127,7 @@ module _ (m : Medium) (lent : Tables) where
       → some (d .peb) ≡ some (e .peb)
   unfolding entries mapOf
   one-place d e k j v l =
-      let listed : (x : Entry) → List·Memᴰ x es → Listed 128 2 (records m) (places m) x = in-map 128 2 (records m) (places m) in
+      let listed : (x : Entry) → List·Memᴰ x es → Listed 128 2 (records m) (places m) x = in-map 128 2 _ (places m) in
       sym (listed d k .place) ∙ ap₂ (places m) v l ∙ listed e j .place
 
   -- what is in the map is found
@@ -138,7 +139,8 @@ module _ (m : Medium) (lent : Tables) where
       (λ a.
       let w = words-of rest es e k in
       none-some {a = pebWord words (w .0)}
-      (sym (first-none-at (length es) at a (w .0) (w .1)) ∙ rw (eq-eqb _ _ (w .2 .volume-is), eq-eqb _ _ (w .2 .lnum-is))))
+      (sym (first-none-at (length es) at a (w .0) (w .1))
+      ∙ rw (eq-eqb _ _ (w .2 .volume-is), eq-eqb _ _ (w .2 .lnum-is))))
       (λ x a.
       let u = entry-found (e .volume) (e .lnum) x a in
       rw a (ap some (sym (u .4)) ∙ one-place (u .0) e (u .1) k (u .2) (u .3)))

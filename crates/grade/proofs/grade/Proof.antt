@@ -24,10 +24,12 @@ returns-2 c = λ g image o.
 -- the PEBs are sound, and the states decide
 by-states : (c : tie.After-states-sound) (s : Bool) → c .states-sound .result ≡ s → (g : Geometry) (image : List ℕ)
     → let a = c .before .before .before .before .before .before .args in
-    Read (mediumOf g (a .n) image) (a .pebs .now) (a .states .now) (a .mark) → cond s 0 1 ≡ gradeOf (mediumOf g (a .n) image)
+    Read (mediumOf g (a .n) image) (a .pebs .now) (a .states .now) (a .mark)
+    → cond s 0 1 ≡ gradeOf (mediumOf g (a .n) image)
 by-states c s e g image o =
     let p = c .before .before in
-    graded o true true s (eq-eqb _ _ (p .before .if1 .left)) (sym (p .pebs-sound .ensures) ∙ not-false _ (c .before .if2 .left))
+    graded o true true s (eq-eqb _ _ (p .before .if1 .left))
+    (sym (p .pebs-sound .ensures) ∙ not-false _ (c .before .if2 .left))
     (sym (c .states-sound .ensures) ∙ e)
 
 returns-3 : tie.Need-returns-3

@@ -15,7 +15,8 @@ returns-2 c =
 returns-3 : tie.Need-returns-3
 returns-3 c =
     let d = c .before .before in
-    rw (← (d .before .class-word .ensures), ne-eqb _ _ (d .if1 .left), ne-eqb _ _ (c .before .if2 .left), ← (c .counter-word .ensures))
+    rw (← (d .before .class-word .ensures), ne-eqb _ _ (d .if1 .left), ne-eqb _ _ (c .before .if2 .left))
+    (rw (← (c .counter-word .ensures)))
 
 pub peb-sound-spec : {M : Type 1} → statement M
 peb-sound-spec =

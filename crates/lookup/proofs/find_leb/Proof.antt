@@ -29,8 +29,8 @@ returns-2 c =
     let d = c .before .before .before .before in
     let a = d .before .before .before .args in
     rw (c .peb-word .ensures)
-    (first-entry (a .map .now) (a .entries) (a .volume) (a .lnum) (omega (arith, d .before .if1 .left)) (d .loop .k) (omega arith)
-    (d .loop .inv .1) (sym (c .before .before .is-entry .ensures) ∙ c .before .if2 .taken))
+    (first-entry (a .map .now) (a .entries) (a .volume) (a .lnum) (omega (arith, d .before .if1 .left)) (d .loop .k)
+    (omega arith) (d .loop .inv .1) (sym (c .before .before .is-entry .ensures) ∙ c .before .if2 .taken))
 
 loop-again : tie.Need-loop-again Inv-loop μ-loop
 loop-again c =
