@@ -28,7 +28,7 @@ use Rattle.scan.specs.Pass.{seqIn, withEc, withVid, smallCounter, Totals
 use Rattle.scan.specs.declared.EcTotals.{EcTotals}
 use Rattle.scan.specs.declared.ScanTotals.{ScanTotals}
 use Rattle.scan.specs.declared.PebPass.{PebPass}
-use Rattle.scan.proofs.Turns.{small-view, view-zero}
+use Rattle.scan.proofs.OnePeb.{small-view, view-zero}
 
 -- ---- the image sequence
 
