@@ -29,5 +29,6 @@ module _ (n : ℕ) (cs : ℕ → Option Copy) where
   a-repeat {i} {j} h l f e =
       let found : ℕ → Option ℕ = λ i. when (anyBelow i (λ (j : ℕ). repeats (cs i) (cs j))) 9 in
       let w : found i ≡ some 9 = rw (any-intro i (λ (j : ℕ). repeats (cs i) (cs j)) j l e) in
-      let none-before : (k : ℕ) → k < i → found k ≡ none = λ k q. rw (none-intro k (λ (j : ℕ). repeats (cs k) (cs j)) (f k q)) in
+      let none-before : (k : ℕ) → k < i → found k ≡ none =
+      λ k q. rw (none-intro k (λ (j : ℕ). repeats (cs k) (cs j)) (f k q)) in
       rw (lt-ltb i n h, first-lowest n found i 9 h w none-before)

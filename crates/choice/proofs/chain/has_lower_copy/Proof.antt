@@ -54,7 +54,8 @@ returns-2 c =
     let d = c .before .before .before .before in
     let v = c .before .loop .inv in
     sym (none-intro (d .args .i) (sameLeb (d .args .map .now) (d .args .i))
-    (walk-end (v .0) (Other d) (v .1) (λ x _ f. other-leb (d .args .map .now) (d .args .i) x f (d .pre .1 .1 .1)) (omega arith)))
+    (walk-end (v .0) (Other d) (v .1) (λ x _ f. other-leb (d .args .map .now) (d .args .i) x f (d .pre .1 .1 .1))
+    (omega arith)))
 
 pub has-lower-copy-spec : {M : Type 1} → statement M
 has-lower-copy-spec =

@@ -68,7 +68,8 @@ returns-2 c =
     let t = c .before in
     let l = t .before .before .before in
     let p = start l .pre .0 in
-    let low = lowest p (l .loop .at) (t .before .before .header-field .ensures) (t .before .if1 .left) (t .highest-up-to2 .ensures) (c .if2 .taken) in
+    let low = lowest p (l .loop .at) (t .before .before .header-field .ensures) (t .before .if1 .left)
+    (t .highest-up-to2 .ensures) (c .if2 .taken) in
     (is-chosen p (l .loop .inv) (inr low), l .loop .inv .below)
 
 is-sound-requires : tie.Need-is-sound-requires Inv-loop μ-loop
@@ -76,12 +77,18 @@ is-sound-requires c κs =
     let l = c .before .before .before .before in
     let p = start l .pre .0 in
     let w = within (p .keyed) (l .loop .at) (l .loop .inv .below) in
-    record { placed = w .placed; bytes = w .bytes; is = has-copy p (l .loop .at) (l .loop .inv .below) (l .loop .inv .same) }
+    record {
+      placed = w .placed;
+      bytes = w .bytes;
+      is = has-copy p (l .loop .at) (l .loop .inv .below) (l .loop .inv .same);
+    }
 
 returns-3 : tie.Need-returns-3 Inv-loop μ-loop
 returns-3 c =
-    let l = c .before .before .before .before .before .before in
-    (is-chosen (start l .pre .0) (l .loop .inv) (inl (sym (c .before .is-sound .ensures) ∙ c .if3 .taken)), l .loop .inv .below)
+    let l = c .before .before .before .before .before .before in (
+      is-chosen (start l .pre .0) (l .loop .inv) (inl (sym (c .before .is-sound .ensures) ∙ c .if3 .taken)),
+      l .loop .inv .below,
+    )
 
 loop-less : tie.Need-loop-less Inv-loop μ-loop
 loop-less c =

@@ -23,7 +23,12 @@ returns-2 : tie.Need-returns-2
 returns-2 c =
     let e = c .before .before in
     let s = e .before .same-leb in
-    rw (← (s .ensures), not-false (s .result) (e .if1 .left), ← (c .before .header-field .ensures), lt-leb _ _ (c .if2 .taken))
+    rw (
+      ← (s .ensures),
+      not-false (s .result) (e .if1 .left),
+      ← (c .before .header-field .ensures),
+      lt-leb _ _ (c .if2 .taken),
+    )
 
 returns-3 : tie.Need-returns-3
 returns-3 c =

@@ -3,7 +3,7 @@ use mathlib.Core.Path.{_≡_}
 use Prim.Native.Nat.{_≤_, _<_, _-_, ℕ}
 use native.Mathlib.Omega.{arith}
 use borrow.Author.Needs.{needs}
-use mathlib.Core.Bool.{true, false}
+use mathlib.Core.Bool.{false}
 use mathlib.Core.List.{List}
 use Rattle.geometry.specs.declared.Geometry.{Geometry}
 use Rattle.report.specs.View.{viewsOf, copies}
@@ -63,7 +63,8 @@ loop-again c =
     let d = start (turn l) in
     let v = l .loop .inv in
     let r = v .0 .range in
-    let e = repeats-told (d .pre .0) i (l .loop .j) (omega arith) (omega arith) (c .before .before .is-repeat .ensures) (c .before .if1 .left) in (
+    let e = repeats-told (d .pre .0) i (l .loop .j) (omega arith) (omega arith) (c .before .before .is-repeat .ensures)
+    (c .before .if1 .left) in (
       rw (c .link2 .ensures) (along-next (v .0) (d .pre .1) (omega arith) (omega arith)),
       walk-on (v .0) (Apart (d .args .g) (d .args .image .now) i) (v .1)
           (λ x k f. other-copy (d .args .map .now) i x f (d .pre .0) (omega arith) (omega arith)) e,
@@ -94,8 +95,12 @@ returns-2 c =
     let p = turn l .pebs in
     let d = start (turn l) in
     let r = l .loop .inv .0 .range in
-    let e = repeats-told (d .pre .0) (p .i) (l .loop .j) (omega arith) (omega arith) (c .before .is-repeat .ensures) (c .if1 .taken) in
-    (a-repeat (d .args .n) (copies (viewsOf (d .args .g) (d .args .image .now))) (omega arith) (omega arith) (p .inv .1) e, omega arith)
+    let e = repeats-told (d .pre .0) (p .i) (l .loop .j) (omega arith) (omega arith) (c .before .is-repeat .ensures)
+    (c .if1 .taken) in (
+      a-repeat (d .args .n) (copies (viewsOf (d .args .g) (d .args .image .now))) (omega arith) (omega arith)
+          (p .inv .1) e,
+      omega arith,
+    )
 
 pub first-repeat-spec : {M : Type 1} → statement M
 first-repeat-spec =
