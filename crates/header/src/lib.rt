@@ -16,6 +16,7 @@ pub use fields::VID_TYPE;
 pub use fields::VID_USED_LEBS;
 pub use vid_header::read_vid;
 pub use vid_header::vid_field;
+pub use vid_header::vid_fields;
 pub use vid_header::vid_readable;
 pub use vid_header::write_vid;
 

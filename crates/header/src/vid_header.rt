@@ -28,7 +28,7 @@ use crate::fields::set;
 use crate::vid_rules::rules_hold;
 
 // The fields in a header's bytes.
-fn vid_fields(s: &[u8]) -> VidHeader
+pub fn vid_fields(s: &[u8]) -> VidHeader
     requires { ⌜ 64 ≤ length (now s) ⌝ }
     ensures { λ h. ⌜ h ≡ vidFields (now (s .entry)) ⌝ }
 {

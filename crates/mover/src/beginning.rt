@@ -1,18 +1,15 @@
 // The beginning of a move: attaching, refusals 13 to 17, and the plan.
 ghost use mathlib.Core.Path.{_≡_};
 ghost use mathlib.Core.Option.{some};
-ghost use Prim.Native.Nat.{_+_, _<_};
-ghost use Rattle.base.specs.Answers.{given, refused};
-ghost use Rattle.geometry.specs.Slip.{slipGeometry};
-ghost use Rattle.report.specs.View.{Copy, viewsOf, ecs, copies, copyOf};
-ghost use Rattle.report.specs.Attach.{attaching, pebsAfter, mapAfter, statesAfter};
+ghost use Prim.Native.Nat.{_+_, _^_, _<_};
+ghost use Rattle.base.specs.Answers.{refused};
+ghost use Rattle.report.specs.View.{copyOf, viewsOf, copies};
+ghost use Rattle.report.specs.Attach.{request, attachingInto, lent, longEnough, tablesAfter};
 ghost use Rattle.plan.specs.Begin.{planFor, planOf, beginning, begunAnswer};
-ghost use Rattle.plan.specs.declared.Begun.{Begun};
 ghost use Rattle.plan.specs.declared.Begun.the-variants.{Planned};
+ghost use Rattle.copies.specs.InPlace.{copyAt};
 ghost use Rattle.moving.specs.Reported.{renewedAs, ecWith};
-ghost use Rattle.mover.specs.Begins.{Told, Begins, Moved, Accepts, planWith};
-use geometry::Geometry;
-use geometry::GeometryRead;
+ghost use Rattle.mover.specs.Begins.{mediumIn, Told, Begins, Moved, planWith};
 use header::VidHeader;
 use lookup::LebPlace;
 use moving::Examined;
@@ -21,7 +18,6 @@ use plan::Plan;
 use report::Attached;
 use report::Report;
 use report::refusal;
-use scan::VidSeen;
 
 // No sequence comes after it.
 const LAST_SEQUENCE: u64 = 0xFFFFFFFFFFFFFFFF;
@@ -29,10 +25,11 @@ const LAST_SEQUENCE: u64 = 0xFFFFFFFFFFFFFFFF;
 // A block with this counter is not erased again: a higher one would be read as lost.
 const LAST_COUNTER: u32 = 0x7FFFFFFF;
 
+// The bytes of a header.
+const HEADER_SIZE: usize = 64;
+
 // The plan, once nothing refuses the move.
 fn make_plan(
-    image: &[u8],
-    g: Geometry,
     report: Report,
     old: u32,
     h: VidHeader,
@@ -40,11 +37,13 @@ fn make_plan(
     target: u32,
     counter: u32,
 ) -> Begun
-    requires { ⌜ Accepts g (now image) report target ⌝ }
-    ensures { λ r. ⌜ r ≡ Planned (planWith g old target (renewedAs h found (report .highest + 1)) (ecWith g counter (ecs (viewsOf g (now (image .entry))) target))) ⌝ }
+    requires { ⌜ report .highest + 1 < 2 ^ 64 ⌝ }
+    ensures { λ r. ⌜ r ≡ Planned (planWith (report .geometry) old target (renewedAs h found (report .highest + 1))
+        (ecWith (report .geometry) counter (report .«image_seq»))) ⌝ }
 {
+    let g = report.geometry;
     let vid = moving::new_vid(h, found, report.highest);
-    let ec = moving::new_ec(image, g, target, counter);
+    let ec = moving::new_ec(g, counter, report.image_seq);
     Begun::Planned(Plan {
         peb_size: g.peb_size,
         unit: g.unit,
@@ -68,16 +67,18 @@ fn refuse(number: u32) -> Begun
 fn plan_copy(
     image: &[u8],
     p: &[u8],
-    g: Geometry,
     report: Report,
     pebs: &[u32],
     old: u32,
     h: VidHeader,
     target: u32,
 ) -> Begun
-    requires { ⌜ (Told g (now image) report (now pebs)) × (Moved g (now image) (now p) (report .«peb_count») old h) ⌝ }
-    ensures { λ r. ⌜ begunAnswer r ≡ planFor g (report .«peb_count») (viewsOf g (now (image .entry))) target (some (old, copyOf g (now (p .entry)) h)) ⌝ }
+    requires { ⌜ (Told (now image) report (now pebs))
+        × (Moved (report .geometry) (now image) (now p) (report .«peb_count») old h) ⌝ }
+    ensures { λ r. ⌜ begunAnswer r ≡ planFor (mediumIn (now (image .entry)) report) target
+        (some (old, copyOf (report .geometry) (now (p .entry)) h)) ⌝ }
 {
+    let g = report.geometry;
     let found = moving::examine(p, g, h);
     if found.damaged {
         return refuse(refusal::DAMAGED_COPY);
@@ -93,103 +94,49 @@ fn plan_copy(
     if counter == LAST_COUNTER {
         return refuse(refusal::NUMBERS_USED_UP);
     }
-    make_plan(image, g, report, old, h, found, target, counter)
+    make_plan(report, old, h, found, target, counter)
 }
 
-// The copy in PEB `old`: its header is read anew. It is good, as the PEB is in the map.
-fn plan_peb(image: &[u8], g: Geometry, report: Report, pebs: &[u32], old: u32, target: u32) -> Begun
-    requires { ⌜ (Told g (now image) report (now pebs)) × (old < report .«peb_count») ⌝ }
-    ensures { λ r. ⌜ ((c : Copy) → copies (viewsOf g (now (image .entry))) old ≡ some c
-        → begunAnswer r ≡ planFor g (report .«peb_count») (viewsOf g (now (image .entry))) target (some (old, c))) ⌝ }
+// The copy in PEB `old`, whose VID header is good: its fields are read where they stand.
+fn plan_peb(image: &[u8], report: Report, pebs: &[u32], old: u32, target: u32) -> Begun
+    requires { ⌜ (Told (now image) report (now pebs)) × ((old < report .«peb_count»)
+        × (copies (viewsOf (report .geometry) (now image)) old ≡ some (copyAt (report .geometry) (now image) old))) ⌝ }
+    ensures { λ r. ⌜ begunAnswer r ≡ planFor (mediumIn (now (image .entry)) report) target
+        (some (old, copyAt (report .geometry) (now (image .entry)) old)) ⌝ }
 {
+    let g = report.geometry;
     let size = g.peb_size as usize;
     let at = old as usize * size;
     let p = &image[at..at + size];
-    let v = scan::see_vid(p, g);
-    match v {
-        VidSeen::Good(h) => return plan_copy(image, p, g, report, pebs, old, h, target),
-        VidSeen::Newer => return Begun::Refused {
-            number: refusal::LEB_NOT_MAPPED,
-            place: 0,
-        },
-        VidSeen::Blank => return Begun::Refused {
-            number: refusal::LEB_NOT_MAPPED,
-            place: 0,
-        },
-        VidSeen::Bad => return Begun::Refused {
-            number: refusal::LEB_NOT_MAPPED,
-            place: 0,
-        },
-    }
+    let vid = g.vid_start as usize;
+    let h = header::vid_fields(&p[vid..vid + HEADER_SIZE]);
+    plan_copy(image, p, report, pebs, old, h, target)
 }
 
 // An image that attached: refusals 13 and 14, and the rest.
 fn plan_move(
     image: &[u8],
-    g: Geometry,
     report: Report,
     pebs: &[u32],
     map: &[u32],
     volume: u32,
-    leb: u32,
+    lnum: u32,
     target: u32,
 ) -> Begun
-    requires { ⌜ Begins g (now image) report (now pebs) (now map) ⌝ }
-    ensures { λ r. ⌜ begunAnswer r ≡ planOf g (report .«peb_count») (viewsOf g (now (image .entry))) volume leb target ⌝ }
+    requires { ⌜ Begins (now image) report (now pebs) (now map) ⌝ }
+    ensures { λ r. ⌜ begunAnswer r ≡ planOf (mediumIn (now (image .entry)) report) volume lnum target ⌝ }
 {
     if report.read_only {
-        return Begun::Refused {
-            number: refusal::NOT_WRITABLE,
-            place: 0,
-        };
+        return refuse(refusal::NOT_WRITABLE);
     }
+    let g = report.geometry;
     if moving::any_to_delete(image, g, report.peb_count as usize, pebs) {
-        return Begun::Refused {
-            number: refusal::NOT_WRITABLE,
-            place: 0,
-        };
+        return refuse(refusal::NOT_WRITABLE);
     }
-    let place = lookup::find_leb(map, report.entries, volume, leb);
+    let place = lookup::find_leb(map, report.entries, volume, lnum);
     match place {
-        LebPlace::At(old) => return plan_peb(image, g, report, pebs, old, target),
-        LebPlace::Absent => return Begun::Refused {
-            number: refusal::LEB_NOT_MAPPED,
-            place: 0,
-        },
-    }
-}
-
-// An image of a known geometry.
-fn begin_image(
-    slip: &[u8],
-    image: &[u8],
-    g: Geometry,
-    pebs: &mut [u32],
-    map: &mut [u32],
-    states: &mut [u32],
-    volume: u32,
-    leb: u32,
-    target: u32,
-) -> Begun
-    requires { ⌜ slipGeometry (now slip) ≡ given g ⌝ }
-    ensures answer { λ r. ⌜ begunAnswer r ≡ beginning (now (slip .entry)) (now (image .entry)) (now (pebs .entry)) (now (map .entry)) (now (states .entry)) volume leb target ⌝ }
-    ensures pebs { λ _. ⌜ now (pebs .exit) ≡ pebsAfter (attaching (now (slip .entry)) (now (image .entry)) (now (pebs .entry)) (now (map .entry)) (now (states .entry))) (now (pebs .entry)) ⌝ }
-    ensures map { λ _. ⌜ now (map .exit) ≡ mapAfter (attaching (now (slip .entry)) (now (image .entry)) (now (pebs .entry)) (now (map .entry)) (now (states .entry))) (now (map .entry)) ⌝ }
-    ensures states { λ _. ⌜ now (states .exit) ≡ statesAfter (attaching (now (slip .entry)) (now (image .entry)) (now (pebs .entry)) (now (map .entry)) (now (states .entry))) (now (states .entry)) ⌝ }
-{
-    let r = attach::attach(slip, image, pebs, map, states);
-    match r {
-        Attached::Given(report) => return plan_move(
-            image,
-            g,
-            report,
-            pebs,
-            map,
-            volume,
-            leb,
-            target,
-        ),
-        Attached::Refused { number, place } => return Begun::Refused { number, place },
+        LebPlace::At(old) => return plan_peb(image, report, pebs, old, target),
+        LebPlace::Absent => return refuse(refusal::LEB_NOT_MAPPED),
     }
 }
 
@@ -201,26 +148,22 @@ pub fn begin(
     map: &mut [u32],
     states: &mut [u32],
     volume: u32,
-    leb: u32,
+    lnum: u32,
     target: u32,
 ) -> Begun
-    ensures answer { λ r. ⌜ begunAnswer r ≡ beginning (now (slip .entry)) (now (image .entry)) (now (pebs .entry)) (now (map .entry)) (now (states .entry)) volume leb target ⌝ }
-    ensures pebs { λ _. ⌜ now (pebs .exit) ≡ pebsAfter (attaching (now (slip .entry)) (now (image .entry)) (now (pebs .entry)) (now (map .entry)) (now (states .entry))) (now (pebs .entry)) ⌝ }
-    ensures map { λ _. ⌜ now (map .exit) ≡ mapAfter (attaching (now (slip .entry)) (now (image .entry)) (now (pebs .entry)) (now (map .entry)) (now (states .entry))) (now (map .entry)) ⌝ }
-    ensures states { λ _. ⌜ now (states .exit) ≡ statesAfter (attaching (now (slip .entry)) (now (image .entry)) (now (pebs .entry)) (now (map .entry)) (now (states .entry))) (now (states .entry)) ⌝ }
+    ensures answer { λ r. ⌜ begunAnswer r ≡ beginning (request (now (slip .entry))) (now (image .entry))
+        (longEnough (lent (now (pebs .entry)) (now (map .entry)) (now (states .entry)))) volume lnum target ⌝ }
+    ensures tables { λ _. ⌜ lent (now (pebs .exit)) (now (map .exit)) (now (states .exit))
+        ≡ tablesAfter
+        (attachingInto (request (now (slip .entry))) (now (image .entry))
+        (lent (now (pebs .entry)) (now (map .entry)) (now (states .entry))))
+        (lent (now (pebs .entry)) (now (map .entry)) (now (states .entry))) ⌝ }
 {
-    let r = geometry::read_slip(slip);
+    let r = attach::attach(slip, image, pebs, map, states);
     match r {
-        GeometryRead::Good(g) => {
-            return begin_image(slip, image, g, pebs, map, states, volume, leb, target);
+        Attached::Given(report) => {
+            return plan_move(image, report, pebs, map, volume, lnum, target);
         }
-        GeometryRead::Malformed => return Begun::Refused {
-            number: refusal::MALFORMED_SLIP,
-            place: 0,
-        },
-        GeometryRead::Outside => return Begun::Refused {
-            number: refusal::BAD_GEOMETRY,
-            place: 0,
-        },
+        Attached::Refused { number, place } => return Begun::Refused { number, place },
     }
 }

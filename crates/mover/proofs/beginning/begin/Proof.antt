@@ -1,60 +1,51 @@
--- `mover::beginning::begin` meets its contract. Assumes nothing.
+-- `mover::beginning::begin` keeps its promise. Assumes nothing.
 use mathlib.Core.Path.{sym, ap, _∙_}
+use native.Mathlib.Omega.{arith}
+use Rattle.report.specs.Attach.{request, lent, longEnough, attachingInto, attachedAnswer}
+use Rattle.plan.specs.Begin.{beginning}
+use Rattle.mover.proofs.Attached.{begins, begun, refused-too}
 use borrow.Author.Needs.{needs}
-use Rattle.geometry.specs.Geometry.{geometryRead}
-use Rattle.mover.proofs.Attached.{slip-refused}
 use Rattle.mover.proofs.beginning.begin.Statement.{statement}
 use Rattle.mover.proofs.beginning.begin.Tie as tie
-use Rattle.mover.proofs.beginning.begin.Reads as reads
-use Rattle.mover.proofs.beginning.begin.Lts as lts
-use Rattle.geometry.proofs.read_slip.Reads as read-slip-reads
-use Rattle.mover.proofs.beginning.begin_image.Reads as begin-image-reads
 
-read-slip-requires : tie.Need-read-slip-requires
-read-slip-requires c κs = search needs
-
-enum-known-r : tie.Need-enum-known-r
-enum-known-r c = search needs
-
-begin-image-requires : tie.Need-begin-image-requires
-begin-image-requires c κs = sym (c .before .before .before .before .before .before .read-slip .ensures) ∙ ap geometryRead (c .before .before .before .before .r .given .1)
-
-same-length : tie.Need-same-length
-same-length c = search needs
-
-same-length-2 : tie.Need-same-length-2
-same-length-2 c = search needs
-
-same-length-3 : tie.Need-same-length-3
-same-length-3 c = search needs
+plan-move-requires : tie.Need-plan-move-requires
+plan-move-requires c κs =
+    let a = c .before .before .before .before .before .before .before .before .before .before .before .before .before .before .before .before .before .before .before .before .args in
+    let e = c .before .before .before .before .before .before .before .before .before .before .before .attach .ensures in
+    let r = c .before .before .before .r .given in
+    begins (request (a .slip .now)) (a .image .now) (longEnough (lent (a .pebs .now) (a .map .now) (a .states .now))) (r .0 .0) (sym (ap attachedAnswer (r .1)) ∙ e .0)
+    (λ k. omega (arith, c .before .before .before .before .before .before .before .before .before .before .before .before .before .before .before .before .before .before .shared-slice-known2 .given k)) (lent (a .pebs .now) (a .map .now) (a .states .now)) (e .1)
 
 returns : tie.Need-returns
-returns c = search needs
-
-enum-told : tie.Need-enum-told
-enum-told c = search needs
+returns c =
+    let a = c .before .before .before .before .before .before .before .before .before .before .before .before .before .before .before .before .before .before .before .before .before .args in
+    let e = c .before .before .before .before .before .before .before .before .before .before .before .before .attach .ensures in
+    let r = c .before .before .before .before .r .given in
+    let b = begun (request (a .slip .now)) (a .image .now) (longEnough (lent (a .pebs .now) (a .map .now) (a .states .now))) (r .0 .0) (sym (ap attachedAnswer (r .1)) ∙ e .0) in
+    (b (a .volume) (a .lnum) (a .target) (c .plan-move .ensures), e .1)
 
 returns-2 : tie.Need-returns-2
-returns-2 c = let a = c .before .before .before .before .before .before .before .before .args in slip-refused (a .slip .now) (a .image .now) (a .pebs .now) (a .map .now) (a .states .now) 1 (a .volume) (a .leb) (a .target) (sym (c .before .before .read-slip .ensures) ∙ ap geometryRead (c .enum-told .given .1))
-
-enum-told-2 : tie.Need-enum-told-2
-enum-told-2 c = search needs
-
-returns-3 : tie.Need-returns-3
-returns-3 c = let a = c .before .before .before .before .before .before .before .before .args in slip-refused (a .slip .now) (a .image .now) (a .pebs .now) (a .map .now) (a .states .now) 2 (a .volume) (a .leb) (a .target) (sym (c .before .before .read-slip .ensures) ∙ ap geometryRead (c .enum-told2 .given .1))
+unfolding beginning
+returns-2 c =
+    let a = c .before .before .before .before .before .before .before .before .before .before .before .before .before .before .before .before .before .before .args in
+    let e = c .before .before .before .before .before .before .before .before .before .attach .ensures in
+    let r = c .before .r2 .given in
+    let o = attachingInto (request (a .slip .now)) (a .image .now) (lent (a .pebs .now) (a .map .now) (a .states .now)) in
+    (refused-too o (r .0 .0) (r .0 .1 .0) (a .volume) (a .lnum) (a .target) (sym (ap attachedAnswer (r .1)) ∙ e .0), e .1)
 
 pub begin-spec : {M : Type 1} → statement M
 begin-spec =
     tie.close
     (tie.spec
-    read-slip-requires
-    enum-known-r
-    begin-image-requires
-    same-length
-    same-length-2
-    same-length-3
+    (λ c κs. search needs)
+    (λ c. search needs)
+    plan-move-requires
+    (λ c. search needs)
+    (λ c. search needs)
+    (λ c. search needs)
     returns
-    enum-told
-    returns-2
-    enum-told-2
-    returns-3)
+    (λ c. search needs)
+    (λ c. search needs)
+    (λ c. search needs)
+    (λ c. search needs)
+    returns-2)
