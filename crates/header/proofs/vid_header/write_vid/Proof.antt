@@ -1,10 +1,10 @@
 -- `header::vid_header::write_vid` meets its contract. Assumes nothing.
-use mathlib.Core.Path.{sym, _∙_}
 use Prim.Native.Nat.{_≤_}
 use native.Mathlib.Omega.{arith}
 use borrow.Author.Needs.{needs}
 use lib.ListN.{length}
-use borrow.Author.Tests.{lt-ltb, le-ltb, not-true, not-false}
+use borrow.Author.Tests.{lt-ltb, le-ltb, not-true}
+use Rattle.base.proofs.Answers.{was-true}
 use Rattle.header.specs.Vid.{vidWritten, vidOut}
 use Rattle.header.proofs.Writes.{vid-wrote}
 use Rattle.header.proofs.vid_header.write_vid.Statement.{statement}
@@ -24,13 +24,13 @@ returns-2 c =
 returns-3 : tie.Need-returns-3
 unfolding vidWritten
 returns-3 c =
-    let at-set-data = c .before .before .before .before .before .before in
+    let at-stage = c .before .before .before .before .before .before in let at-set-data = at-stage in
     let at-set-volume = at-set-data .before .before .before .before in
     let at-set-kind = at-set-volume .before .before .before .before in
     let at-begin = at-set-kind .before .before .before .before in let at-if2 = at-begin .before .before .before in
     let at-vid-readable = at-if2 .before in let a = at-vid-readable .before .before .before .args in
     let s : 64 ≤ length (a .out .now) = omega arith in
-    let g = sym (at-vid-readable .vid-readable .ensures) ∙ not-false (at-vid-readable .vid-readable .result) (at-if2 .if2 .left) in
+    let g = was-true (at-vid-readable .vid-readable .ensures) (at-if2 .if2 .left) in
     (rw (le-ltb _ _ s, g), vid-wrote (a .out .now) s (a .leb-size) (a .h) g (at-begin .begin .ensures) (at-set-kind .set-kind .ensures) (at-set-volume .set-volume .ensures) (at-set-data .set-data .ensures) (c .before .before .finish .ensures))
 
 pub write-vid-spec : {M : Type 1} → statement M

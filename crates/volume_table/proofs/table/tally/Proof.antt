@@ -1,4 +1,5 @@
--- `volume_table::table::tally` meets its contract: the sums are those of the first i records, all of them empty or good. Assumes nothing.
+-- `volume_table::table::tally` meets its contract: the sums are those of the first i records, all of them empty or
+-- good. Assumes nothing.
 use mathlib.Core.Path.{_≡_, refl}
 use mathlib.Core.Bool.{true}
 use Prim.Native.Nat.{_*_, _^_, _≤_, _-_}
