@@ -31,8 +31,7 @@ returns-4 c =
 returns-5 : tie.Need-returns-5
 unfolding staticRule
 returns-5 c =
-    let at-stage = c .before .before .before .before .before .before .before in
-    let at-if2 = at-stage in let at-if1 = at-if2 .before .before in
+    let at-if2 = c .before .before .before .before .before .before .before in let at-if1 = at-if2 .before .before in
     let start = at-if1 .before .before in let z : 0 < start .args .h .«data_size» = omega arith in
     rw (eq-eqb _ _ (at-if1 .if1 .left), lt-ltb _ _ (at-if2 .if2 .left), lt-ltb _ _ z, ne-eqb _ _ (c .before .before .if4 .left))
 

@@ -30,7 +30,7 @@ returns-3 c =
 returns-4 : tie.Need-returns-4
 unfolding volumeRule
 returns-4 c =
-    let at-stage = c .before .before .before .before .before in let at-if1 = at-stage in
+    let at-if1 = c .before .before .before .before .before in
     c .is-internal .ensures
     ∙ rw (le-ltb _ _ (at-if1 .if1 .left), le-leb _ _ (c .before .before .before .if2 .left), le-leb _ _ (c .before .if3 .left))
 
