@@ -25,7 +25,7 @@ tap-xor (suc zero) (suc zero) h k = refl
 tap-xor (suc zero) (suc (suc b)) h k = absurd (omega arith)
 tap-xor (suc (suc a)) b h k = absurd (omega arith)
 
-pub crcBit-xor : (a b : ℕ) → crcBit (bitXor a b) ≡ bitXor (crcBit a) (crcBit b)
+crcBit-xor : (a b : ℕ) → crcBit (bitXor a b) ≡ bitXor (crcBit a) (crcBit b)
 unfolding crcBit
 crcBit-xor a b =
     ap₂ bitXor (xor-half a b) (ap tap (xor-odd a b) ∙ tap-xor (a % 2) (b % 2) (omega arith) (omega arith))
@@ -88,7 +88,7 @@ unfolding crcBits crcBit
 crcBits-lt zero c h = h
 crcBits-lt (suc n) c h = crcBits-lt n (crcBit c) (xor-lt 32 (c / 2) (tap (c % 2)) (omega arith) (tap-lt (c % 2)))
 
-pub crcFrom-lt : (c : ℕ) (l : List ℕ) → c < 2 ^ 32 → Bytes l → crcFrom c l < 2 ^ 32
+crcFrom-lt : (c : ℕ) (l : List ℕ) → c < 2 ^ 32 → Bytes l → crcFrom c l < 2 ^ 32
 unfolding crcFrom crcByte
 crcFrom-lt c [] h b = h
 crcFrom-lt c (x ∷ l) h b =

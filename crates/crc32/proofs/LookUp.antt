@@ -38,7 +38,7 @@ pub table-is : (l : List ℕ) → T (eqs l crcRows) → l ≡ crcRows
 table-is l t = same l crcRows t
 
 -- the lowest n bits by themselves, the others by fewer shifts
-pub low-bits : (n m z : ℕ) → crcBits (n + m) z ≡ bitXor (crcBits (n + m) (z % 2 ^ n)) (crcBits m (z / 2 ^ n))
+low-bits : (n m z : ℕ) → crcBits (n + m) z ≡ bitXor (crcBits (n + m) (z % 2 ^ n)) (crcBits m (z / 2 ^ n))
 low-bits n m z =
     rw (crcBits-add n m z, crcBits-split n z, crcBits-xor m (z / 2 ^ n) (crcBits n (z % 2 ^ n)), crcBits-add n m (z % 2 ^ n))
     (xor-comm (crcBits m (z / 2 ^ n)) (crcBits m (crcBits n (z % 2 ^ n))))

@@ -74,7 +74,7 @@ abbrev pub lowest : ℕ → List ℕ → List ℕ → ℕ
 lowest j [] b = 0
 lowest j (e ∷ es) b = bitXor (getD b (j + e) 0 % 2 ^ 32) (lowest j es b)
 
-pub pending-low : (j : ℕ) (es b : List ℕ) → pending es (drop j b) % 2 ^ 32 ≡ lowest j es b
+pending-low : (j : ℕ) (es b : List ℕ) → pending es (drop j b) % 2 ^ 32 ≡ lowest j es b
 unfolding pending
 pending-low j [] b = refl
 pending-low j (e ∷ es) b =
@@ -127,7 +127,7 @@ module _ (h : List ℕ) (w : ℕ) where
       ∙ ap (λ (u : ℕ). bitXor u (bitXor x (folded (length h) es w)))
       (sym (xor-shr (wordsOf (drop e h)) (pending es h) 32))
 
-pub pending-none : (es : List ℕ) (n : ℕ) → pending es (replicate n 0) ≡ 0
+pending-none : (es : List ℕ) (n : ℕ) → pending es (replicate n 0) ≡ 0
 unfolding pending
 pending-none [] n = refl
 pending-none (e ∷ es) n = rw (words-none n e, pending-none es n)
@@ -137,7 +137,7 @@ pub pending-end : (z : List ℕ) → drop 137 z ≡ zeros 85 → pending exponen
 unfolding zeros
 pending-end z e = rw (← drop-drop 1 137 z, e) (pending-none exponents 84)
 
-pub pending-zeros : (es h : List ℕ) (n : ℕ) → Below (length h) es → pending es (h ++ replicate n 0) ≡ pending es h
+pending-zeros : (es h : List ℕ) (n : ℕ) → Below (length h) es → pending es (h ++ replicate n 0) ≡ pending es h
 unfolding pending
 pending-zeros [] h n l = refl
 pending-zeros (e ∷ es) h n l =

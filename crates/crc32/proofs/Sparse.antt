@@ -1,4 +1,5 @@
--- A sparse multiple of the polynomial: a few numbers of shifts whose sum takes every state to 0; and the same with every number times a power
+-- A sparse multiple of the polynomial: a few numbers of shifts whose sum takes every state to 0; and the same with
+-- every number times a power
 -- of two. Assumes nothing.
 use mathlib.Core.Path.{_≡_, refl, sym, ap, ap₂, _∙_}
 use Prim.Native.Nat.{ℕ, zero, suc, _+_, _*_, _-_, _/_, _%_, _^_, _≤_, _<_}

@@ -19,7 +19,7 @@ use Rattle.field.specs.declared.Field.{Field}
 use Rattle.field.specs.Be.{beFrom, beOf, toBeOn, toBe}
 use Rattle.field.specs.Fields.{field, row}
 
-pub beFrom-snoc : (acc : ℕ) (l : List ℕ) (b : ℕ) → beFrom acc (l ++ (b ∷ [])) ≡ beFrom acc l * 256 + b
+beFrom-snoc : (acc : ℕ) (l : List ℕ) (b : ℕ) → beFrom acc (l ++ (b ∷ [])) ≡ beFrom acc l * 256 + b
 unfolding beFrom
 beFrom-snoc acc [] b = refl
 beFrom-snoc acc (x ∷ l) b = beFrom-snoc (acc * 256 + x) l b
@@ -54,13 +54,13 @@ store-step at (suc j) v s h k =
     let lt : at + j < suc (at + j) = omega arith in
     rw (sub-one, take-set-le, drop-cons (set s (at + j) (v % 256)) (at + j) 0, getD-set-same, drop-set-lt, add-suc)
 
-pub toBeOn-append : (n v : ℕ) (a : List ℕ) → toBeOn n v a ≡ toBeOn n v [] ++ a
+toBeOn-append : (n v : ℕ) (a : List ℕ) → toBeOn n v a ≡ toBeOn n v [] ++ a
 unfolding toBeOn
 toBeOn-append zero v a = refl
 toBeOn-append (suc n) v a =
     rw (toBeOn-append n (v / 256) (v % 256 ∷ a), toBeOn-append n (v / 256) (v % 256 ∷ []), append-assoc)
 
-pub length-toBeOn : (n v : ℕ) (a : List ℕ) → length (toBeOn n v a) ≡ n + length a
+length-toBeOn : (n v : ℕ) (a : List ℕ) → length (toBeOn n v a) ≡ n + length a
 unfolding toBeOn
 length-toBeOn zero v a = sym (zero-add (length a))
 length-toBeOn (suc n) v a = omega (arith, length-toBeOn n (v / 256) (v % 256 ∷ a))
@@ -78,7 +78,7 @@ store-none at v s = rw (add-zero, take-append-drop)
 
 -- ---- round trips
 
-pub beFrom-toBeOn : (n v acc : ℕ) (t : List ℕ) → beFrom acc (toBeOn n v t) ≡ beFrom (acc * 256 ^ n + v % 256 ^ n) t
+beFrom-toBeOn : (n v acc : ℕ) (t : List ℕ) → beFrom acc (toBeOn n v t) ≡ beFrom (acc * 256 ^ n + v % 256 ^ n) t
 unfolding toBeOn beFrom
 beFrom-toBeOn zero v acc t = ap (λ (k : ℕ). beFrom k t) (omega (arith, mod-one v))
 beFrom-toBeOn (suc n) v acc t =

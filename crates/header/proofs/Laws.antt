@@ -9,7 +9,7 @@ use lib.ListN.{take, drop}
 use borrow.Author.Tests.{ne-eqb, leb-true}
 use Rattle.base.specs.Answers.{allOf}
 use Rattle.base.specs.Lists.{part, eqs}
-use Rattle.base.proofs.Answers.{each-holds}
+use Rattle.base.proofs.Answers.{either-way, each-holds}
 use Rattle.base.proofs.Lists.{table-from}
 use Rattle.field.specs.declared.Field.{Field}
 use Rattle.field.specs.Fields.{row, numberIn}
@@ -59,11 +59,7 @@ module _ {A : Type 0} (rest : Verdict A) where
   version-one v e = rw e
 
   pub not-version-one : (v : ℕ) → (v ≡ 1 → ⊥) → isGood (byVersion v rest) ≡ false
-  not-version-one v n = go (eqb v 0)
-    where
-      go : (b : Bool) → isGood (cond (eqb v 1) rest (cond b bad newer)) ≡ false
-      go true = rw (ne-eqb _ _ n)
-      go false = rw (ne-eqb _ _ n)
+  not-version-one v n = rw (ne-eqb _ _ n) (either-way (λ b. isGood {A = A} (cond b bad newer) ≡ false) (eqb v 0) refl refl)
 
 module _ {A : Type 0} (h : A) where
   -- good exactly if the test holds

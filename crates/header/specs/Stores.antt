@@ -30,7 +30,8 @@ ecStored h s =
 unfoldable pub kindStored : VidHeader → List ℕ → List ℕ
 kindStored h s =
     storedAll
-    ((vidVersion, h .version) ∷ (vidType, h .«vol_type») ∷ (vidCopyFlag, h .«copy_flag») ∷ (vidCompat, h .compat) ∷ []) s
+    ((vidVersion, h .version) ∷ (vidType, h .«vol_type») ∷ (vidCopyFlag, h .«copy_flag»)
+    ∷ (vidCompat, h .compat) ∷ []) s
 
 unfoldable pub volumeStored : VidHeader → List ℕ → List ℕ
 volumeStored h s = storedAll ((vidVolume, h .volume) ∷ (vidLnum, h .lnum) ∷ (vidSequence, h .sequence) ∷ []) s

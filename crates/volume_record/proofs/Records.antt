@@ -95,7 +95,7 @@ module _ (size unit : ℕ) (r : List ℕ) where
   rules-decide p q e v g = g ∙ rw (← p, ← q, eq-eqb _ _ e, v)
 
 -- the record at the start of a longer slice
-pub record-start : (s : List ℕ) → recordOf (take 172 s) ≡ recordOf s
+record-start : (s : List ℕ) → recordOf (take 172 s) ≡ recordOf s
 unfolding recordOf
 record-start s =
     rw (

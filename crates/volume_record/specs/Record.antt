@@ -7,9 +7,9 @@ use lib.Dec.{eqb, ltb, leb}
 use lib.ListN.{length, take, drop, getD, replicate}
 use Rattle.base.specs.Answers.{Answer, given, refused, allOf}
 use Rattle.base.specs.Below.{allBelow}
-use Rattle.base.specs.Lists.{eqs}
+use Rattle.base.specs.Lists.{put, eqs}
 use Rattle.field.specs.Be.{toBe}
-use Rattle.field.specs.Fields.{bytesIn, numberIn}
+use Rattle.field.specs.Fields.{bytesIn, numberIn, stored, storedAll}
 use Rattle.crc32.specs.Crc.{crcOf}
 use Rattle.volume_record.specs.Fields.{recordReserved, recordAlignment, recordDataPad, recordType, recordMarker}
 use Rattle.volume_record.specs.Fields.{recordNameLength, recordName, recordFlags, recordCrc}
@@ -103,3 +103,21 @@ recordBytes v = recordHead v ++ toBe 4 (crcOf (recordHead v))
 -- the lent bytes afterwards: refusal 4 changes nothing, and bytes beyond 172 never change
 unfoldable pub recordOut : VolumeRecord → List ℕ → List ℕ
 recordOut v out = cond (leb 172 (length out)) (recordBytes v ++ drop 172 out) out
+
+-- ---- what private contracts cite, and no public promise: the stores of a record's fields
+
+unfoldable pub sizesStored : VolumeRecord → List ℕ → List ℕ
+sizesStored v s =
+    storedAll ((recordReserved, v .reserved) ∷ (recordAlignment, v .alignment) ∷ (recordDataPad, v .«data_pad») ∷ []) s
+
+unfoldable pub kindStored : VolumeRecord → List ℕ → List ℕ
+kindStored v s =
+    storedAll
+    ((recordType, v .«vol_type») ∷ (recordMarker, v .«update_marker») ∷ (recordNameLength, v .«name_length»)
+    ∷ (recordFlags, v .flags) ∷ []) s
+
+unfoldable pub nameStored : List ℕ → List ℕ → List ℕ
+nameStored name s = put (recordName .at) name s
+
+unfoldable pub crcStored : List ℕ → List ℕ
+crcStored s = stored recordCrc (crcOf (take 168 s)) s

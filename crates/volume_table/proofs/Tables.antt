@@ -2,7 +2,7 @@
 use mathlib.Core.Path.{_≡_, refl, sym, ap, _∙_}
 use mathlib.Core.Bool.{Bool, true, false, not, _&&_, and-true, and-false, and-self, cond}
 use Rattle.base.specs.Answers.{Answer, given, refused}
-use mathlib.Core.List.{List, []}
+use mathlib.Core.List.{List}
 use Prim.Native.Nat.{ℕ, zero, suc, _+_, _-_, _*_, _≤_, _<_}
 use native.Mathlib.Nat.{add-sub-cancel-left, min-le-left, sub-zero}
 use native.Mathlib.Numerals.{add-one}
@@ -14,7 +14,7 @@ use lib.ListN.{length, take, drop, getD, length-take}
 use lib.Seq.{take-all}
 use Rattle.base.specs.Below.{anyBelow}
 use Rattle.base.specs.Lists.{part, eqs}
-use Rattle.base.proofs.Answers.{clash, one-broken}
+use Rattle.base.proofs.Answers.{clash, by-test, one-broken}
 use Rattle.base.proofs.Below.{none-intro, all-fails, all-more, not-above, above-zero}
 use Rattle.base.proofs.Lists.{eqs-true}
 use Rattle.field.specs.Fields.{bytesIn, numberIn}
@@ -231,9 +231,7 @@ module _ (size unit pebs : ℕ) (copy0 copy1 : List ℕ) where
   pub taken-records : {k : Answer ℕ} → k ≡ takenLeb size unit pebs copy0 copy1
       → recordsTaken size k copy0 copy1 ≡ takenRecords size unit pebs copy0 copy1
   unfolding takenLeb takenRecords
-  taken-records e = rw e (go (tableGood size unit pebs copy0) (tableGood size unit pebs copy1))
-    where
-      go : (a b : Bool) → recordsTaken size (cond a (given 0) (cond b (given 1) (refused 11 0))) copy0 copy1 ≡ cond a (recordsPart size copy0) (cond b (recordsPart size copy1) [])
-      go true b = refl
-      go false true = refl
-      go false false = refl
+  taken-records e =
+      rw e
+      (by-test (tableGood size unit pebs copy0) (λ p. rw p)
+      (λ p. by-test (tableGood size unit pebs copy1) (λ q. rw (p, q)) (λ q. rw (p, q))))

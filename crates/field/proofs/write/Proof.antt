@@ -1,4 +1,5 @@
--- `field::write` meets its contract: what is left to store, at the slice as it is, is what was to be stored at first. Assumes nothing.
+-- `field::write` meets its contract: what is left to store, at the slice as it is, is what was to be stored at first.
+-- Assumes nothing.
 use mathlib.Core.Path.{_≡_, refl, _∙_, sym}
 use Prim.Native.Nat.{_≤_}
 use native.Mathlib.Omega.{arith}

@@ -1,4 +1,5 @@
--- `crc32::fold::fold_block` meets its contract: what is pending now, with the rest of the bytes, gives the whole. Assumes nothing.
+-- `crc32::fold::fold_block` meets its contract: what is pending now, with the rest of the bytes, gives the whole.
+-- Assumes nothing.
 use mathlib.Core.Path.{_≡_, refl, _∙_}
 use Prim.Native.Nat.{_*_, _%_, _-_, _≤_}
 use native.Mathlib.Omega.{arith}

@@ -1,4 +1,5 @@
--- `crc32::fold::reduce` meets its contract: what is pending now, with the rest of the bytes, gives the whole. Assumes nothing.
+-- `crc32::fold::reduce` meets its contract: what is pending now, with the rest of the bytes, gives the whole. Assumes
+-- nothing.
 use Rattle.crc32.proofs.Folding.{reduce-turn}
 use Rattle.crc32.proofs.Pending.{pending-end}
 use Rattle.base.specs.Lists.{Bytes}

@@ -1,4 +1,5 @@
--- `crc32::words::by_bytes` meets its contract: the rest of the bytes, from the state now, gives the whole. Assumes nothing.
+-- `crc32::words::by_bytes` meets its contract: the rest of the bytes, from the state now, gives the whole. Assumes
+-- nothing.
 use Rattle.crc32.proofs.LookUp.{two-halves}
 use mathlib.Core.Path.{_∙_, _≡_}
 use Prim.Native.Nat.{_≤_, _-_}

@@ -1,4 +1,5 @@
--- `crc32::words::four` meets its contract: what is looked up, with the rest after fewer shifts, gives the whole. Assumes nothing.
+-- `crc32::words::four` meets its contract: what is looked up, with the rest after fewer shifts, gives the whole.
+-- Assumes nothing.
 use Rattle.crc32.proofs.Sparse.{crcBits-zero}
 use lib.Pow.{shr-lt}
 use lib.Bits.{xor-zero-l, xor-zero-r, bitXor}

@@ -1,10 +1,12 @@
--- `geometry::rules::check_geometry` meets its contract: one broken rule refuses, else the geometry is the one of the rules. Assumes nothing.
-use mathlib.Core.Path.{_≡_, sym, _∙_}
+-- `geometry::rules::check_geometry` meets its contract: one broken rule refuses, else the geometry is the one of the
+-- rules. Assumes nothing.
+use mathlib.Core.Path.{_≡_}
 use Prim.Native.Nat.{_<_}
 use native.Mathlib.Omega.{arith}
 use borrow.Author.Needs.{needs}
 use mathlib.Core.Bool.{true}
-use borrow.Author.Tests.{not-true, not-false, lt-leb, ne-eqb}
+use borrow.Author.Tests.{lt-leb, ne-eqb}
+use Rattle.base.proofs.Answers.{was-false, was-true}
 use Rattle.geometry.specs.Geometry.{goodUnit, geometryRules}
 use Rattle.geometry.proofs.Laws.{unit-range, outside, inside, too-short}
 use Rattle.geometry.proofs.rules.check_geometry.Statement.{statement}
@@ -14,10 +16,10 @@ use Rattle.geometry.proofs.rules.check_geometry.Tie as tie
 unit-good : (c : tie.Else2) → goodUnit (c .before .before .before .before .args .unit) ≡ true
 unit-good c =
     let at-is-unit = c .before .before .before in
-    sym (at-is-unit .is-unit .ensures) ∙ not-false (at-is-unit .is-unit .result) (c .before .before .if1 .left)
+    was-true (at-is-unit .is-unit .ensures) (c .before .before .if1 .left)
 
 sub-unit-good : (c : tie.Else2) → goodUnit (c .before .before .before .before .args .sub-unit) ≡ true
-sub-unit-good c = sym (c .before .is-unit2 .ensures) ∙ not-false (c .before .is-unit2 .result) (c .if2 .left)
+sub-unit-good c = was-true (c .before .is-unit2 .ensures) (c .if2 .left)
 
 unit-small : (c : tie.Else2) → (0 < c .before .before .before .before .args .unit) × (c .before .before .before .before .args .unit < 8192)
 unit-small c =
@@ -34,14 +36,14 @@ returns : tie.Need-returns
 unfolding geometryRules
 returns c =
     outside (c .before .before .args .peb-size) (c .before .before .args .unit) (c .before .before .args .sub-unit) 0
-    (sym (c .before .is-unit .ensures) ∙ not-true (c .before .is-unit .result) (c .if1 .taken))
+    (was-false (c .before .is-unit .ensures) (c .if1 .taken))
 
 returns-2 : tie.Need-returns-2
 unfolding geometryRules
 returns-2 c =
     let start = c .before .before .before .before in
     outside (start .args .peb-size) (start .args .unit) (start .args .sub-unit) 1
-    (sym (c .before .is-unit2 .ensures) ∙ not-true (c .before .is-unit2 .result) (c .if2 .taken))
+    (was-false (c .before .is-unit2 .ensures) (c .if2 .taken))
 
 returns-3 : tie.Need-returns-3
 unfolding geometryRules

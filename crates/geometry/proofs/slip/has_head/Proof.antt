@@ -1,4 +1,5 @@
--- `geometry::slip::has_head` meets its contract: one field that is not the next one of a head is enough. Assumes nothing.
+-- `geometry::slip::has_head` meets its contract: one field that is not the next one of a head is enough. Assumes
+-- nothing.
 use borrow.Author.Needs.{needs}
 use borrow.Author.Tests.{lt-leb}
 use Rattle.base.proofs.Answers.{was-false, was-true}

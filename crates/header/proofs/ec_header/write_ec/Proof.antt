@@ -1,10 +1,10 @@
 -- `header::ec_header::write_ec` meets its contract. Assumes nothing.
-use mathlib.Core.Path.{sym, _∙_}
 use Prim.Native.Nat.{_≤_}
 use native.Mathlib.Omega.{arith}
 use borrow.Author.Needs.{needs}
 use lib.ListN.{length}
-use borrow.Author.Tests.{lt-ltb, le-ltb, not-true, not-false}
+use borrow.Author.Tests.{lt-ltb, le-ltb}
+use Rattle.base.proofs.Answers.{was-false, was-true}
 use Rattle.header.specs.Ec.{ecWritten, ecOut}
 use Rattle.header.proofs.Writes.{ec-wrote}
 use Rattle.header.proofs.ec_header.write_ec.Statement.{statement}
@@ -18,8 +18,8 @@ returns-2 : tie.Need-returns-2
 unfolding ecWritten ecOut
 returns-2 c =
     let start = c .before .before .before .before in let s : 64 ≤ length (start .args .out .now) = omega arith in
-    let g = not-true (c .before .ec-readable .result) (c .if2 .taken) in
-    (rw (le-ltb _ _ s, ← (c .before .ec-readable .ensures), g), rw (le-ltb _ _ s, ← (c .before .ec-readable .ensures), g))
+    let g = was-false (c .before .ec-readable .ensures) (c .if2 .taken) in
+    (rw (le-ltb _ _ s, g), rw (le-ltb _ _ s, g))
 
 returns-3 : tie.Need-returns-3
 unfolding ecWritten
@@ -28,8 +28,9 @@ returns-3 c =
     let at-begin = at-set-ec-fields .before .before .before .before in let at-if2 = at-begin .before .before .before in
     let at-ec-readable = at-if2 .before in let a = at-ec-readable .before .before .before .args in
     let s : 64 ≤ length (a .out .now) = omega arith in
-    let g = sym (at-ec-readable .ec-readable .ensures) ∙ not-false (at-ec-readable .ec-readable .result) (at-if2 .if2 .left) in
-    (rw (le-ltb _ _ s, g), ec-wrote (a .out .now) s (a .h) g (at-begin .begin .ensures) (at-set-ec-fields .set-ec-fields .ensures) (c .before .before .finish .ensures))
+    let g = was-true (at-ec-readable .ec-readable .ensures) (at-if2 .if2 .left) in
+    let w = ec-wrote (a .out .now) s (a .h) g (at-begin .begin .ensures) (at-set-ec-fields .set-ec-fields .ensures) in
+    (rw (le-ltb _ _ s, g), w (c .before .before .finish .ensures))
 
 pub write-ec-spec : {M : Type 1} → statement M
 write-ec-spec =

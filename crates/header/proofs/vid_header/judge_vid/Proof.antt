@@ -1,6 +1,6 @@
 -- `header::vid_header::judge_vid` meets its contract. Assumes nothing.
 use borrow.Author.Needs.{needs}
-use borrow.Author.Tests.{not-true, not-false}
+use Rattle.base.proofs.Answers.{was-false, was-true}
 use Rattle.header.specs.Vid.{judgeVid}
 use Rattle.header.proofs.Laws.{version-zero, version-newer, version-one}
 use Rattle.header.proofs.vid_header.judge_vid.Statement.{statement}
@@ -20,13 +20,13 @@ returns-3 : tie.Need-returns-3
 unfolding judgeVid
 returns-3 c =
     let start = c .before .before .before .before .before .before in
-    rw (version-one _ (start .args .h .version) (c .before .before .if2 .left), ← (c .before .rules-hold .ensures), not-true (c .before .rules-hold .result) (c .if3 .taken))
+    rw (version-one _ (start .args .h .version) (c .before .before .if2 .left), was-false (c .before .rules-hold .ensures) (c .if3 .taken))
 
 returns-4 : tie.Need-returns-4
 unfolding judgeVid
 returns-4 c =
     let start = c .before .before .before .before .before .before in
-    rw (version-one _ (start .args .h .version) (c .before .before .if2 .left), ← (c .before .rules-hold .ensures), not-false (c .before .rules-hold .result) (c .if3 .left))
+    rw (version-one _ (start .args .h .version) (c .before .before .if2 .left), was-true (c .before .rules-hold .ensures) (c .if3 .left))
 
 pub judge-vid-spec : {M : Type 1} → statement M
 judge-vid-spec = tie.close (tie.spec returns returns-2 (λ c κs. search needs) returns-3 returns-4)

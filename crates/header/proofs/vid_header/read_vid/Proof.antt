@@ -1,7 +1,8 @@
 -- `header::vid_header::read_vid` meets its contract. Assumes nothing.
 use mathlib.Core.Path.{_∙_}
 use borrow.Author.Needs.{needs}
-use borrow.Author.Tests.{lt-ltb, le-ltb, not-true, not-false}
+use borrow.Author.Tests.{lt-ltb, le-ltb}
+use Rattle.base.proofs.Answers.{was-false, was-true}
 use Rattle.header.specs.Vid.{readVid, vidRead}
 use Rattle.header.proofs.vid_header.read_vid.Statement.{statement}
 use Rattle.header.proofs.vid_header.read_vid.Tie as tie
@@ -13,14 +14,14 @@ returns c = rw (lt-ltb _ _ (c .if1 .taken))
 returns-2 : tie.Need-returns-2
 unfolding vidRead readVid
 returns-2 c =
-    rw (le-ltb _ _ (c .before .before .before .if1 .left), ← (c .before .is-header .ensures), not-true (c .before .is-header .result) (c .if2 .taken))
+    rw (le-ltb _ _ (c .before .before .before .if1 .left), was-false (c .before .is-header .ensures) (c .if2 .taken))
 
 returns-3 : tie.Need-returns-3
 unfolding vidRead readVid
 returns-3 c =
     let at-is-header = c .before .before .before in let at-if1 = at-is-header .before .before in
     c .judge-vid .ensures
-    ∙ rw (le-ltb _ _ (at-if1 .if1 .left), ← (at-is-header .is-header .ensures), not-false (at-is-header .is-header .result) (c .before .before .if2 .left), c .before .vid-fields .ensures)
+    ∙ rw (le-ltb _ _ (at-if1 .if1 .left), was-true (at-is-header .is-header .ensures) (c .before .before .if2 .left), c .before .vid-fields .ensures)
 
 pub read-vid-spec : {M : Type 1} → statement M
 read-vid-spec =

@@ -1,10 +1,10 @@
 -- `header::vid_header::write_vid` meets its contract. Assumes nothing.
-use mathlib.Core.Path.{sym, _∙_}
 use Prim.Native.Nat.{_≤_}
 use native.Mathlib.Omega.{arith}
 use borrow.Author.Needs.{needs}
 use lib.ListN.{length}
-use borrow.Author.Tests.{lt-ltb, le-ltb, not-true, not-false}
+use borrow.Author.Tests.{lt-ltb, le-ltb}
+use Rattle.base.proofs.Answers.{was-false, was-true}
 use Rattle.header.specs.Vid.{vidWritten, vidOut}
 use Rattle.header.proofs.Writes.{vid-wrote}
 use Rattle.header.proofs.vid_header.write_vid.Statement.{statement}
@@ -18,8 +18,8 @@ returns-2 : tie.Need-returns-2
 unfolding vidWritten vidOut
 returns-2 c =
     let start = c .before .before .before .before in let s : 64 ≤ length (start .args .out .now) = omega arith in
-    let g = not-true (c .before .vid-readable .result) (c .if2 .taken) in
-    (rw (le-ltb _ _ s, ← (c .before .vid-readable .ensures), g), rw (le-ltb _ _ s, ← (c .before .vid-readable .ensures), g))
+    let g = was-false (c .before .vid-readable .ensures) (c .if2 .taken) in
+    (rw (le-ltb _ _ s, g), rw (le-ltb _ _ s, g))
 
 returns-3 : tie.Need-returns-3
 unfolding vidWritten
@@ -30,8 +30,9 @@ returns-3 c =
     let at-begin = at-set-kind .before .before .before .before in let at-if2 = at-begin .before .before .before in
     let at-vid-readable = at-if2 .before in let a = at-vid-readable .before .before .before .args in
     let s : 64 ≤ length (a .out .now) = omega arith in
-    let g = sym (at-vid-readable .vid-readable .ensures) ∙ not-false (at-vid-readable .vid-readable .result) (at-if2 .if2 .left) in
-    (rw (le-ltb _ _ s, g), vid-wrote (a .out .now) s (a .leb-size) (a .h) g (at-begin .begin .ensures) (at-set-kind .set-kind .ensures) (at-set-volume .set-volume .ensures) (at-set-data .set-data .ensures) (c .before .before .finish .ensures))
+    let g = was-true (at-vid-readable .vid-readable .ensures) (at-if2 .if2 .left) in
+    let w = vid-wrote (a .out .now) s (a .leb-size) (a .h) g (at-begin .begin .ensures) (at-set-kind .set-kind .ensures) in
+    (rw (le-ltb _ _ s, g), w (at-set-volume .set-volume .ensures) (at-set-data .set-data .ensures) (c .before .before .finish .ensures))
 
 pub write-vid-spec : {M : Type 1} → statement M
 write-vid-spec =

@@ -1,9 +1,10 @@
--- `header::vid_rules::rules_hold` meets its contract: one broken rule is enough, and past all others the last decides. Assumes nothing.
+-- `header::vid_rules::rules_hold` meets its contract: one broken rule is enough, and past all others the last decides.
+-- Assumes nothing.
 use mathlib.Core.Path.{sym, _∙_}
 use borrow.Author.Needs.{needs}
-use borrow.Author.Tests.{lt-ltb, le-ltb, le-leb, lt-leb, not-true, not-false}
+use borrow.Author.Tests.{lt-ltb, le-ltb, le-leb, lt-leb, not-false}
 use mathlib.Core.Bool.{and-true}
-use Rattle.base.proofs.Answers.{one-broken}
+use Rattle.base.proofs.Answers.{one-broken, was-false}
 use Rattle.header.specs.Vid.{layoutRule, vidRules}
 use Rattle.header.proofs.vid_rules.rules_hold.Statement.{statement}
 use Rattle.header.proofs.vid_rules.rules_hold.Tie as tie
@@ -19,14 +20,14 @@ unfolding vidRules
 returns-2 c =
     let start = c .before .before .before .before in
     sym (one-broken (vidRules (start .args .leb-size) (start .args .h)) 1
-    (sym (c .before .is-type .ensures) ∙ not-true (c .before .is-type .result) (c .if2 .taken)))
+    (was-false (c .before .is-type .ensures) (c .if2 .taken)))
 
 returns-3 : tie.Need-returns-3
 unfolding vidRules
 returns-3 c =
     let start = c .before .before .before .before .before .before in
     sym (one-broken (vidRules (start .args .leb-size) (start .args .h)) 2
-    (sym (c .before .volume-rule .ensures) ∙ not-true (c .before .volume-rule .result) (c .if3 .taken)))
+    (was-false (c .before .volume-rule .ensures) (c .if3 .taken)))
 
 returns-4 : tie.Need-returns-4
 unfolding vidRules
@@ -57,14 +58,14 @@ unfolding vidRules
 returns-8 c =
     let start = c .before .before .before .before .before .before .before .before .before .before .before .before .before .before .before .before .before in
     sym (one-broken (vidRules (start .args .leb-size) (start .args .h)) 7
-    (sym (c .before .static-rule .ensures) ∙ not-true (c .before .static-rule .result) (c .if8 .taken)))
+    (was-false (c .before .static-rule .ensures) (c .if8 .taken)))
 
 returns-9 : tie.Need-returns-9
 unfolding vidRules
 returns-9 c =
     let start = c .before .before .before .before .before .before .before .before .before .before .before .before .before .before .before .before .before .before .before in
     sym (one-broken (vidRules (start .args .leb-size) (start .args .h)) 8
-    (sym (c .before .dynamic-rule .ensures) ∙ not-true (c .before .dynamic-rule .result) (c .if9 .taken)))
+    (was-false (c .before .dynamic-rule .ensures) (c .if9 .taken)))
 
 returns-10 : tie.Need-returns-10
 unfolding vidRules

@@ -1,4 +1,5 @@
--- `volume_record::fields::field_of` meets its contract: the constant is the table, and every field fits. Assumes nothing.
+-- `volume_record::fields::field_of` meets its contract: the constant is the table, and every field fits. Assumes
+-- nothing.
 use mathlib.Core.Path.{refl}
 use borrow.Author.Needs.{needs}
 use Rattle.volume_record.proofs.Records.{fits}

@@ -1,4 +1,5 @@
--- `volume_table::table::most_reserved` meets its contract; written out so that a wrong answer is refused at its return. Assumes nothing.
+-- `volume_table::table::most_reserved` meets its contract; written out so that a wrong answer is refused at its return.
+-- Assumes nothing.
 use borrow.Author.Needs.{needs}
 use Rattle.volume_table.proofs.table.most_reserved.Statement.{statement}
 use Rattle.volume_table.proofs.table.most_reserved.Tie as tie

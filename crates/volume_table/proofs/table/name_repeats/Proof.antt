@@ -1,4 +1,5 @@
--- `volume_table::table::name_repeats` meets its contract: none of the first i records has the name of record j. Assumes nothing.
+-- `volume_table::table::name_repeats` meets its contract: none of the first i records has the name of record j. Assumes
+-- nothing.
 use mathlib.Core.Path.{_≡_, sym, _∙_}
 use mathlib.Core.Bool.{false}
 use Prim.Native.Nat.{_*_, _≤_, _-_}

@@ -19,10 +19,11 @@ whole c =
 
 -- what is known once the sums are made
 summed : (c : tie.After-tally)
-    → Summed (c .before .before .before .before .before .before .before .before .args .leb-size) (c .before .before .before .before .before .before .before .before .args .unit) (c .before .before .before .before .before .before .before .before .args .content .now) (c .before .before .before .before .before .before .record-count .result) (c .before .before .before .records-part .result .now) (c .tally .result)
+    → let p = c .before .before .before in let n = p .before .before .before in let a = n .before .before .args in
+    Summed (a .leb-size) (a .unit) (a .content .now) (n .record-count .result) (p .records-part .result .now) (c .tally .result)
 summed c =
-    let at-record-count = c .before .before .before .before .before .before in
-    record { count = at-record-count .record-count .ensures; records = c .before .before .before .records-part .ensures; sums = c .tally .ensures }
+    let p = c .before .before .before in let n = p .before .before .before in
+    record { count = n .record-count .ensures; records = p .records-part .ensures; sums = c .tally .ensures }
 
 returns : tie.Need-returns
 returns c =
