@@ -1,7 +1,7 @@
 -- One accepted move: what any course of it leaves. Assumes nothing.
 use mathlib.Core.Path.{_≡_, refl, sym, _∙_, ap, ap₂}
 use mathlib.Core.Logic.{_≢_, _⊎_, inl, inr, ⊎-elim}
-use mathlib.Core.Bool.{Bool, true, false, _&&_, cond}
+use mathlib.Core.Bool.{Bool, true, _&&_, cond}
 use mathlib.Core.Option.{none, some}
 use mathlib.Core.List.{List}
 use Prim.Native.Nat.{ℕ, _+_, _-_, _*_, _/_, _<_, min}
@@ -11,7 +11,7 @@ use lib.ListN.{length, drop, getD, replicate, length-drop}
 use lib.Seq.{take-all, drop-drop}
 use Rattle.base.specs.Answers.{given, allOf}
 use Rattle.base.specs.Lists.{part, put, Bytes}
-use Rattle.base.proofs.Answers.{each-holds}
+use Rattle.base.proofs.Answers.{either-way, each-holds}
 use Rattle.base.proofs.Lists.{length-part, part-part}
 use Rattle.base.proofs.Stores.{drop-replicate}
 use Rattle.geometry.specs.Geometry.{geometryRules}
@@ -63,12 +63,12 @@ unfolding runnable stepRules
 runnable-by p g image n r geo i c o t ne v e = rw (r, geo, i, c, lt-ltb (p .old) n o, lt-ltb (p .target) n t, ne-eqb (p .old) (p .target) ne, v, e)
 
 -- an image of n PEBs that attaches
-pub record Fine (g : Geometry) (n : ℕ) (image : List ℕ) : Type 0 where
+pub record Attachable (g : Geometry) (n : ℕ) (image : List ℕ) : Type 0 where
   pub long : length image ≡ n * g .«peb_size»
   pub bytes : Bytes image
   pub unrefused : refusal (mediumOf g n image) ≡ none
 
-module _ (req : AttachRequest) (g : Geometry) (n : ℕ) (chip : Chip req g n) (image : List ℕ) (f : Fine g n image)
+module _ (req : AttachRequest) (g : Geometry) (n : ℕ) (chip : Chip req g n) (image : List ℕ) (f : Attachable g n image)
     (v l t o : ℕ) (c : Copy) (a : Accepted (mediumOf g n image) v l t o c) where
   P : Placed g
   P = chip-placed req g n chip
@@ -247,7 +247,8 @@ module _ (req : AttachRequest) (g : Geometry) (n : ℕ) (chip : Chip req g n) (i
     order = ⊎-elim (λ e. inl e) (λ s. inr (s .header, all-run s)) (ha .order)
 
     -- a stopped move
-    kept-cut : allOf (premiseRules p image image′) ≡ true → Keeps m vs′ v l (p .target) (headerWhole p image′ && runWhole p image image′)
+    kept-cut : allOf (premiseRules p image image′) ≡ true
+        → Keeps m vs′ v l (p .target) (headerWhole p image′ && runWhole p image image′)
     unfolding premiseRules headerWhole runWhole
     kept-cut pr =
         let r : (k : ℕ) → getD (premiseRules p image image′) k true ≡ true = each-holds (premiseRules p image image′) pr in
@@ -270,87 +271,59 @@ module _ (req : AttachRequest) (g : Geometry) (n : ℕ) (chip : Chip req g n) (i
           let w : vs′ (p .old) .vid ≡ vidBlank = vid-erased g Y (renewed-vid g P Y (p .ec) Y-is) in
           rw (e, w)
 
-    -- the map with the place written
-    map-after : (w : Bool) → Keeps m vs′ v l (p .target) w
-        → entries (mediumOf g n image′) ≡ cond w (placeWritten v l (p .target) (entries m)) (entries m)
-    unfolding entries placesOf tableRecords
-    map-after w k = ap₂ mapOf (ap (tableRecords m) (k .same-faces)) (k .new-places) ∙ go w
-      where
-        go : (w : Bool)
-            → mapOf (records m) (cond w (placesWith v l (p .target) (places m)) (places m))
-            ≡ cond w (placeWritten v l (p .target) (mapOf (records m) (places m))) (mapOf (records m) (places m))
-        go true = map-moved v l (p .target) (places m) (p .old) (rw (ready .is-chosen)) (records m)
-        go false = refl
-
   -- ---- what a course leaves
 
-  abbrev Ends : Course → List ℕ → Type 0
-  Ends (toEnd k) y = classAt (mediumOf g n y) (p .old) ≡ 0
-  Ends (toStop s) y = Unit {0}
-
-  record Result (course : Course) : Type 0 where
-    near : Near g n image relocates (left course)
-    kept : Keeps m (viewsOf g (left course)) v l (p .target) (isWritten p image course (left course))
-    new-map : entries (mediumOf g n (left course))
-        ≡ cond (isWritten p image course (left course)) (placeWritten v l (p .target) (entries m)) (entries m)
-    ends : Ends course (left course)
-
-  result : (course : Course) → premiseOf image course (left course) (given p) ≡ true → Result course
-  unfolding isWritten
-  result (toEnd k) pr =
-      let w = wholes k in
-      let ha : Halt g n image relocates (left (toEnd k)) = record { near = w .near; order = inr (w .stored) } in
-      let kp = kept-end (left (toEnd k)) ha (w .stored) (w .old-erased) in
-      record {
-        near = w .near;
-        kept = kp;
-        new-map = map-after (left (toEnd k)) ha true kp;
-        ends = end-free (left (toEnd k)) ha (w .stored) (w .old-erased);
-      }
-  result (toStop s) pr =
-      let y : List ℕ = left (toStop s) in
-      let ha = halts s in
-      let kp = kept-cut y ha pr in
-      record { near = ha .near; kept = kp; new-map = map-after y ha (headerWhole p y && runWhole p image y) kp; ends = tt }
+  -- the map with the place written
+  map-after : (y : List ℕ) (w : Bool) → Keeps m (viewsOf g y) v l (p .target) w
+      → entries (mediumOf g n y) ≡ cond w (placeWritten v l (p .target) (entries m)) (entries m)
+  unfolding entries placesOf tableRecords
+  map-after y w k =
+      ap₂ mapOf (ap (tableRecords m) (k .same-faces)) (k .new-places)
+      ∙ either-way
+      (λ w. mapOf (records m) (cond w (placesWith v l (p .target) (places m)) (places m))
+      ≡ cond w (placeWritten v l (p .target) (mapOf (records m) (places m))) (mapOf (records m) (places m)))
+      w (map-moved v l (p .target) (places m) (p .old) (rw (ready .is-chosen)) (records m)) refl
 
   pub record After (course : Course) : Type 0 where
-    pub fine : Fine g n (imageLeft moverJob p image course)
+    pub still : Attachable g n (imageLeft moverJob p image course)
     pub same-faces : faces (mediumOf g n (imageLeft moverJob p image course)) ≡ faces (mediumOf g n image)
     pub new-map : entries (mediumOf g n (imageLeft moverJob p image course))
-        ≡ cond (isWritten p image course (imageLeft moverJob p image course)) (placeWritten v l t (entries (mediumOf g n image)))
-        (entries (mediumOf g n image))
+        ≡ cond (isWritten p image course (imageLeft moverJob p image course))
+        (placeWritten v l t (entries (mediumOf g n image))) (entries (mediumOf g n image))
     pub moved : Moved req p course image (imageLeft moverJob p image course)
 
-  module _ (course : Course) (r : Result course) where
-    fine-left : Fine g n (left course)
+  module _ (course : Course) (near : Near g n image relocates (left course))
+      (kept : Keeps m (viewsOf g (left course)) v l (p .target) (isWritten p image course (left course)))
+      (freed : outcomeOf req (left course) ≡ whole (mediumOf g n (left course)) → Freed req p course (left course)) where
+    still : Attachable g n (left course)
     unfolding makePlan
-    fine-left = record {
-      long = r .near .long ∙ f .long;
+    still = record {
+      long = near .long ∙ f .long;
       bytes = left-octets moverJob mover-lawful p image may-run refl (f .bytes) course;
-      unrefused = r .kept .attaches;
+      unrefused = kept .attaches;
     }
-
-    freed : Freed req p course (left course)
-    freed = go course (r .ends) (attached req g n chip (left course) (fine-left .long) (fine-left .unrefused))
-      where
-        go : (k : Course) → Ends k (left course) → outcomeOf req (left course) ≡ whole (mediumOf g n (left course)) → Freed req p k (left course)
-        go (toEnd k) e q = rw (q, e)
-        go (toStop s) e q = tt
 
     after-of : After course
     unfolding makePlan
     after-of = record {
-      fine = fine-left;
-      same-faces = r .kept .same-faces;
-      new-map = r .new-map;
+      still = still;
+      same-faces = kept .same-faces;
+      new-map = map-after (left course) (isWritten p image course (left course)) kept;
       moved = record {
-        same-length = r .near .long;
-        elsewhere = λ k no nt. same-byte g (left course) image k (peb-above req g n chip) (r .near .elsewhere (k / g .«peb_size») no nt);
+        same-length = near .long;
+        elsewhere = λ k nq nt.
+            same-byte g (left course) image k (peb-above req g n chip) (near .elsewhere (k / g .«peb_size») nq nt);
         steps = steps moverJob mover-lawful p image may-run refl;
-        freed = freed;
+        freed = freed (attached req g n chip (left course) (still .long) (still .unrefused));
       };
     }
 
   -- any course, with the premise if it was stopped
   pub after : (course : Course) → premiseOf image course (imageLeft moverJob p image course) (given p) ≡ true → After course
-  after course pr = after-of course (result course pr)
+  unfolding isWritten
+  after (toEnd k) pr =
+      let w = wholes k in
+      let ha : Halt g n image relocates (left (toEnd k)) = record { near = w .near; order = inr (w .stored) } in
+      after-of (toEnd k) (w .near) (kept-end (left (toEnd k)) ha (w .stored) (w .old-erased))
+      (λ q. rw (q, end-free (left (toEnd k)) ha (w .stored) (w .old-erased)))
+  after (toStop s) pr = after-of (toStop s) (halts s .near) (kept-cut (left (toStop s)) (halts s) pr) (λ q. tt)
