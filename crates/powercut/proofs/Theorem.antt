@@ -19,8 +19,7 @@ use Rattle.job.specs.Outcomes.{outcomeOf, attaches, Table, tableIn, statesIn, m
 use Rattle.job.proofs.Calls.{all-calls}
 use Rattle.job.proofs.Outcomes.{Chip, attached, has-attached}
 use Rattle.plan.specs.Step.{moverJob}
-use Rattle.powercut.specs.Calls.{Call}
-use Rattle.powercut.specs.Book.{WithBook, callLeft, begun, afterCall, atFirst, afterCalls, Each}
+use Rattle.powercut.specs.Book.{Call, WithBook, callLeft, begun, afterCall, atFirst, afterCalls, Each}
 use Rattle.powercut.specs.Premise.{premiseOf, Premise}
 use Rattle.powercut.specs.Claim.{Moved, CallDone, Done, Claim}
 use Rattle.powercut.proofs.Move.{Attachable, after}
