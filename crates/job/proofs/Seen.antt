@@ -91,12 +91,13 @@ module _ (g : Geometry) (P : List ℕ) where
       go true q v r e = none-some e
       go false q (good h) r e =
           let z : copyOf g P h ≡ c = cc in
-          record { shows = q; reads = subst (λ (y : Copy). readVid (g .«leb_size») (vidPart g P) ≡ good (y .header)) z r; is = subst (λ (y : Copy). y ≡ copyOf g P (y .header)) z refl }
+          subst Read z (record { shows = q; reads = r; is = refl })
       go false q bad r e = none-some e
       go false q newer r e = none-some e
 
 -- a copy's header in another PEB
-pub same-header : (g : Geometry) (P Q : List ℕ) (c : Copy) → Read g P c → vidPart g Q ≡ vidPart g P → viewOf g Q .vid ≡ vidGood (copyOf g Q (c .header))
+pub same-header : (g : Geometry) (P Q : List ℕ) (c : Copy) → Read g P c → vidPart g Q ≡ vidPart g P
+    → viewOf g Q .vid ≡ vidGood (copyOf g Q (c .header))
 unfolding viewOf
 same-header g P Q c r e = rw (e, r .shows, r .reads)
 

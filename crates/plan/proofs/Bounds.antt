@@ -81,7 +81,9 @@ module _ (g : Geometry) (P : Placed g) (n : ℕ) (image : List ℕ) (bytes : Byt
     fields = vid-good (g .«leb_size») (vidPart g (peb i)) (read .reads) .0
 
     copy-widths : VidFits (c .header)
-    copy-widths = subst VidFits fields (vid-read-fits (vidPart g (peb i)) (bytes-part (g .«vid_start») 64 (peb i) (peb-bytes i)) (vid-long i i<n))
+    copy-widths =
+        subst VidFits fields
+        (vid-read-fits (vidPart g (peb i)) (bytes-part (g .«vid_start») 64 (peb i) (peb-bytes i)) (vid-long i i<n))
 
     pub copy-rules : allOf (vidRules (g .«leb_size») (c .header)) ≡ true
     copy-rules = vid-good (g .«leb_size») (vidPart g (peb i)) (read .reads) .1

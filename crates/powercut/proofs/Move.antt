@@ -60,7 +60,8 @@ runnable-by : (p : Plan) (g : Geometry) (image : List ℕ) (n : ℕ) → allOf (
     → planGeometry p ≡ g → allOf (imageRules g image) ≡ true → pebCount g image ≡ n → p .old < n → p .target < n → p .old ≢ p .target
     → isGood (judgeVid (g .«leb_size») (p .vid)) ≡ true → isGood (judgeEc (p .ec)) ≡ true → runnable p image ≡ true
 unfolding runnable stepRules
-runnable-by p g image n r geo i c o t ne v e = rw (r, geo, i, c, lt-ltb (p .old) n o, lt-ltb (p .target) n t, ne-eqb (p .old) (p .target) ne, v, e)
+runnable-by p g image n r geo i c o t ne v e =
+    rw (r, geo, i, c, lt-ltb (p .old) n o, lt-ltb (p .target) n t, ne-eqb (p .old) (p .target) ne, v, e)
 
 -- an image of n PEBs that attaches
 pub record Attachable (g : Geometry) (n : ℕ) (image : List ℕ) : Type 0 where
@@ -116,14 +117,10 @@ module _ (req : AttachRequest) (g : Geometry) (n : ℕ) (chip : Chip req g n) (i
   unfolding makePlan planGeometry
   geometry-is = R .made
 
-  rules : allOf (geometryRules (p .«peb_size») (p .unit) (p .«sub_unit»)) ≡ true
-  unfolding makePlan
-  rules = R .rules
-
   may-run : runnable p image ≡ true
   unfolding makePlan
   may-run =
-      runnable-by p g image n rules geometry-is (image-ruled req g n chip image (f .long)) (count-is req g n chip image (f .long)) (at-o .0)
+      runnable-by p g image n (R .rules) geometry-is (image-ruled req g n chip image (f .long)) (count-is req g n chip image (f .long)) (at-o .0)
       (a .target-there) apart (rw (good .vid-good)) (rw (good .ec-good))
 
   abbrev d : ℕ
@@ -137,14 +134,6 @@ module _ (req : AttachRequest) (g : Geometry) (n : ℕ) (chip : Chip req g n) (i
   abbrev O : List ℕ
   O = pebAt g image (p .old)
 
-  lenT : length T ≡ g .«peb_size»
-  unfolding makePlan
-  lenT = peb-length g n image (f .long) (p .target) (a .target-there)
-
-  lenO : length O ≡ g .«peb_size»
-  unfolding makePlan
-  lenO = peb-length g n image (f .long) (p .old) (at-o .0)
-
   read-O : Read g O c
   unfolding makePlan
   read-O = read g P n image (f .bytes) (f .long) o (at-o .0) c (at-o .1)
@@ -154,8 +143,10 @@ module _ (req : AttachRequest) (g : Geometry) (n : ℕ) (chip : Chip req g n) (i
   clean-T = a .target-clean
 
   blank-T : drop (g .«data_start» + d) T ≡ replicate (g .«leb_size» - d) 0xFF
+  unfolding makePlan
   blank-T =
       let s = good .data-fits in
+      let lenT = peb-length g n image (f .long) t (a .target-there) in
       let e : g .«data_start» + d ≡ 64 + (g .«data_start» + d - 64) = omega (arith, P .vid-after-ec, P .data-after-vid) in
       let k : length (drop 64 T) - (g .«data_start» + d - 64) ≡ g .«leb_size» - d =
       rw length-drop (omega (arith, lenT, P .vid-after-ec, P .data-after-vid, P .leb-fills)) in
@@ -201,7 +192,7 @@ module _ (req : AttachRequest) (g : Geometry) (n : ℕ) (chip : Chip req g n) (i
     unit-in = unitBytes p;
     sited = sited;
     long = f .long;
-    long-bytes = length-part (g .«data_start») d O (omega (arith, lenO, good .data-fits, P .leb-fills));
+    long-bytes = length-part (g .«data_start») d O (omega (arith, peb-length g n image (f .long) (p .old) (sited .old-there), good .data-fits, P .leb-fills));
     unit-is = unit-is;
   }
 

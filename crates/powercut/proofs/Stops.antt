@@ -118,7 +118,8 @@ module _ (g : Geometry) (n : ℕ) (image image′ : List ℕ) (ok : refusal (med
   old-ec c =
       ⊎-elim
       (λ w. ⊎-elim
-      (λ (e : eqs (take 64 Y) (take 64 O) ≡ true). rw (eqs-true (take 64 Y) (take 64 O) e) (o-before m vs′ v l o t old (p .vid) ok b views-rest target-ec .0))
+      (λ (e : eqs (take 64 Y) (take 64 O) ≡ true).
+      rw (eqs-true (take 64 Y) (take 64 O) e) (o-before m vs′ v l o t old (p .vid) ok b views-rest target-ec .0))
       (λ (e : eqs (take 64 Y) (ecBytes (p .ec)) ≡ true).
       rw (ec-written g Y (p .ec) (good .ec-fits) (good .ec-good) (eqs-true (take 64 Y) (ecBytes (p .ec)) e)) (good .ec-stands))
       (or-true-cases (eqs (take 64 Y) (take 64 O)) (eqs (take 64 Y) (ecBytes (p .ec))) w))

@@ -38,7 +38,8 @@ module _ (req : AttachRequest) (g : Geometry) (n : ℕ) (chip : Chip req g n) wh
 
   -- ---- one call
 
-  begun-is : (image : List ℕ) (f : Attachable g n image) (c : Call) → begun req image c ≡ planOf (mediumOf g n image) (c .volume) (c .lnum) (c .target)
+  begun-is : (image : List ℕ) (f : Attachable g n image) (c : Call)
+      → begun req image c ≡ planOf (mediumOf g n image) (c .volume) (c .lnum) (c .target)
   unfolding begun beginning outcomeOf
   begun-is image f c = ap (λ (y : Outcome). beginOn y (c .volume) (c .lnum) (c .target)) (outcome-is image f)
 
