@@ -42,13 +42,13 @@ use Rattle.job.specs.Outcomes.{outcomeOf}
 use Rattle.job.proofs.Blocks.{peb-length, same-byte}
 use Rattle.job.proofs.Seen.{Read, ec-written, vid-erased, renewed-ec, renewed-vid}
 use Rattle.job.proofs.Outcomes.{Ruled, slip-ruled, Chip, chip-placed, peb-above, count-is, image-ruled, attached}
-use Rattle.job.proofs.Runs.{steps, left-is, left-octets}
+use Rattle.job.proofs.Runs.{nexts, steps, left-is, left-octets}
 use Rattle.job.proofs.Relocated.{Sited, Relocates, Near, Stored, Halt, cut-halts, Whole, whole-end}
 use Rattle.plan.proofs.Data.{all-ff, unit-starts, units-cover}
 use Rattle.plan.proofs.Accepted.{Accepted, in-map-mappable, below-next}
 use Rattle.plan.proofs.Good.{Good}
 use Rattle.plan.proofs.Bounds.{read, goods}
-use Rattle.plan.proofs.Steps.{mover-lawful}
+use Rattle.plan.proofs.Steps.{mover-lawful, mover-runs}
 use Rattle.powercut.specs.Book.{headerWhole, runWhole, isWritten}
 use Rattle.powercut.specs.Premise.{premiseRules, premiseOf}
 use Rattle.powercut.specs.Claim.{Freed, Moved}
@@ -117,11 +117,12 @@ module _ (req : AttachRequest) (g : Geometry) (n : ℕ) (chip : Chip req g n) (i
   unfolding makePlan planGeometry
   geometry-is = R .made
 
-  may-run : runnable p image ≡ true
+  may-run : (k : ℕ) → runnable (nexts moverJob p k) image ≡ true
   unfolding makePlan
   may-run =
-      runnable-by p g image n (R .rules) geometry-is (image-ruled req g n chip image (f .long)) (count-is req g n chip image (f .long)) (at-o .0)
-      (a .target-there) apart (rw (good .vid-good)) (rw (good .ec-good))
+      mover-runs p image
+      (runnable-by p g image n (R .rules) geometry-is (image-ruled req g n chip image (f .long)) (count-is req g n chip image (f .long)) (at-o .0)
+      (a .target-there) apart (rw (good .vid-good)) (rw (good .ec-good)))
 
   abbrev d : ℕ
   d = p .vid .«data_size»
