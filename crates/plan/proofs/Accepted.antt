@@ -9,7 +9,7 @@ use native.Mathlib.Omega.{arith}
 use lib.Dec.{eqb, ltb}
 use borrow.Author.Tests.{eqb-true, eqb-false, ltb-true, lt-ltb, eq-eqb, not-false}
 use Rattle.base.specs.Answers.{Answer, given}
-use Rattle.base.proofs.Answers.{or-left, or-right, or-true-right}
+use Rattle.base.proofs.Answers.{by-test, or-left, or-right, or-true-right}
 use Rattle.base.proofs.Highest.{max-at}
 use Rattle.header.specs.Vid.{layoutVolume}
 use Rattle.header.specs.declared.EcHeader.{EcHeader}
@@ -130,12 +130,8 @@ module _ (m : Medium) (v l t : ℕ) (p : Plan) where
 
   found : (x : ℕ × Copy) → mapped m v l ≡ some x → InMap (records m) v l × (chosen (m .count) (copies (m .views)) v l ≡ some x)
   unfolding mapped
-  found x e = go (isIn v l (entries m)) refl e
-    where
-      go : (b : Bool) → isIn v l (entries m) ≡ b → cond b (chosen (m .count) (copies (m .views)) v l) none ≡ some x
-          → InMap (records m) v l × (chosen (m .count) (copies (m .views)) v l ≡ some x)
-      go true q e = (in-map-is m v l q, e)
-      go false q e = none-some e
+  found x e =
+      by-test (isIn v l (entries m)) (λ q. (in-map-is m v l q, rw q at e)) (λ q. none-some (rw q at e))
 
   -- an answer that is a plan is that of an accepted move
   abbrev pub Planned : Type 0

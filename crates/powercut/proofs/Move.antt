@@ -22,13 +22,12 @@ use Rattle.header.specs.Ec.{judgeEc, ecBytes}
 use Rattle.header.specs.Vid.{judgeVid, vidBytes}
 use Rattle.report.specs.View.{allFF, Copy, ecGood, vidBlank, Views, vidPart, viewOf, viewsOf, pebAt, copies, Medium, mediumOf}
 use Rattle.report.specs.Scan.{imageSeq}
-use Rattle.report.specs.Volumes.{placesOf, tableRecords, mapOf}
+use Rattle.report.specs.Volumes.{placesOf, tableRecords, mapOf, placeWritten}
 use Rattle.report.specs.Report.{faces, places, records, classAt, entries, refusal}
 use Rattle.geometry.specs.Image.{pebCount, imageRules}
 use Rattle.report.specs.Attach.{AttachRequest, whole}
 use Rattle.report.proofs.Choice.{chosen-at}
 use Rattle.report.proofs.First.{none-some}
-use Rattle.report.specs.Volumes.{placeWritten}
 use Rattle.report.proofs.Map.{placesWith, map-moved}
 use Rattle.plan.specs.declared.Plan.{Plan}
 use Rattle.plan.specs.Headers.{newVid}
