@@ -114,8 +114,15 @@ module _ (g : Geometry) (n : ℕ) (image : List ℕ) (R : Relocates g n image) w
   abbrev m : ℕ
   m = r .units
 
+  -- the relocation with the units of an image, and where unit j goes
+  abbrev from : List ℕ → Relocation
+  from y = withUnits r (R .unit-in y)
+
+  abbrev place : ℕ → ℕ
+  place j = g .«data_start» + j * g .unit
+
   abbrev write : List ℕ → ℕ → Write
-  write y k = relocating g (withUnits r (R .unit-in y)) k
+  write y k = relocating g (from y) k
 
   -- nothing has changed but what is stored in the target, and the old PEB
   pub record Near (y : List ℕ) : Type 0 where
@@ -223,15 +230,15 @@ module _ (g : Geometry) (n : ℕ) (image : List ℕ) (R : Relocates g n image) w
       let l = R .long-bytes in
       length-part (j * g .unit) (size j) D (omega arith)
 
-  unit-room : (j : ℕ) → j < m → (c : ℕ) → (64 ≤ g .«data_start» + j * g .unit)
-      × (g .«data_start» + j * g .unit + length (take c (unitOf j)) ≤ g .«data_start» + d)
+  unit-room : (j : ℕ) → j < m → (c : ℕ) → (64 ≤ place j)
+      × (place j + length (take c (unitOf j)) ≤ g .«data_start» + d)
   unit-room j h c =
       let w = s .unit-starts j h in
       let l = unit-long j h in
       (omega (arith, P .vid-after-ec, P .data-after-vid), rw length-take (omega arith))
 
   stored-unit : (j : ℕ) (y : List ℕ) (w : Near y) → j < m → Stored (min (j * g .unit) d) y
-      → Stored (min (suc j * g .unit) d) (put (pebStart g t + (g .«data_start» + j * g .unit)) (unitOf j) y)
+      → Stored (min (suc j * g .unit) d) (put (pebStart g t + (place j)) (unitOf j) y)
   stored-unit j y w h x =
       let u = s .unit-starts j h in
       let lb = unit-long j h in
@@ -267,25 +274,24 @@ module _ (g : Geometry) (n : ℕ) (image : List ℕ) (R : Relocates g n image) w
       rw q at (rw e at x)
 
   unit-here : (y : List ℕ) → Near y → pebAt g y o ≡ pebAt g image o → (j : ℕ) → j < m
-      → write y (suc j) ≡ store (pebStart g t + (g .«data_start» + j * g .unit)) (unitOf j)
+      → write y (suc j) ≡ store (pebStart g t + (place j)) (unitOf j)
   unit-here y w eo j h =
-      unit-write g (withUnits r (R .unit-in y)) j h ∙ ap (store (pebStart g t + (g .«data_start» + j * g .unit))) (R .unit-is y eo j h)
+      unit-write g (from y) j h ∙ ap (store (pebStart g t + (place j))) (R .unit-is y eo j h)
 
   at-going : (j : ℕ) (y : List ℕ) → j ≤ m → Near y → Stored (min (j * g .unit) d) y → pebAt g y o ≡ pebAt g image o
       → At (suc (suc j)) (appliedWhole (write y (suc j)) y)
   at-going j y h w x eo =
       ⊎-elim
       (λ (k : j < m).
-      let a = g .«data_start» + j * g .unit in
       let q = unit-room j k (size j) in
       let z : take (size j) (unitOf j) ≡ unitOf j = take-all (size j) (unitOf j) (omega (arith, unit-long j k)) in
-      let f : a + length (unitOf j) ≤ g .«data_start» + d = rw z at (q .1) in
+      let f : place j + length (unitOf j) ≤ g .«data_start» + d = rw z at (q .1) in
       rw (unit-here y w eo j k)
-      (going (suc j) refl k (near-target y w a (unitOf j) (q .0) f) (stored-unit j y w k x) (old-stays y w a (unitOf j) (q .0) f ∙ eo)))
+      (going (suc j) refl k (near-target y w (place j) (unitOf j) (q .0) f) (stored-unit j y w k x) (old-stays y w (place j) (unitOf j) (q .0) f ∙ eo)))
       (λ (e : j ≡ m).
       let F : List ℕ = replicate (g .«peb_size») 0xFF in
       let l : length F ≡ g .«peb_size» = length-replicate (g .«peb_size») 0xFF in
-      rw (erase-write g (withUnits r (R .unit-in y)) j e)
+      rw (erase-write g (from y) j e)
       (erased (omega arith) (near-old y w F (omega arith)) (stored-old y w F (omega arith) d (all-stored j y e x))
       (old-is y w F (omega arith) ∙ put-all F (pebAt g y o) (l ∙ sym (old-long y w)))))
       (lt-or-eq j m h)
@@ -300,13 +306,13 @@ module _ (g : Geometry) (n : ℕ) (image : List ℕ) (R : Relocates g n image) w
   take-whole bs = take-all (length bs) bs (omega arith)
 
   ec-here : (y : List ℕ) (k : ℕ) → k ≡ m + 2 → write y k ≡ store (pebStart g o) (r .ec)
-  ec-here y k e = let q : k ≡ suc (m + 1) = omega arith in rw q (ec-write g (withUnits r (R .unit-in y)) (m + 1) refl)
+  ec-here y k e = let q : k ≡ suc (m + 1) = omega arith in rw q (ec-write g (from y) (m + 1) refl)
 
   at-next : (k : ℕ) (y : List ℕ) → At k y → At (suc k) (appliedWhole (write y k) y)
   at-next k y (fresh e w eo) =
       let f = rw (take-whole (r .vid)) at (vid-room (length (r .vid))) in
       let z : min (0 * g .unit) d ≡ 0 = omega arith in
-      rw (vid-write g (withUnits r (R .unit-in y)) k e)
+      rw (vid-write g (from y) k e)
       (going 0 (omega arith) (omega arith) (near-target y w (g .«vid_start») (r .vid) (P .vid-after-ec) f) (rw z (stored-vid y w))
       (old-stays y w (g .«vid_start») (r .vid) (P .vid-after-ec) f ∙ eo))
   at-next k y (going j e h w x eo) =
@@ -315,7 +321,7 @@ module _ (g : Geometry) (n : ℕ) (image : List ℕ) (R : Relocates g n image) w
       let f = rw (take-whole (r .ec)) at (ec-room (length (r .ec))) in
       rw (ec-here y k e)
       (ended (omega arith) (near-old y w (r .ec) f) (stored-old y w (r .ec) f d x) (old-is y w (r .ec) f ∙ ap (put 0 (r .ec)) eo))
-  at-next k y (ended h w x eo) = rw (late-write g (withUnits r (R .unit-in y)) k h) (ended (omega arith) w x eo)
+  at-next k y (ended h w x eo) = rw (late-write g (from y) k h) (ended (omega arith) w x eo)
 
   at-steps : (k : ℕ) → At k (written write image k)
   at-steps zero = fresh refl near-first refl
@@ -329,24 +335,23 @@ module _ (g : Geometry) (n : ℕ) (image : List ℕ) (R : Relocates g n image) w
     halt-going j y h w x eo =
         ⊎-elim
         (λ (k : j < m).
-        let a = g .«data_start» + j * g .unit in
         let q = unit-room j k c in
         rw (unit-here y w eo j k)
         (record {
-          near = near-target y w a (take c (unitOf j)) (q .0) (q .1);
-          order = inl (old-stays y w a (take c (unitOf j)) (q .0) (q .1) ∙ eo);
+          near = near-target y w (place j) (take c (unitOf j)) (q .0) (q .1);
+          order = inl (old-stays y w (place j) (take c (unitOf j)) (q .0) (q .1) ∙ eo);
         }))
         (λ (e : j ≡ m).
         let F : List ℕ = erasedIn set (pebAt g y o) in
         let f : length F ≤ g .«peb_size» = omega (arith, length-erased set (pebAt g y o), old-long y w) in
-        rw (erase-write g (withUnits r (R .unit-in y)) j e)
+        rw (erase-write g (from y) j e)
         (record { near = near-old y w F f; order = inr (stored-old y w F f d (all-stored j y e x)) }))
         (lt-or-eq j m h)
 
     halt-cut : (k : ℕ) (y : List ℕ) → At k y → Halt (appliedCut c set (write y k) y)
     halt-cut k y (fresh e w eo) =
         let bs : List ℕ = take c (r .vid) in
-        rw (vid-write g (withUnits r (R .unit-in y)) k e)
+        rw (vid-write g (from y) k e)
         (record {
           near = near-target y w (g .«vid_start») bs (P .vid-after-ec) (vid-room c);
           order = inl (old-stays y w (g .«vid_start») bs (P .vid-after-ec) (vid-room c) ∙ eo);
@@ -355,7 +360,7 @@ module _ (g : Geometry) (n : ℕ) (image : List ℕ) (R : Relocates g n image) w
     halt-cut k y (erased e w x eo) =
         rw (ec-here y k e)
         (record { near = near-old y w (take c (r .ec)) (ec-room c); order = inr (stored-old y w (take c (r .ec)) (ec-room c) d x) })
-    halt-cut k y (ended h w x eo) = rw (late-write g (withUnits r (R .unit-in y)) k h) (record { near = w; order = inr x })
+    halt-cut k y (ended h w x eo) = rw (late-write g (from y) k h) (record { near = w; order = inr x })
 
     pub cut-halts : (k : ℕ) → Halt (appliedCut c set (write (written write image k) k) (written write image k))
     cut-halts k = halt-cut k (written write image k) (at-steps k)

@@ -16,9 +16,8 @@ use Rattle.job.proofs.Writes.{Within, whole-length, Octets, whole-octet
 
 -- what every job fulfils
 pub record Lawful {P : Type 0} (J : Job P) : Type 0 where
-  -- a step counts one more, and changes nothing else of a plan
+  -- a step counts one more, and changes neither the number of steps nor what they write
   pub counts : (p : P) → J .ran (J .next p) ≡ J .ran p + 1
-  pub same-runnable : (p : P) (image : List ℕ) → J .runnable (J .next p) image ≡ J .runnable p image
   pub same-count : (p : P) (image : List ℕ) → J .count (J .next p) image ≡ J .count p image
   pub same-write : (p : P) (image : List ℕ) (k : ℕ) → J .write (J .next p) image k ≡ J .write p image k
   -- 18 and the number of steps look at the image's length alone
@@ -34,29 +33,26 @@ abbrev pub written : (List ℕ → ℕ → Write) → List ℕ → ℕ → List 
 written write image zero = image
 written write image (suc k) = appliedWhole (write (written write image k) k) (written write image k)
 
+-- the plan with k steps more run
+abbrev pub nexts : {P : Type 0} → Job P → P → ℕ → P
+nexts J p zero = p
+nexts J p (suc k) = J .next (nexts J p k)
+
 module _ {P : Type 0} (J : Job P) (L : Lawful J) (p : P) where
-  -- the plan with k steps more run
-  abbrev nexts : ℕ → P
-  nexts zero = p
-  nexts (suc k) = J .next (nexts k)
-
-  nexts-ran : (k : ℕ) → J .ran (nexts k) ≡ J .ran p + k
+  nexts-ran : (k : ℕ) → J .ran (nexts J p k) ≡ J .ran p + k
   nexts-ran zero = omega arith
-  nexts-ran (suc k) = let e = nexts-ran k in L .counts (nexts k) ∙ omega arith
+  nexts-ran (suc k) = let e = nexts-ran k in L .counts (nexts J p k) ∙ omega arith
 
-  nexts-runnable : (k : ℕ) (i : List ℕ) → J .runnable (nexts k) i ≡ J .runnable p i
-  nexts-runnable zero i = refl
-  nexts-runnable (suc k) i = L .same-runnable (nexts k) i ∙ nexts-runnable k i
-
-  nexts-count : (k : ℕ) (i : List ℕ) → J .count (nexts k) i ≡ J .count p i
+  nexts-count : (k : ℕ) (i : List ℕ) → J .count (nexts J p k) i ≡ J .count p i
   nexts-count zero i = refl
-  nexts-count (suc k) i = L .same-count (nexts k) i ∙ nexts-count k i
+  nexts-count (suc k) i = L .same-count (nexts J p k) i ∙ nexts-count k i
 
-  nexts-write : (k : ℕ) (i : List ℕ) (j : ℕ) → J .write (nexts k) i j ≡ J .write p i j
+  nexts-write : (k : ℕ) (i : List ℕ) (j : ℕ) → J .write (nexts J p k) i j ≡ J .write p i j
   nexts-write zero i j = refl
-  nexts-write (suc k) i j = L .same-write (nexts k) i j ∙ nexts-write k i j
+  nexts-write (suc k) i j = L .same-write (nexts J p k) i j ∙ nexts-write k i j
 
-  module _ (image : List ℕ) (may : J .runnable p image ≡ true) (unstarted : J .ran p ≡ 0) where
+  -- where 18 refuses none of the steps
+  module _ (image : List ℕ) (may : (k : ℕ) → J .runnable (nexts J p k) image ≡ true) (unstarted : J .ran p ≡ 0) where
     abbrev count : ℕ
     count = J .count p image
 
@@ -65,16 +61,16 @@ module _ {P : Type 0} (J : Job P) (L : Lawful J) (p : P) where
       abbrev at : ℕ
       at = min k count
 
-      may-run : J .runnable (nexts at) i ≡ true
-      may-run = nexts-runnable at i ∙ L .by-length p i image len .0 ∙ may
+      may-run : J .runnable (nexts J p at) i ≡ true
+      may-run = L .by-length (nexts J p at) i image len .0 ∙ may at
 
-      count-is : J .count (nexts at) i ≡ count
+      count-is : J .count (nexts J p at) i ≡ count
       count-is = nexts-count at i ∙ L .by-length p i image len .1
 
-      ran-is : J .ran (nexts at) ≡ at
+      ran-is : J .ran (nexts J p at) ≡ at
       ran-is = nexts-ran at ∙ omega (arith, unstarted)
 
-      write-is : stepWrite J (nexts at) i ≡ J .write p i k
+      write-is : stepWrite J (nexts J p at) i ≡ J .write p i k
       unfolding stepWrite
       write-is = rw (may-run, ran-is) (nexts-write at i at ∙ go (decLt k count))
         where
@@ -82,13 +78,13 @@ module _ {P : Type 0} (J : Job P) (L : Lawful J) (p : P) where
           go (yes h) = let e : at ≡ k = omega arith in rw e
           go (no h) = let c = L .by-length p i image len .1 in L .late p i at (omega arith) ∙ sym (L .late p i k (omega arith))
 
-      goes-on : k < count → stepAnswer J (nexts at) i ≡ given (on (nexts (min (suc k) count)))
+      goes-on : k < count → stepAnswer J (nexts J p at) i ≡ given (on (nexts J p (min (suc k) count)))
       unfolding stepAnswer
       goes-on h =
           let e : min (suc k) count ≡ suc at = omega arith in
           rw (may-run, ran-is, count-is, lt-ltb at count (omega arith), e)
 
-      is-done : count ≤ k → stepAnswer J (nexts at) i ≡ given done
+      is-done : count ≤ k → stepAnswer J (nexts J p at) i ≡ given done
       unfolding stepAnswer
       is-done h = rw (may-run, ran-is, count-is, le-ltb at count (omega arith))
 
@@ -97,14 +93,14 @@ module _ {P : Type 0} (J : Job P) (L : Lawful J) (p : P) where
 
     -- after k steps
     record Ran (k : ℕ) : Type 0 where
-      plan : afterSteps J p image k .plan ≡ nexts (min k count)
+      plan : afterSteps J p image k .plan ≡ nexts J p (min k count)
       long : length (im k) ≡ length image
       is : im k ≡ written (J .write p) image k
 
     write-at : (k : ℕ) → Ran k → stepWrite J (afterSteps J p image k .plan) (im k) ≡ J .write p (im k) k
     write-at k x = rw (x .plan) (write-is (im k) (x .long) k)
 
-    answer-at : (k : ℕ) → Ran k → nextStep J (afterSteps J p image k) .answer ≡ stepAnswer J (nexts (min k count)) (im k)
+    answer-at : (k : ℕ) → Ran k → nextStep J (afterSteps J p image k) .answer ≡ stepAnswer J (nexts J p (min k count)) (im k)
     unfolding nextStep stepping
     answer-at k x = rw (x .plan)
 
@@ -112,11 +108,11 @@ module _ {P : Type 0} (J : Job P) (L : Lawful J) (p : P) where
     unfolding nextStep stepping
     image-at k x = rw (write-at k x)
 
-    plan-next : (k : ℕ) → Ran k → afterSteps J p image (suc k) .plan ≡ nexts (min (suc k) count)
+    plan-next : (k : ℕ) → Ran k → afterSteps J p image (suc k) .plan ≡ nexts J p (min (suc k) count)
     unfolding afterSteps oneStep
     plan-next k x = ap₂ (planLeft J) (x .plan) (answer-at k x) ∙ go (decLt k count)
       where
-        go : Dec (k < count) → planLeft J (nexts (min k count)) (stepAnswer J (nexts (min k count)) (im k)) ≡ nexts (min (suc k) count)
+        go : Dec (k < count) → planLeft J (nexts J p (min k count)) (stepAnswer J (nexts J p (min k count)) (im k)) ≡ nexts J p (min (suc k) count)
         go (yes h) = rw (goes-on (im k) (x .long) k h)
         go (no h) =
             let e : min k count ≡ min (suc k) count = omega arith in
@@ -127,7 +123,7 @@ module _ {P : Type 0} (J : Job P) (L : Lawful J) (p : P) where
     ran zero = let e : min 0 count ≡ 0 = omega arith in record { plan = rw e; long = refl; is = refl }
     ran (suc k) =
         let x = ran k in
-        let m = L .by-length p (im k) image (x .long) .0 ∙ may in
+        let m = L .by-length p (im k) image (x .long) .0 ∙ may 0 in
         record {
           plan = plan-next k x;
           long = rw (image-at k x) (whole-length (J .write p (im k) k) (im k) (L .within p (im k) m k) ∙ x .long);

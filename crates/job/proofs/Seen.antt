@@ -1,6 +1,6 @@
 -- What the reader sees of a PEB's headers: written ones, torn ones, and a copy. Assumes nothing.
-use mathlib.Core.Path.{_≡_, refl, _∙_, ap, subst}
-use mathlib.Core.Logic.{_⊎_, inl, inr}
+use mathlib.Core.Path.{_≡_, refl, sym, _∙_, ap, subst}
+use mathlib.Core.Logic.{_⊎_, inl, inr, ⊎-elim}
 use mathlib.Core.Bool.{Bool, true, false, not, _||_, cond, and-false}
 use mathlib.Core.Option.{some}
 use mathlib.Core.List.{List, [], append-nil}
@@ -9,7 +9,8 @@ use native.Mathlib.Omega.{arith}
 use lib.ListN.{take, replicate, length-replicate}
 use lib.Seq.{take-at}
 use Rattle.base.specs.Lists.{part, put, eqs}
-use Rattle.base.proofs.Answers.{by-test, clash}
+use Rattle.base.proofs.Answers.{by-test, clash, or-true-cases}
+use Rattle.base.proofs.Lists.{eqs-true}
 use Rattle.base.proofs.Stores.{put-behind, drop-replicate, take-replicate}
 use Rattle.field.specs.Be.{toBeOn}
 use Rattle.geometry.specs.Placed.{Placed}
@@ -21,8 +22,9 @@ use Rattle.header.specs.declared.EcHeader.{EcHeader}
 use Rattle.header.specs.declared.VidHeader.{VidHeader}
 use Rattle.header.proofs.Writes.{ec-64}
 use Rattle.header.proofs.RoundTrip.{ec-judged, vid-judged}
-use Rattle.report.specs.View.{allFF, Copy, ecGood, ecBlank, ecLost, vidGood, vidBlank, vidBad, ecOf, copyOf, vidOf, vidPart, viewOf, goodEc, goodVid}
+use Rattle.report.specs.View.{allFF, Copy, EcView, ecGood, ecBlank, ecLost, VidView, vidGood, vidBlank, vidBad, ecOf, copyOf, vidOf, vidPart, viewOf, goodEc, goodVid}
 use Rattle.report.proofs.First.{none-some}
+use Rattle.job.specs.Torn.{unlike}
 
 -- a written header is not all 0xFF
 ec-shows : (h : EcHeader) → allFF (ecBytes h) ≡ false
@@ -91,12 +93,13 @@ module _ (g : Geometry) (P : List ℕ) where
       go true q v r e = none-some e
       go false q (good h) r e =
           let z : copyOf g P h ≡ c = cc in
-          record { shows = q; reads = subst (λ (y : Copy). readVid (g .«leb_size») (vidPart g P) ≡ good (y .header)) z r; is = subst (λ (y : Copy). y ≡ copyOf g P (y .header)) z refl }
+          subst Read z (record { shows = q; reads = r; is = refl })
       go false q bad r e = none-some e
       go false q newer r e = none-some e
 
 -- a copy's header in another PEB
-pub same-header : (g : Geometry) (P Q : List ℕ) (c : Copy) → Read g P c → vidPart g Q ≡ vidPart g P → viewOf g Q .vid ≡ vidGood (copyOf g Q (c .header))
+pub same-header : (g : Geometry) (P Q : List ℕ) (c : Copy) → Read g P c → vidPart g Q ≡ vidPart g P
+    → viewOf g Q .vid ≡ vidGood (copyOf g Q (c .header))
 unfolding viewOf
 same-header g P Q c r e = rw (e, r .shows, r .reads)
 
@@ -125,3 +128,26 @@ module _ (g : Geometry) (P : Placed g) (Y : List ℕ) (h : EcHeader) (is : Y ≡
       (rw length-replicate (omega (arith, P .vid-after-ec, P .data-after-vid, P .leb-fills))) (g .«vid_start») (omega (arith, P .vid-after-ec))
       ∙ drop-replicate 0xFF (g .«vid_start») (g .«peb_size»))
       ∙ take-replicate 0xFF 64 (g .«peb_size» - g .«vid_start») (omega (arith, P .data-after-vid, P .leb-fills))
+
+-- ---- what the views of a PEB can become where a power-cut premise holds: O are its bytes before, Y those of a stopped image
+
+module _ (g : Geometry) (O Y : List ℕ) where
+  -- the EC header is the one that there was, or the new one, or none
+  pub ec-after : (e : EcHeader) → EcFits e → judgeEc e ≡ good e → (S : EcView → Type 0) → S (viewOf g O .ec) → S (ecGood e) → S ecBlank → S ecLost
+      → unlike (eqs (take 64 Y) (take 64 O) || eqs (take 64 Y) (ecBytes e)) (take 64 Y) ≡ true → S (viewOf g Y .ec)
+  unfolding viewOf
+  ec-after e f j S old new blank lost c =
+      ⊎-elim
+      (λ w. ⊎-elim (λ q. rw (eqs-true (take 64 Y) (take 64 O) q) old)
+      (λ q. subst S (sym (ec-written g Y e f j (eqs-true (take 64 Y) (ecBytes e) q))) new)
+      (or-true-cases (eqs (take 64 Y) (take 64 O)) (eqs (take 64 Y) (ecBytes e)) w))
+      (λ w. ⊎-elim (λ q. subst S (sym q) blank) (λ q. subst S (sym q) lost) (ec-torn g Y w))
+      (or-true-cases (eqs (take 64 Y) (take 64 O) || eqs (take 64 Y) (ecBytes e)) (allFF (take 64 Y) || not (crcMatches (take 64 Y))) c)
+
+  -- the VID header is the one that there was, or none
+  pub vid-after : (c : Copy) → Read g O c → (S : VidView → Type 0) → S (vidGood (copyOf g Y (c .header))) → S vidBlank → S vidBad
+      → unlike (eqs (vidPart g Y) (vidPart g O)) (vidPart g Y) ≡ true → S (viewOf g Y .vid)
+  vid-after c r S old blank none u =
+      ⊎-elim (λ q. subst S (sym (same-header g O Y c r (eqs-true (vidPart g Y) (vidPart g O) q))) old)
+      (λ w. ⊎-elim (λ q. subst S (sym q) blank) (λ q. subst S (sym q) none) (vid-torn g Y w))
+      (or-true-cases (eqs (vidPart g Y) (vidPart g O)) (allFF (vidPart g Y) || not (crcMatches (vidPart g Y))) u)

@@ -1,8 +1,8 @@
--- 01 'The mover's steps': how the steps of a job go on, and the image they leave. Assumes nothing.
+-- 01 'The mover's steps': how the steps of a job go on, and the image they leave; a list of calls. Assumes nothing.
 use mathlib.Core.Path.{_≡_}
 use Prim.Native.Nat.{ℕ, zero, suc, _+_, _≤_, _<_}
 use mathlib.Core.Bool.{Bool}
-use mathlib.Core.List.{List}
+use mathlib.Core.List.{List, [], _∷_}
 use Rattle.base.specs.Answers.{Answer, given, refused}
 use Rattle.job.specs.Job.{Job, Progress, on, done, Stepping, stepping, stepCut}
 
@@ -55,3 +55,14 @@ module _ {P : Type 0} (J : Job P) where
     pub are-done : (k : ℕ) → J .count p image ≤ k
         → (nextStep (afterSteps p image k) .answer ≡ given done)
         × (nextStep (afterSteps p image k) .image ≡ afterSteps p image k .image)
+
+-- a list of calls, one after the other, of any kind: X is what a call finds and leaves, C a call
+module _ {X C : Type 0} (after : X → C → X) where
+  abbrev pub afterAll : X → List C → X
+  afterAll x [] = x
+  afterAll x (c ∷ cs) = afterAll (after x c) cs
+
+  -- a statement on every call of a list, with what the calls before it left, and what it leaves
+  abbrev pub EachCall : (X → C → X → Type 0) → X → List C → Type 0
+  EachCall S x [] = Unit {0}
+  EachCall S x (c ∷ cs) = S x c (after x c) × EachCall S (after x c) cs

@@ -19,14 +19,14 @@ attaches (whole m) = true
 
 -- the table: the layout LEB whose copy was taken, the record bytes, the copies mark
 pub record Table : Type 0 where
-  pub leb : Answer ℕ
+  pub lnum : Answer ℕ
   pub records : List ℕ
   pub mark : ℕ
 
 abbrev pub tableIn : Outcome → Option Table
 tableIn (early k) = none
 tableIn (late n r) = none
-tableIn (whole m) = some (record { leb = taken m; records = records m; mark = mark m })
+tableIn (whole m) = some (record { lnum = taken m; records = records m; mark = mark m })
 
 -- the states of all 128 volumes
 abbrev pub statesIn : Outcome → List ℕ

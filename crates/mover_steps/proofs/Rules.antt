@@ -78,4 +78,5 @@ pub data-bounds : {g : Geometry} {p : Plan} {image : List ℕ} → Running g p i
 data-bounds r =
     let m = r .measured in
     let P = m .placed in
-    (omega (arith, r .size-fits, P .leb-fills, P .peb-most), (omega (arith, m .same-unit, P .unit-above), omega (arith, m .same-unit, m .unit-most)))
+    let u = m .same-unit in
+    (omega (arith, r .size-fits, P .leb-fills, P .peb-most), (omega (arith, u, P .unit-above), omega (arith, u, m .unit-most)))

@@ -33,7 +33,8 @@ module _ (g : Geometry) (p : Plan) (is : g ≡ planGeometry p) (image : List ℕ
       let z : writeAfter p image (p .steps) ≡ w = ap (writeAfter p image) h ∙ (λ i. relocating (sym is i) (relocation p image) k) ∙ e in
       q ∙ sym (ap (λ (x : Write). appliedWhole x image) z)
 
-  pub left-vid : {y : List ℕ} {s : ℕ} → p .steps ≡ 0 → s ≡ p .target * g .«peb_size» → y ≡ put (s + g .«vid_start») (vidBytes (p .vid)) image → Left y
+  pub left-vid : {y : List ℕ} {s : ℕ} → p .steps ≡ 0 → s ≡ p .target * g .«peb_size»
+      → y ≡ put (s + g .«vid_start») (vidBytes (p .vid)) image → Left y
   left-vid h z e = by 0 _ h (vid-write g (relocation p image) 0 refl) (rw z at e)
 
   module _ (started : p .steps ≡ 0 → ⊥) where

@@ -9,7 +9,7 @@ use native.Mathlib.Omega.{arith}
 use lib.Dec.{eqb, ltb}
 use borrow.Author.Tests.{eqb-true, eqb-false, ltb-true, lt-ltb, eq-eqb, not-false}
 use Rattle.base.specs.Answers.{Answer, given}
-use Rattle.base.proofs.Answers.{or-left, or-right, or-true-right}
+use Rattle.base.proofs.Answers.{by-test, or-left, or-right, or-true-right}
 use Rattle.base.proofs.Highest.{max-at}
 use Rattle.header.specs.Vid.{layoutVolume}
 use Rattle.header.specs.declared.EcHeader.{EcHeader}
@@ -49,7 +49,8 @@ Free e v = (v ≡ vidBlank) × ((h : EcHeader) × (e ≡ ecGood h))
 
 pub class-free : (t : List ℕ) (ps : Places) (i : ℕ) (e : EcView) (v : VidView) → classOf t ps i e v ≡ 0 → Free e v
 class-free t ps i e (vidGood c) q =
-    absurd (go (isMappable (c .header .volume)) (isPlace (ps (c .header .volume) (c .header .lnum)) i) (staysIn t (c .header .volume) (c .header .lnum)) (eqb (c .header .compat) 1) q)
+    let h = c .header in
+    absurd (go (isMappable (h .volume)) (isPlace (ps (h .volume) (h .lnum)) i) (staysIn t (h .volume) (h .lnum)) (eqb (h .compat) 1) q)
   where
     go : (a b c d : Bool) → cond {A = ℕ} a (cond b (cond c 1 5) 2) (cond d 5 6) ≡ 0 → ⊥
     go true true true d e = omega arith
@@ -114,7 +115,8 @@ module _ (m : Medium) (v l t : ℕ) (p : Plan) where
       let q = when-none (a || (b || c)) 16 e in
       let r = or-right a (b || c) q in (
         ltb-true t (m .count) (not-false (ltb t (m .count)) (or-left a (b || c) q)),
-        class-free (records m) (places m) t (m .views t .ec) (m .views t .vid) (eqb-true (classAt m t) 0 (not-false (eqb (classAt m t) 0) (or-left b c r))),
+        class-free (records m) (places m) t (m .views t .ec) (m .views t .vid)
+            (eqb-true (classAt m t) 0 (not-false (eqb (classAt m t) 0) (or-left b c r))),
         not-false (m .views t .clean) (or-right b c r),
       )
 
@@ -128,12 +130,8 @@ module _ (m : Medium) (v l t : ℕ) (p : Plan) where
 
   found : (x : ℕ × Copy) → mapped m v l ≡ some x → InMap (records m) v l × (chosen (m .count) (copies (m .views)) v l ≡ some x)
   unfolding mapped
-  found x e = go (isIn v l (entries m)) refl e
-    where
-      go : (b : Bool) → isIn v l (entries m) ≡ b → cond b (chosen (m .count) (copies (m .views)) v l) none ≡ some x
-          → InMap (records m) v l × (chosen (m .count) (copies (m .views)) v l ≡ some x)
-      go true q e = (in-map-is m v l q, e)
-      go false q e = none-some e
+  found x e =
+      by-test (isIn v l (entries m)) (λ q. (in-map-is m v l q, rw q at e)) (λ q. none-some (rw q at e))
 
   -- an answer that is a plan is that of an accepted move
   abbrev pub Planned : Type 0

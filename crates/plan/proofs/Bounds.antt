@@ -13,7 +13,7 @@ use lib.ListN.{length, take, drop, getD, length-take, length-drop}
 use Rattle.base.specs.Answers.{allOf}
 use Rattle.base.specs.Below.{firstBelow}
 use Rattle.base.specs.Lists.{Bytes}
-use Rattle.base.proofs.Answers.{by-option, clash, and-left, and-right, each-holds}
+use Rattle.base.proofs.Answers.{by-option, and-left, and-right, each-holds}
 use Rattle.base.proofs.Below.{first-hit}
 use Rattle.base.proofs.Highest.{max-most}
 use Rattle.base.proofs.Lists.{length-part, bytes-take, bytes-drop, bytes-part}
@@ -22,7 +22,7 @@ use Rattle.geometry.specs.Geometry.{roundUp}
 use Rattle.geometry.specs.Placed.{Placed}
 use Rattle.geometry.specs.declared.Geometry.{Geometry}
 use Rattle.header.specs.Ec.{ecFields, EcFits}
-use Rattle.header.specs.Vid.{implies, layoutVolume, vidFields, vidRules, layoutRule, VidFits}
+use Rattle.header.specs.Vid.{layoutVolume, vidFields, vidRules, layoutRule, VidFits}
 use Rattle.header.specs.declared.EcHeader.{EcHeader}
 use Rattle.header.proofs.Laws.{ec-good, vid-good}
 use Rattle.header.proofs.RoundTrip.{ec-read-fits, vid-read-fits}
@@ -81,7 +81,9 @@ module _ (g : Geometry) (P : Placed g) (n : ℕ) (image : List ℕ) (bytes : Byt
     fields = vid-good (g .«leb_size») (vidPart g (peb i)) (read .reads) .0
 
     copy-widths : VidFits (c .header)
-    copy-widths = subst VidFits fields (vid-read-fits (vidPart g (peb i)) (bytes-part (g .«vid_start») 64 (peb i) (peb-bytes i)) (vid-long i i<n))
+    copy-widths =
+        subst VidFits fields
+        (vid-read-fits (vidPart g (peb i)) (bytes-part (g .«vid_start») 64 (peb i) (peb-bytes i)) (vid-long i i<n))
 
     pub copy-rules : allOf (vidRules (g .«leb_size») (c .header)) ≡ true
     copy-rules = vid-good (g .«leb_size») (vidPart g (peb i)) (read .reads) .1
@@ -146,17 +148,12 @@ module _ (g : Geometry) (P : Placed g) (n : ℕ) (image : List ℕ) (bytes : Byt
 
     layout-pad : c .header .volume ≡ layoutVolume → c .header .«data_pad» ≡ 0
     unfolding vidRules layoutRule
-    layout-pad e = go (eqb (c .header .volume) layoutVolume) (eq-eqb (c .header .volume) layoutVolume e) (rule 9)
-      where
-        go : (b : Bool) → b ≡ true
-            → implies b (eqb (c .header .«vol_type») 1 && (eqb (c .header .compat) 5 && (eqb (c .header .«data_pad») 0 && leb (c .header .lnum) 1))) ≡ true
-            → c .header .«data_pad» ≡ 0
-        go true q h =
-            eqb-true (c .header .«data_pad») 0
-            (and-left (eqb (c .header .«data_pad») 0) (leb (c .header .lnum) 1)
-            (and-right (eqb (c .header .compat) 5) (eqb (c .header .«data_pad») 0 && leb (c .header .lnum) 1)
-            (and-right (eqb (c .header .«vol_type») 1) (eqb (c .header .compat) 5 && (eqb (c .header .«data_pad») 0 && leb (c .header .lnum) 1)) h)))
-        go false q h = clash refl q
+    layout-pad e =
+        let h = c .header in
+        let pad-and-lnum : Bool = eqb (h .«data_pad») 0 && leb (h .lnum) 1 in
+        let r = rw (eq-eqb (h .volume) layoutVolume e) at (rule 9) in
+        let q = and-right (eqb (h .compat) 5) pad-and-lnum (and-right (eqb (h .«vol_type») 1) (eqb (h .compat) 5 && pad-and-lnum) r) in
+        eqb-true (h .«data_pad») 0 (and-left (eqb (h .«data_pad») 0) (leb (h .lnum) 1) q)
 
     is-face : faces m v l ≡ some (faceOf g c)
     unfolding facesOf

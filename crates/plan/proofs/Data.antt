@@ -1,6 +1,6 @@
 -- The data of a move: what lies behind its end is 0xFF. Assumes nothing.
 use mathlib.Core.Path.{_≡_, refl, sym, _∙_, ap, ap₂}
-use mathlib.Core.Bool.{Bool, true, false, _&&_, cond, and-true, and-assoc}
+use mathlib.Core.Bool.{true, _&&_, cond, and-true, and-false, and-assoc}
 use mathlib.Core.List.{List, [], _∷_, _++_}
 use Prim.Native.Nat.{ℕ, zero, suc, _+_, _-_, _*_, _/_, _%_, _≤_, _<_}
 use native.Mathlib.Nat.{sub-zero, div-add-mod', mod-lt, mul-le-mul-right}
@@ -47,15 +47,9 @@ all-ff-snoc (x ∷ l) b = rw (all-ff-snoc l b) (sym (and-assoc (eqb x 0xFF) (all
 pub end-snoc : (l : List ℕ) (b : ℕ) → dataEnd (l ++ (b ∷ [])) ≡ cond (eqb b 0xFF) (dataEnd l) (suc (length l))
 unfolding dataEnd allFF
 end-snoc [] b = either-way (λ c. cond {A = ℕ} (c && true) 0 1 ≡ cond c 0 1) (eqb b 0xFF) refl refl
-end-snoc (x ∷ l) b = rw (all-ff-snoc l b, end-snoc l b) (go (eqb x 0xFF) (allFF l) (eqb b 0xFF))
-  where
-    go : (p q c : Bool) → cond (p && (q && c)) 0 (suc (cond c (dataEnd l) (suc (length l)))) ≡ cond c (cond (p && q) 0 (suc (dataEnd l))) (suc (suc (length l)))
-    go true true true = refl
-    go true true false = refl
-    go true false true = refl
-    go true false false = refl
-    go false q true = refl
-    go false q false = refl
+end-snoc (x ∷ l) b =
+    rw (all-ff-snoc l b, end-snoc l b)
+    (by-test (eqb b 0xFF) (λ c. rw (c, and-true (allFF l))) (λ c. rw (c, and-false (allFF l), and-false (eqb x 0xFF))))
 
 -- the first s bytes of b, with 0xFF behind, have the same first m bytes as b, if the end of those is within s
 pub same-content : (m s big : ℕ) (a b : List ℕ) → dataEnd (take m b) ≤ s → s ≤ m → m ≤ length b → m ≤ big

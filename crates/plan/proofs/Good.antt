@@ -104,17 +104,15 @@ module _ (g : Geometry) (P : Placed g) (c : Copy) (m : Moves g c) (highest : ℕ
 
   content : (b : List ℕ) → take d b ≡ take d (c .body) → drop d b ≡ replicate (g .«leb_size» - d) 0xFF
       → take (cond (isStatic c) d (g .«leb_size» - c .header .«data_pad»)) b ≡ contentOf g c
-  content b e f = go (isStatic c) refl
-    where
-      go : (s : Bool) → isStatic c ≡ s
-          → take (cond s d (g .«leb_size» - c .header .«data_pad»)) b ≡ take (cond s (c .header .«data_size») (g .«leb_size» - c .header .«data_pad»)) (c .body)
-      go true q = e ∙ rw (static-size q)
-      go false q =
-          let z = dynamic-size q in
-          let r = round-at-least (g .unit) (dataEnd (take (g .«leb_size» - c .header .«data_pad») (c .body))) (P .unit-above) in
-          let s = m .size-fits in
-          let l = m .long in
-          same-content (g .«leb_size» - c .header .«data_pad») d (g .«leb_size») b (c .body) (omega arith) s (omega arith) (omega arith) e f
+  content b e f =
+      by-test (isStatic c) (λ q. rw q (e ∙ rw (static-size q)))
+      (λ q.
+      let top = g .«leb_size» - c .header .«data_pad» in
+      let z = dynamic-size q in
+      let r = round-at-least (g .unit) (dataEnd (take top (c .body))) (P .unit-above) in
+      let s = m .size-fits in
+      let l = m .long in
+      rw q (same-content top d (g .«leb_size») b (c .body) (omega arith) s (omega arith) (omega arith) e f))
 
   -- ---- the rules
 

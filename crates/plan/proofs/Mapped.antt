@@ -1,14 +1,14 @@
 -- Refusal 14: which LEBs are in the map, and the copy that is moved. Assumes nothing.
 use mathlib.Core.Path.{_≡_, refl, sym, _∙_, ap}
 use mathlib.Core.Logic.{_⊎_, inl, inr, ⊎-elim}
-use mathlib.Core.Bool.{Bool, true, false, _&&_, cond, false≢true}
+use mathlib.Core.Bool.{true, _&&_, false≢true}
 use mathlib.Core.Option.{Option, none, some}
 use mathlib.Core.List.{List, [], _∷_, List·Memᴰ, List·Memᴰ·head, List·Memᴰ·tail, List·Memᴰ·cases-cons, List·Memᴰ·not-nil}
 use Prim.Native.Nat.{ℕ}
 use lib.Dec.{eqb}
 use borrow.Author.Tests.{eqb-true, eq-eqb}
 use Rattle.base.specs.Answers.{mapO}
-use Rattle.base.proofs.Answers.{and-left, and-right, or-true-cases, or-true-right}
+use Rattle.base.proofs.Answers.{by-test, and-left, and-right, or-true-cases, or-true-right}
 use Rattle.report.specs.View.{Copy, Medium, copies}
 use Rattle.report.specs.Choice.{chosen}
 use Rattle.report.specs.Volumes.{placesOf, Entry, mapOf}
@@ -62,8 +62,5 @@ module _ (m : Medium) where
   -- a LEB that no entry has is refusal 14
   pub mapped-none : (v l : ℕ) → ((e : Entry) → List·Memᴰ e (entries m) → e .volume ≡ v → e .lnum ≡ l → ⊥) → mapped m v l ≡ none
   unfolding mapped
-  mapped-none v l h = go (isIn v l (entries m)) refl
-    where
-      go : (b : Bool) → isIn v l (entries m) ≡ b → cond b (picked v l) none ≡ none
-      go true q = let r = in-list v l (entries m) q in absurd (h (r .0) (r .1) (r .2) (r .3))
-      go false q = refl
+  mapped-none v l h =
+      by-test (isIn v l (entries m)) (λ q. let r = in-list v l (entries m) q in absurd (h (r .0) (r .1) (r .2) (r .3))) (λ q. rw q)

@@ -2,7 +2,7 @@
 use mathlib.Core.Path.{_≡_, refl}
 use mathlib.Core.Bool.{true}
 use mathlib.Core.List.{List}
-use Prim.Native.Nat.{ℕ, _+_, _-_, _*_, _/_, _≤_, _<_, min}
+use Prim.Native.Nat.{ℕ, zero, suc, _+_, _-_, _*_, _/_, _≤_, _<_, min}
 use native.Mathlib.Omega.{arith}
 use lib.ListN.{length-take}
 use Rattle.base.specs.Lists.{Bytes}
@@ -12,7 +12,7 @@ use Rattle.header.proofs.Writes.{vid-64, ec-64}
 use Rattle.geometry.specs.Image.{imageRules}
 use Rattle.job.specs.Write.{nothing, pebStart}
 use Rattle.job.proofs.Writes.{Within, Octets, ec-octets, vid-octets}
-use Rattle.job.proofs.Runs.{Lawful}
+use Rattle.job.proofs.Runs.{Lawful, nexts}
 use Rattle.job.proofs.Relocated.{late-write, each-write}
 use Rattle.plan.specs.Write.{planGeometry, dataSteps, stepCount, unitBytes, relocation, writeAfter}
 use Rattle.plan.specs.Step.{stepRules, runnable, oneOn, moverJob}
@@ -60,7 +60,6 @@ pub mover-lawful : Lawful moverJob
 unfolding oneOn runnable stepRules imageRules planGeometry stepCount dataSteps unitBytes writeAfter
 mover-lawful = record {
   counts = λ p. refl;
-  same-runnable = λ p image. refl;
   same-count = λ p image. refl;
   same-write = λ p image k. refl;
   by-length = λ p a b e. (rw e, refl);
@@ -68,3 +67,9 @@ mover-lawful = record {
   late = late;
   octets = writes-octets;
 }
+
+-- 18 refuses none of the steps, if it does not refuse the first
+pub mover-runs : (p : Plan) (image : List ℕ) → runnable p image ≡ true → (k : ℕ) → runnable (nexts moverJob p k) image ≡ true
+unfolding oneOn runnable stepRules planGeometry
+mover-runs p image e zero = e
+mover-runs p image e (suc k) = mover-runs p image e k

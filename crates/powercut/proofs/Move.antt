@@ -1,7 +1,7 @@
 -- One accepted move: what any course of it leaves. Assumes nothing.
 use mathlib.Core.Path.{_≡_, refl, sym, _∙_, ap, ap₂}
 use mathlib.Core.Logic.{_≢_, _⊎_, inl, inr, ⊎-elim}
-use mathlib.Core.Bool.{Bool, true, false, _&&_, cond}
+use mathlib.Core.Bool.{Bool, true, _&&_, cond}
 use mathlib.Core.Option.{none, some}
 use mathlib.Core.List.{List}
 use Prim.Native.Nat.{ℕ, _+_, _-_, _*_, _/_, _<_, min}
@@ -11,7 +11,7 @@ use lib.ListN.{length, drop, getD, replicate, length-drop}
 use lib.Seq.{take-all, drop-drop}
 use Rattle.base.specs.Answers.{given, allOf}
 use Rattle.base.specs.Lists.{part, put, Bytes}
-use Rattle.base.proofs.Answers.{each-holds}
+use Rattle.base.proofs.Answers.{either-way, each-holds}
 use Rattle.base.proofs.Lists.{length-part, part-part}
 use Rattle.base.proofs.Stores.{drop-replicate}
 use Rattle.geometry.specs.Geometry.{geometryRules}
@@ -22,13 +22,12 @@ use Rattle.header.specs.Ec.{judgeEc, ecBytes}
 use Rattle.header.specs.Vid.{judgeVid, vidBytes}
 use Rattle.report.specs.View.{allFF, Copy, ecGood, vidBlank, Views, vidPart, viewOf, viewsOf, pebAt, copies, Medium, mediumOf}
 use Rattle.report.specs.Scan.{imageSeq}
-use Rattle.report.specs.Volumes.{placesOf, tableRecords, mapOf}
+use Rattle.report.specs.Volumes.{placesOf, tableRecords, mapOf, placeWritten}
 use Rattle.report.specs.Report.{faces, places, records, classAt, entries, refusal}
 use Rattle.geometry.specs.Image.{pebCount, imageRules}
 use Rattle.report.specs.Attach.{AttachRequest, whole}
 use Rattle.report.proofs.Choice.{chosen-at}
 use Rattle.report.proofs.First.{none-some}
-use Rattle.report.specs.Volumes.{placeWritten}
 use Rattle.report.proofs.Map.{placesWith, map-moved}
 use Rattle.plan.specs.declared.Plan.{Plan}
 use Rattle.plan.specs.Headers.{newVid}
@@ -42,13 +41,13 @@ use Rattle.job.specs.Outcomes.{outcomeOf}
 use Rattle.job.proofs.Blocks.{peb-length, same-byte}
 use Rattle.job.proofs.Seen.{Read, ec-written, vid-erased, renewed-ec, renewed-vid}
 use Rattle.job.proofs.Outcomes.{Ruled, slip-ruled, Chip, chip-placed, peb-above, count-is, image-ruled, attached}
-use Rattle.job.proofs.Runs.{steps, left-is, left-octets}
+use Rattle.job.proofs.Runs.{nexts, steps, left-is, left-octets}
 use Rattle.job.proofs.Relocated.{Sited, Relocates, Near, Stored, Halt, cut-halts, Whole, whole-end}
 use Rattle.plan.proofs.Data.{all-ff, unit-starts, units-cover}
 use Rattle.plan.proofs.Accepted.{Accepted, in-map-mappable, below-next}
 use Rattle.plan.proofs.Good.{Good}
 use Rattle.plan.proofs.Bounds.{read, goods}
-use Rattle.plan.proofs.Steps.{mover-lawful}
+use Rattle.plan.proofs.Steps.{mover-lawful, mover-runs}
 use Rattle.powercut.specs.Book.{headerWhole, runWhole, isWritten}
 use Rattle.powercut.specs.Premise.{premiseRules, premiseOf}
 use Rattle.powercut.specs.Claim.{Freed, Moved}
@@ -60,15 +59,16 @@ runnable-by : (p : Plan) (g : Geometry) (image : List ℕ) (n : ℕ) → allOf (
     → planGeometry p ≡ g → allOf (imageRules g image) ≡ true → pebCount g image ≡ n → p .old < n → p .target < n → p .old ≢ p .target
     → isGood (judgeVid (g .«leb_size») (p .vid)) ≡ true → isGood (judgeEc (p .ec)) ≡ true → runnable p image ≡ true
 unfolding runnable stepRules
-runnable-by p g image n r geo i c o t ne v e = rw (r, geo, i, c, lt-ltb (p .old) n o, lt-ltb (p .target) n t, ne-eqb (p .old) (p .target) ne, v, e)
+runnable-by p g image n r geo i c o t ne v e =
+    rw (r, geo, i, c, lt-ltb (p .old) n o, lt-ltb (p .target) n t, ne-eqb (p .old) (p .target) ne, v, e)
 
 -- an image of n PEBs that attaches
-pub record Fine (g : Geometry) (n : ℕ) (image : List ℕ) : Type 0 where
+pub record Attachable (g : Geometry) (n : ℕ) (image : List ℕ) : Type 0 where
   pub long : length image ≡ n * g .«peb_size»
   pub bytes : Bytes image
   pub unrefused : refusal (mediumOf g n image) ≡ none
 
-module _ (req : AttachRequest) (g : Geometry) (n : ℕ) (chip : Chip req g n) (image : List ℕ) (f : Fine g n image)
+module _ (req : AttachRequest) (g : Geometry) (n : ℕ) (chip : Chip req g n) (image : List ℕ) (f : Attachable g n image)
     (v l t o : ℕ) (c : Copy) (a : Accepted (mediumOf g n image) v l t o c) where
   P : Placed g
   P = chip-placed req g n chip
@@ -116,15 +116,12 @@ module _ (req : AttachRequest) (g : Geometry) (n : ℕ) (chip : Chip req g n) (i
   unfolding makePlan planGeometry
   geometry-is = R .made
 
-  rules : allOf (geometryRules (p .«peb_size») (p .unit) (p .«sub_unit»)) ≡ true
-  unfolding makePlan
-  rules = R .rules
-
-  may-run : runnable p image ≡ true
+  may-run : (k : ℕ) → runnable (nexts moverJob p k) image ≡ true
   unfolding makePlan
   may-run =
-      runnable-by p g image n rules geometry-is (image-ruled req g n chip image (f .long)) (count-is req g n chip image (f .long)) (at-o .0)
-      (a .target-there) apart (rw (good .vid-good)) (rw (good .ec-good))
+      mover-runs p image
+      (runnable-by p g image n (R .rules) geometry-is (image-ruled req g n chip image (f .long)) (count-is req g n chip image (f .long)) (at-o .0)
+      (a .target-there) apart (rw (good .vid-good)) (rw (good .ec-good)))
 
   abbrev d : ℕ
   d = p .vid .«data_size»
@@ -137,14 +134,6 @@ module _ (req : AttachRequest) (g : Geometry) (n : ℕ) (chip : Chip req g n) (i
   abbrev O : List ℕ
   O = pebAt g image (p .old)
 
-  lenT : length T ≡ g .«peb_size»
-  unfolding makePlan
-  lenT = peb-length g n image (f .long) (p .target) (a .target-there)
-
-  lenO : length O ≡ g .«peb_size»
-  unfolding makePlan
-  lenO = peb-length g n image (f .long) (p .old) (at-o .0)
-
   read-O : Read g O c
   unfolding makePlan
   read-O = read g P n image (f .bytes) (f .long) o (at-o .0) c (at-o .1)
@@ -154,8 +143,10 @@ module _ (req : AttachRequest) (g : Geometry) (n : ℕ) (chip : Chip req g n) (i
   clean-T = a .target-clean
 
   blank-T : drop (g .«data_start» + d) T ≡ replicate (g .«leb_size» - d) 0xFF
+  unfolding makePlan
   blank-T =
       let s = good .data-fits in
+      let lenT = peb-length g n image (f .long) t (a .target-there) in
       let e : g .«data_start» + d ≡ 64 + (g .«data_start» + d - 64) = omega (arith, P .vid-after-ec, P .data-after-vid) in
       let k : length (drop 64 T) - (g .«data_start» + d - 64) ≡ g .«leb_size» - d =
       rw length-drop (omega (arith, lenT, P .vid-after-ec, P .data-after-vid, P .leb-fills)) in
@@ -201,7 +192,7 @@ module _ (req : AttachRequest) (g : Geometry) (n : ℕ) (chip : Chip req g n) (i
     unit-in = unitBytes p;
     sited = sited;
     long = f .long;
-    long-bytes = length-part (g .«data_start») d O (omega (arith, lenO, good .data-fits, P .leb-fills));
+    long-bytes = length-part (g .«data_start») d O (omega (arith, peb-length g n image (f .long) (p .old) (sited .old-there), good .data-fits, P .leb-fills));
     unit-is = unit-is;
   }
 
@@ -247,7 +238,8 @@ module _ (req : AttachRequest) (g : Geometry) (n : ℕ) (chip : Chip req g n) (i
     order = ⊎-elim (λ e. inl e) (λ s. inr (s .header, all-run s)) (ha .order)
 
     -- a stopped move
-    kept-cut : allOf (premiseRules p image image′) ≡ true → Keeps m vs′ v l (p .target) (headerWhole p image′ && runWhole p image image′)
+    kept-cut : allOf (premiseRules p image image′) ≡ true
+        → Keeps m vs′ v l (p .target) (headerWhole p image′ && runWhole p image image′)
     unfolding premiseRules headerWhole runWhole
     kept-cut pr =
         let r : (k : ℕ) → getD (premiseRules p image image′) k true ≡ true = each-holds (premiseRules p image image′) pr in
@@ -270,87 +262,59 @@ module _ (req : AttachRequest) (g : Geometry) (n : ℕ) (chip : Chip req g n) (i
           let w : vs′ (p .old) .vid ≡ vidBlank = vid-erased g Y (renewed-vid g P Y (p .ec) Y-is) in
           rw (e, w)
 
-    -- the map with the place written
-    map-after : (w : Bool) → Keeps m vs′ v l (p .target) w
-        → entries (mediumOf g n image′) ≡ cond w (placeWritten v l (p .target) (entries m)) (entries m)
-    unfolding entries placesOf tableRecords
-    map-after w k = ap₂ mapOf (ap (tableRecords m) (k .same-faces)) (k .new-places) ∙ go w
-      where
-        go : (w : Bool)
-            → mapOf (records m) (cond w (placesWith v l (p .target) (places m)) (places m))
-            ≡ cond w (placeWritten v l (p .target) (mapOf (records m) (places m))) (mapOf (records m) (places m))
-        go true = map-moved v l (p .target) (places m) (p .old) (rw (ready .is-chosen)) (records m)
-        go false = refl
-
   -- ---- what a course leaves
 
-  abbrev Ends : Course → List ℕ → Type 0
-  Ends (toEnd k) y = classAt (mediumOf g n y) (p .old) ≡ 0
-  Ends (toStop s) y = Unit {0}
-
-  record Result (course : Course) : Type 0 where
-    near : Near g n image relocates (left course)
-    kept : Keeps m (viewsOf g (left course)) v l (p .target) (isWritten p image course (left course))
-    new-map : entries (mediumOf g n (left course))
-        ≡ cond (isWritten p image course (left course)) (placeWritten v l (p .target) (entries m)) (entries m)
-    ends : Ends course (left course)
-
-  result : (course : Course) → premiseOf image course (left course) (given p) ≡ true → Result course
-  unfolding isWritten
-  result (toEnd k) pr =
-      let w = wholes k in
-      let ha : Halt g n image relocates (left (toEnd k)) = record { near = w .near; order = inr (w .stored) } in
-      let kp = kept-end (left (toEnd k)) ha (w .stored) (w .old-erased) in
-      record {
-        near = w .near;
-        kept = kp;
-        new-map = map-after (left (toEnd k)) ha true kp;
-        ends = end-free (left (toEnd k)) ha (w .stored) (w .old-erased);
-      }
-  result (toStop s) pr =
-      let y : List ℕ = left (toStop s) in
-      let ha = halts s in
-      let kp = kept-cut y ha pr in
-      record { near = ha .near; kept = kp; new-map = map-after y ha (headerWhole p y && runWhole p image y) kp; ends = tt }
+  -- the map with the place written
+  map-after : (y : List ℕ) (w : Bool) → Keeps m (viewsOf g y) v l (p .target) w
+      → entries (mediumOf g n y) ≡ cond w (placeWritten v l (p .target) (entries m)) (entries m)
+  unfolding entries placesOf tableRecords
+  map-after y w k =
+      ap₂ mapOf (ap (tableRecords m) (k .same-faces)) (k .new-places)
+      ∙ either-way
+      (λ w. mapOf (records m) (cond w (placesWith v l (p .target) (places m)) (places m))
+      ≡ cond w (placeWritten v l (p .target) (mapOf (records m) (places m))) (mapOf (records m) (places m)))
+      w (map-moved v l (p .target) (places m) (p .old) (rw (ready .is-chosen)) (records m)) refl
 
   pub record After (course : Course) : Type 0 where
-    pub fine : Fine g n (imageLeft moverJob p image course)
+    pub still : Attachable g n (imageLeft moverJob p image course)
     pub same-faces : faces (mediumOf g n (imageLeft moverJob p image course)) ≡ faces (mediumOf g n image)
     pub new-map : entries (mediumOf g n (imageLeft moverJob p image course))
-        ≡ cond (isWritten p image course (imageLeft moverJob p image course)) (placeWritten v l t (entries (mediumOf g n image)))
-        (entries (mediumOf g n image))
+        ≡ cond (isWritten p image course (imageLeft moverJob p image course))
+        (placeWritten v l t (entries (mediumOf g n image))) (entries (mediumOf g n image))
     pub moved : Moved req p course image (imageLeft moverJob p image course)
 
-  module _ (course : Course) (r : Result course) where
-    fine-left : Fine g n (left course)
+  module _ (course : Course) (near : Near g n image relocates (left course))
+      (kept : Keeps m (viewsOf g (left course)) v l (p .target) (isWritten p image course (left course)))
+      (freed : outcomeOf req (left course) ≡ whole (mediumOf g n (left course)) → Freed req p course (left course)) where
+    still : Attachable g n (left course)
     unfolding makePlan
-    fine-left = record {
-      long = r .near .long ∙ f .long;
+    still = record {
+      long = near .long ∙ f .long;
       bytes = left-octets moverJob mover-lawful p image may-run refl (f .bytes) course;
-      unrefused = r .kept .attaches;
+      unrefused = kept .attaches;
     }
-
-    freed : Freed req p course (left course)
-    freed = go course (r .ends) (attached req g n chip (left course) (fine-left .long) (fine-left .unrefused))
-      where
-        go : (k : Course) → Ends k (left course) → outcomeOf req (left course) ≡ whole (mediumOf g n (left course)) → Freed req p k (left course)
-        go (toEnd k) e q = rw (q, e)
-        go (toStop s) e q = tt
 
     after-of : After course
     unfolding makePlan
     after-of = record {
-      fine = fine-left;
-      same-faces = r .kept .same-faces;
-      new-map = r .new-map;
+      still = still;
+      same-faces = kept .same-faces;
+      new-map = map-after (left course) (isWritten p image course (left course)) kept;
       moved = record {
-        same-length = r .near .long;
-        elsewhere = λ k no nt. same-byte g (left course) image k (peb-above req g n chip) (r .near .elsewhere (k / g .«peb_size») no nt);
+        same-length = near .long;
+        elsewhere = λ k nq nt.
+            same-byte g (left course) image k (peb-above req g n chip) (near .elsewhere (k / g .«peb_size») nq nt);
         steps = steps moverJob mover-lawful p image may-run refl;
-        freed = freed;
+        freed = freed (attached req g n chip (left course) (still .long) (still .unrefused));
       };
     }
 
   -- any course, with the premise if it was stopped
   pub after : (course : Course) → premiseOf image course (imageLeft moverJob p image course) (given p) ≡ true → After course
-  after course pr = after-of course (result course pr)
+  unfolding isWritten
+  after (toEnd k) pr =
+      let w = wholes k in
+      let ha : Halt g n image relocates (left (toEnd k)) = record { near = w .near; order = inr (w .stored) } in
+      after-of (toEnd k) (w .near) (kept-end (left (toEnd k)) ha (w .stored) (w .old-erased))
+      (λ q. rw (q, end-free (left (toEnd k)) ha (w .stored) (w .old-erased)))
+  after (toStop s) pr = after-of (toStop s) (halts s .near) (kept-cut (left (toStop s)) (halts s) pr) (λ q. tt)

@@ -1,6 +1,6 @@
 -- From the bytes of the two PEBs to the stages: a stopped move is torn, half or whole. Assumes nothing.
 use mathlib.Core.Path.{_≡_, refl, sym, _∙_, ap}
-use mathlib.Core.Logic.{_≢_, _⊎_, inl, inr, ⊎-elim}
+use mathlib.Core.Logic.{_≢_, _⊎_, ⊎-elim}
 use mathlib.Core.Bool.{Bool, true, false, not, _&&_, _||_, or-true}
 use mathlib.Core.Option.{none, some}
 use mathlib.Core.List.{List}
@@ -10,15 +10,15 @@ use borrow.Author.Tests.{eq-eqb, ne-eqb, not-true}
 use lib.ListN.{take, drop, replicate}
 use lib.Seq.{drop-drop}
 use Rattle.base.specs.Lists.{part, eqs}
-use Rattle.base.proofs.Answers.{clash, or-true-cases}
+use Rattle.base.proofs.Answers.{clash}
 use Rattle.base.proofs.Below.{eq-or-ne}
 use Rattle.base.proofs.Lists.{eqs-refl, eqs-true}
 use Rattle.crc32.specs.Crc.{crcOf}
 use Rattle.geometry.specs.declared.Geometry.{Geometry}
-use Rattle.header.specs.Fields.{crcMatches, good}
+use Rattle.header.specs.Fields.{good}
 use Rattle.header.specs.Ec.{ecBytes}
 use Rattle.header.specs.Vid.{implies, vidBytes}
-use Rattle.report.specs.View.{allFF, Copy, ecBlank, ecLost, vidGood, vidBlank, vidBad, Views, copyOf, vidPart, pebAt, viewOf, viewsOf, Medium, mediumOf, copies, isMappable}
+use Rattle.report.specs.View.{Copy, VidView, vidGood, vidBlank, Views, goodVid, copyOf, vidPart, pebAt, viewOf, viewsOf, Medium, mediumOf, copies, isMappable}
 use Rattle.report.specs.Scan.{imageSeq, ecRefusal, vidRefusal}
 use Rattle.report.specs.Choice.{sound}
 use Rattle.report.specs.Report.{refusal}
@@ -29,7 +29,7 @@ use Rattle.plan.specs.declared.Plan.{Plan}
 use Rattle.plan.proofs.Good.{Good}
 use Rattle.job.specs.Torn.{unlike}
 use Rattle.job.proofs.Stage.{Ready, Keeps, o-before, keeps-torn, keeps-half, keeps-whole}
-use Rattle.job.proofs.Seen.{ec-written, ec-torn, vid-written, vid-torn, vid-erased, Read, same-header}
+use Rattle.job.proofs.Seen.{ec-written, vid-written, vid-torn, vid-erased, Read, ec-after, vid-after}
 
 -- O is the old PEB at first, X and Y the target and the old PEB in the stopped image
 module _ (g : Geometry) (n : ℕ) (image image′ : List ℕ) (ok : refusal (mediumOf g n image) ≡ none) (v l o t : ℕ) (old : Copy) (p : Plan)
@@ -114,45 +114,31 @@ module _ (g : Geometry) (n : ℕ) (image image′ : List ℕ) (ok : refusal (med
 
   old-ec : unlike (eqs (take 64 Y) (take 64 O) || eqs (take 64 Y) (ecBytes (p .ec))) (take 64 Y) ≡ true
       → ecRefusal g (imageSeq n (m .views)) (vs′ o .ec) ≡ none
-  unfolding viewOf
-  old-ec c =
-      ⊎-elim
-      (λ w. ⊎-elim
-      (λ (e : eqs (take 64 Y) (take 64 O) ≡ true). rw (eqs-true (take 64 Y) (take 64 O) e) (o-before m vs′ v l o t old (p .vid) ok b views-rest target-ec .0))
-      (λ (e : eqs (take 64 Y) (ecBytes (p .ec)) ≡ true).
-      rw (ec-written g Y (p .ec) (good .ec-fits) (good .ec-good) (eqs-true (take 64 Y) (ecBytes (p .ec)) e)) (good .ec-stands))
-      (or-true-cases (eqs (take 64 Y) (take 64 O)) (eqs (take 64 Y) (ecBytes (p .ec))) w))
-      (λ w. ⊎-elim (λ (q : viewOf g Y .ec ≡ ecBlank). rw q) (λ (q : viewOf g Y .ec ≡ ecLost). rw q) (ec-torn g Y w))
-      (or-true-cases (eqs (take 64 Y) (take 64 O) || eqs (take 64 Y) (ecBytes (p .ec))) (allFF (take 64 Y) || not (crcMatches (take 64 Y))) c)
+  old-ec =
+      ec-after g O Y (p .ec) (good .ec-fits) (good .ec-good) (λ x. ecRefusal g (imageSeq n (m .views)) x ≡ none)
+      (o-before m vs′ v l o t old (p .vid) ok b views-rest target-ec .0) (good .ec-stands) refl refl
 
   -- its VID header is the old one, or none
-  abbrev OldVid : Type 0
-  OldVid = (vidRefusal (vs′ o .vid) ≡ none) × ((c : Copy) → copies vs′ o ≡ some c → c .header ≡ old .header)
+  abbrev OldVid : VidView → Type 0
+  OldVid x = (vidRefusal x ≡ none) × ((c : Copy) → goodVid x ≡ some c → c .header ≡ old .header)
 
-  old-mappable : isMappable (old .header .volume) ≡ true
-  old-mappable = rw (chosen-at n (copies (m .views)) v l o old (b .is-chosen) .2) (b .is-mappable)
+  no-copy : OldVid vidBlank
+  no-copy = (refl, λ c e. none-some e)
 
-  vid-none : (viewOf g Y .vid ≡ vidBlank) ⊎ (viewOf g Y .vid ≡ vidBad) → OldVid
-  vid-none (inl q) = (rw q, λ c e. none-some (rw q at e))
-  vid-none (inr q) = (rw q, λ c e. none-some (rw q at e))
-
-  vid-old : viewOf g Y .vid ≡ vidGood (copyOf g Y (old .header)) → OldVid
+  old-vid : unlike (eqs (vidPart g Y) (vidPart g O)) (vidPart g Y) ≡ true → OldVid (vs′ o .vid)
   unfolding copyOf
-  vid-old q = (rw (q, old-mappable), λ c e. same c (rw q at e))
+  old-vid = vid-after g O Y old read-O OldVid (rw mappable, same) no-copy (refl, λ c e. none-some e)
     where
+      mappable : isMappable (old .header .volume) ≡ true
+      mappable = rw (chosen-at n (copies (m .views)) v l o old (b .is-chosen) .2) (b .is-mappable)
+
       same : (c : Copy) → some (copyOf g Y (old .header)) ≡ some c → c .header ≡ old .header
       same c e = let z : copyOf g Y (old .header) ≡ c = cc in sym (ap (λ (y : Copy). y .header) z)
 
-  old-vid : unlike (eqs (vidPart g Y) (vidPart g O)) (vidPart g Y) ≡ true → OldVid
-  old-vid c =
-      ⊎-elim
-      (λ (e : eqs (vidPart g Y) (vidPart g O) ≡ true). vid-old (same-header g O Y old read-O (eqs-true (vidPart g Y) (vidPart g O) e)))
-      (λ w. vid-none (vid-torn g Y w))
-      (or-true-cases (eqs (vidPart g Y) (vidPart g O)) (allFF (vidPart g Y) || not (crcMatches (vidPart g Y))) c)
-
   -- ---- the stages
 
-  whole-now : vidPart g X ≡ vidBytes (p .vid) → run ≡ dataRun → ecRefusal g (imageSeq n (m .views)) (vs′ o .ec) ≡ none → OldVid → Kept true
+  whole-now : vidPart g X ≡ vidBytes (p .vid) → run ≡ dataRun → ecRefusal g (imageSeq n (m .views)) (vs′ o .ec) ≡ none
+      → OldVid (vs′ o .vid) → Kept true
   unfolding copyOf
   whole-now eh ed ec ov =
       keeps-whole m vs′ v l o t old (p .vid) ok b views-rest target-ec new (new-seen eh) refl (whole-sound ed) (same-face ed) ec (ov .0) (ov .1)
@@ -190,4 +176,4 @@ module _ (g : Geometry) (n : ℕ) (image image′ : List ℕ) (ok : refusal (med
   -- a move that is not cut
   pub finished : vidPart g X ≡ vidBytes (p .vid) → run ≡ dataRun → take 64 Y ≡ ecBytes (p .ec) → vidPart g Y ≡ replicate 64 0xFF → Kept true
   finished eh ed ee ev =
-      whole-now eh ed (rw (ec-written g Y (p .ec) (good .ec-fits) (good .ec-good) ee) (good .ec-stands)) (vid-none (inl (vid-erased g Y ev)))
+      whole-now eh ed (rw (ec-written g Y (p .ec) (good .ec-fits) (good .ec-good) ee) (good .ec-stands)) (rw (vid-erased g Y ev) no-copy)

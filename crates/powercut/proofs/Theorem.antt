@@ -19,19 +19,18 @@ use Rattle.job.specs.Outcomes.{outcomeOf, attaches, Table, tableIn, statesIn, m
 use Rattle.job.proofs.Calls.{all-calls}
 use Rattle.job.proofs.Outcomes.{Chip, attached, has-attached}
 use Rattle.plan.specs.Step.{moverJob}
-use Rattle.powercut.specs.Calls.{Call}
-use Rattle.powercut.specs.Book.{WithBook, callLeft, begun, afterCall, atFirst, afterCalls, Each}
+use Rattle.powercut.specs.Book.{Call, WithBook, callLeft, begun, afterCall, atFirst, afterCalls, Each}
 use Rattle.powercut.specs.Premise.{premiseOf, Premise}
 use Rattle.powercut.specs.Claim.{Moved, CallDone, Done, Claim}
-use Rattle.powercut.proofs.Move.{Fine, after}
+use Rattle.powercut.proofs.Move.{Attachable, after}
 
 module _ (req : AttachRequest) (g : Geometry) (n : ℕ) (chip : Chip req g n) where
-  outcome-is : (image : List ℕ) → Fine g n image → outcomeOf req image ≡ whole (mediumOf g n image)
+  outcome-is : (image : List ℕ) → Attachable g n image → outcomeOf req image ≡ whole (mediumOf g n image)
   outcome-is image f = attached req g n chip image (f .long) (f .unrefused)
 
   -- an image that attaches, whose map is the place book
   record Held (x : WithBook) : Type 0 where
-    fine : Fine g n (x .image)
+    still : Attachable g n (x .image)
     map-is-book : entries (mediumOf g n (x .image)) ≡ x .book
 
   SameFaces : WithBook → WithBook → Type 0
@@ -39,7 +38,8 @@ module _ (req : AttachRequest) (g : Geometry) (n : ℕ) (chip : Chip req g n) wh
 
   -- ---- one call
 
-  begun-is : (image : List ℕ) (f : Fine g n image) (c : Call) → begun req image c ≡ planOf (mediumOf g n image) (c .volume) (c .lnum) (c .target)
+  begun-is : (image : List ℕ) (f : Attachable g n image) (c : Call)
+      → begun req image c ≡ planOf (mediumOf g n image) (c .volume) (c .lnum) (c .target)
   unfolding begun beginning outcomeOf
   begun-is image f c = ap (λ (y : Outcome). beginOn y (c .volume) (c .lnum) (c .target)) (outcome-is image f)
 
@@ -54,8 +54,8 @@ module _ (req : AttachRequest) (g : Geometry) (n : ℕ) (chip : Chip req g n) wh
       → Leaves x (callLeft x c (given p)) (Moved req p (c .course) (x .image) (imageLeft moverJob p (x .image) (c .course)))
   unfolding callLeft SameFaces
   accepted-call x c h o cp a pr =
-      let r = after req g n chip (x .image) (h .fine) (c .volume) (c .lnum) (c .target) o cp a (c .course) pr in
-      (record { fine = r .fine; map-is-book = rw (← (h .map-is-book)) (r .new-map) }, r .same-faces, r .moved)
+      let r = after req g n chip (x .image) (h .still) (c .volume) (c .lnum) (c .target) o cp a (c .course) pr in
+      (record { still = r .still; map-is-book = rw (← (h .map-is-book)) (r .new-map) }, r .same-faces, r .moved)
 
   one-call : (x : WithBook) (c : Call) → Held x → Premise req (x .image) c (afterCall req x c .image)
       → Leaves x (afterCall req x c) (Done req (x .image) c (afterCall req x c .image))
@@ -66,7 +66,7 @@ module _ (req : AttachRequest) (g : Geometry) (n : ℕ) (chip : Chip req g n) wh
           → Leaves x (callLeft x c y) (CallDone req (x .image) (c .course) (callLeft x c y .image) y)
       by (refused k q) e pr = (h, refl, refl)
       by (given p) e pr =
-          let a = accepted (mediumOf g n (x .image)) (c .volume) (c .lnum) (c .target) p (sym (begun-is (x .image) (h .fine) c) ∙ e) in
+          let a = accepted (mediumOf g n (x .image)) (c .volume) (c .lnum) (c .target) p (sym (begun-is (x .image) (h .still) c) ∙ e) in
           subst
           (λ (q : Plan). premiseOf (x .image) (c .course) (imageLeft moverJob q (x .image) (c .course)) (given q) ≡ true
           → Leaves x (callLeft x c (given q)) (Moved req q (c .course) (x .image) (imageLeft moverJob q (x .image) (c .course))))
@@ -91,7 +91,7 @@ module _ (req : AttachRequest) (g : Geometry) (n : ℕ) (chip : Chip req g n) wh
     table-same = ap (λ (fs : Faces). some (tableFrom fs)) e
       where
         tableFrom : Faces → Table
-        tableFrom fs = record { leb = tableLeb m fs; records = tableRecords m fs; mark = tableMark m fs }
+        tableFrom fs = record { lnum = tableLeb m fs; records = tableRecords m fs; mark = tableMark m fs }
 
     states-same : statesIn (whole (mediumOf g n b)) ≡ statesIn (whole m)
     unfolding stateWords stateAt tableRecords
@@ -113,12 +113,12 @@ no-cut-loses-a-block req image calls bytes at pr =
     let A = has-attached req image at in
     let g = A .g in
     let n = A .n in
-    let f : Fine g n image = record { long = A .long; bytes = bytes; unrefused = A .unrefused } in
+    let f : Attachable g n image = record { long = A .long; bytes = bytes; unrefused = A .unrefused } in
     let first = outcome-is req g n (A .chip) image f in
     let x : WithBook = record { image = image; book = mapIn (outcomeOf req image) } in
-    let r = whole-list req g n (A .chip) calls x (record { fine = f; map-is-book = sym (ap mapIn first) }) pr in
+    let r = whole-list req g n (A .chip) calls x (record { still = f; map-is-book = sym (ap mapIn first) }) pr in
     let end = afterCalls req x calls in
-    let last = outcome-is req g n (A .chip) (end .image) (r .0 .fine) in
+    let last = outcome-is req g n (A .chip) (end .image) (r .0 .still) in
     let e = r .1 in
     record {
       kept = record {

@@ -1,4 +1,4 @@
--- 01 'The mover's steps': the place book, fed the calls and cut points alone. Assumes nothing.
+-- 01 'The mover's steps': calls of the mover, and the place book, fed the calls and cut points alone. Assumes nothing.
 use Prim.Native.Nat.{ℕ}
 use mathlib.Core.Bool.{Bool, true, _&&_, cond}
 use mathlib.Core.List.{List}
@@ -7,15 +7,20 @@ use Rattle.base.specs.Lists.{eqs}
 use Rattle.header.specs.Vid.{vidBytes}
 use Rattle.report.specs.Volumes.{Entry, placeWritten}
 use Rattle.report.specs.Attach.{AttachRequest}
-use Rattle.job.specs.Course.{Course, toEnd, toStop, imageLeft}
-use Rattle.job.specs.Calls.{afterAll, EachCall}
+use Rattle.job.specs.Course.{Course, toEnd, toStop, imageLeft, afterAll, EachCall}
 use Rattle.job.specs.Outcomes.{outcomeOf, mapIn}
 use Rattle.job.specs.Torn.{vidAt, runAt}
 use Rattle.plan.specs.declared.Plan.{Plan}
 use Rattle.plan.specs.Begin.{beginning}
 use Rattle.plan.specs.Write.{planGeometry}
 use Rattle.plan.specs.Step.{moverJob}
-use Rattle.powercut.specs.Calls.{Call}
+
+-- the LEB to move, the target, and how the move goes on if it is accepted
+pub record Call : Type 0 where
+  pub volume : ℕ
+  pub lnum : ℕ
+  pub target : ℕ
+  pub course : Course
 
 -- is the new VID header whole? is the data run, that of the old PEB in the image that the move began on? "Bytes equal
 -- to the whole count as whole"

@@ -12,8 +12,7 @@ use Rattle.job.specs.Course.{Course, toEnd, toStop, Steps}
 use Rattle.job.specs.Outcomes.{outcomeOf, attaches, tableIn, statesIn, mapIn, contentIn, classIn}
 use Rattle.plan.specs.declared.Plan.{Plan}
 use Rattle.plan.specs.Step.{moverJob}
-use Rattle.powercut.specs.Calls.{Call}
-use Rattle.powercut.specs.Book.{WithBook, begun, atFirst, afterCalls, Each}
+use Rattle.powercut.specs.Book.{Call, WithBook, begun, atFirst, afterCalls, Each}
 
 module _ (req : AttachRequest) where
   -- an accepted move that was not cut ended with its old block in class 0

@@ -16,8 +16,7 @@ use Rattle.job.specs.Course.{Course, toEnd, toStop}
 use Rattle.job.specs.Torn.{ecAt, vidAt, runAt, unlike}
 use Rattle.plan.specs.declared.Plan.{Plan}
 use Rattle.plan.specs.Write.{planGeometry}
-use Rattle.powercut.specs.Calls.{Call}
-use Rattle.powercut.specs.Book.{headerWhole, runWhole, begun}
+use Rattle.powercut.specs.Book.{Call, headerWhole, runWhole, begun}
 
 -- of a plan, the image that its move began on, and the stopped image
 unfoldable pub premiseRules : Plan → List ℕ → List ℕ → List Bool

@@ -21,9 +21,12 @@ loop-holds : tie.Need-loop-holds Inv-loop μ-loop
 loop-holds c = (omega arith, (refl, paste-zero (c .args .image .now) (c .args .to) (part (c .args .from) (c .args .n) (c .args .image .now))))
 
 loop-again : tie.Need-loop-again Inv-loop μ-loop
-loop-again c = let l = c .before .before .loop in
-    let a = c .before .before .before .args in
-    (omega arith, (rw length-set (l .inv .1 .0), rw (l .inv .1 .1) (copy-more (a .image .now) (a .from) (a .to) (a .n) (l .i) (omega arith) (omega arith) (omega arith) (c .before .before .before .pre .1 .1))))
+loop-again c =
+    let l = c .before .before .loop in
+    let s = c .before .before .before in
+    let a = s .args in
+    let more = copy-more (a .image .now) (a .from) (a .to) (a .n) (l .i) (omega arith) (omega arith) (omega arith) (s .pre .1 .1) in
+    (omega arith, (rw length-set (l .inv .1 .0), rw (l .inv .1 .1) more))
 
 same-length : tie.Need-same-length Inv-loop μ-loop
 same-length c = c .before .loop .inv .1 .0
