@@ -71,24 +71,12 @@ pass-peb-requires c κs =
       };
     }
 
--- i is below n, which is small
-few : (c : tie.After-pass-peb Inv-loop μ-loop) → c .before .before .before .before .before .loop .i + 1 ≤ mostPebs
-few c =
-    let l = c .before .before .before .before in
-    omega (arith, l .loop-test .taken, l .before .before .before .before .before .before .before .pre .few)
-
-cast-t22 : tie.Need-cast-t22 Inv-loop μ-loop
-cast-t22 c = omega (arith, few (c .before .before .before .before .before .before .before))
-
 returns : tie.Need-returns Inv-loop μ-loop
 returns c =
     let d = c .before .before .before .before .before .before .before in
     let a = d .before .before .before .before .before .before .before .before .before .before .before .args in
     pass-refused (a .g) (a .n) (a .image .now) (d .before .before .before .before .before .loop .inv .3) (omega arith)
     (d .pass-peb .ensures) (c .if1 .taken)
-
-add-i : tie.Need-add-i Inv-loop μ-loop
-add-i c = record { fits = omega (arith, few (c .before .before .before .before .before .before .before)) }
 
 loop-again : tie.Need-loop-again Inv-loop μ-loop
 loop-again c =
@@ -100,12 +88,6 @@ loop-again c =
       search needs,
       pass-on (a .g) (a .n) (a .image .now) o (omega arith) (d .pass-peb .ensures) (c .if1 .left),
     )
-
-same-length-3 : tie.Need-same-length-3 Inv-loop μ-loop
-same-length-3 c = c .before .loop .inv .1
-
-same-length-4 : tie.Need-same-length-4 Inv-loop μ-loop
-same-length-4 c = c .before .loop .inv .2
 
 returns-2 : tie.Need-returns-2 Inv-loop μ-loop
 returns-2 c =
@@ -128,13 +110,13 @@ pass-spec =
     (λ c. search needs)
     part-pass-peb-end
     pass-peb-requires
-    cast-t22
+    (λ c. search needs)
     (λ c. search needs)
     (λ c. search needs)
     returns
-    add-i
+    (λ c. search needs)
     (λ c. search needs)
     loop-again
-    same-length-3
-    same-length-4
+    (λ c. search needs)
+    (λ c. search needs)
     returns-2)
