@@ -17,7 +17,7 @@ use Rattle.header.specs.Ec.{ecFields, ecRules, judgeEc, readEc, ecHead, ecBytes
 use Rattle.header.specs.Vid.{layoutVolume, vidFields, volumeRule, staticRule, dynamicRule, layoutRule, vidRules, judgeVid, readVid, vidHead, vidBytes}
 use Rattle.header.specs.declared.EcHeader.{EcHeader}
 use Rattle.header.specs.declared.VidHeader.{VidHeader}
-use Rattle.volume_table.specs.Record.{recordOf, recordCrcMatches, emptyRecord, isEmpty, nameEnds, recordRules, recordGood}
+use Rattle.volume_record.specs.Record.{recordOf, recordCrcMatches, emptyRecord, isEmpty, nameEnds, recordRules, recordGood}
 use Rattle.volume_table.specs.Table.{recordCount, recordsPart, emptyOrGood, nameOf, sameNames, autoresizes, tableRules, tableTests, tableGood, takenLeb, takenRecords}
 use Rattle.report.specs.View.{Copy, Views, Medium, ecGood, vidBlank, allFF, copyOf, viewOf}
 use Rattle.report.specs.Scan.{imageSeq, viewRefusal, refusal5678, refusal10}
@@ -25,7 +25,7 @@ use Rattle.report.specs.Choice.{refusal9, pick, chosen}
 use Rattle.report.specs.Volumes.{faceOf, facesOf, placesOf, tableLeb, tableRecords, recordFor, mapUpTo, mapOf, usedOf, misfitIn, misfitAt}
 use Rattle.report.specs.Report.{meanOf, highestOf, readOnlyOf, classAt, entries, refusal}
 use Rattle.geometry.specs.Image.{imageRules}
-use Rattle.report.specs.Attach.{lent, longEnough, request, attaching}
+use Rattle.report.specs.Attach.{lent, roomRules, longEnough, request, attaching}
 use Rattle.plan.specs.Headers.{dataEnd, newSize, newFlag, newCrc, newVid, oldCounter, newEc}
 use Rattle.plan.specs.Begin.{refusal13, mapped, refusal15, refusal16, refusal17, makePlan, planOf, beginning}
 use Rattle.job.specs.Write.{Write, store, erase, nothing, appliedWhole, appliedCut}
@@ -78,8 +78,8 @@ abc = 0x61 ∷ 0x62 ∷ 0x63 ∷ []
 pebOf : ℕ → VidHeader → List ℕ → List ℕ
 pebOf counter h leb = ecBytes (ec counter) ++ vidBytes h ++ leb
 
--- "four PEBs with counters 3, 5, 9, 4 holding layout LEBs 0 and 1 (sequences 1, 2), volume 0 LEB 0 (sequence 3, dynamic, "abc" and then
--- 0xFF) and nothing"
+-- "four PEBs with counters 3, 5, 9, 4 holding layout LEBs 0 and 1 (sequences 1, 2), volume 0 LEB 0 (sequence 3,
+-- dynamic, "abc" and then 0xFF) and nothing"
 pub image : List ℕ
 image =
     pebOf 3 (vid layoutVolume 0 5 1) layout ++ pebOf 5 (vid layoutVolume 1 5 2) layout ++ pebOf 9 (vid 0 0 0 3) (abc ++ replicate 893 0xFF)
@@ -128,7 +128,7 @@ unfolding slip ec vid recordHead layout abc pebOf image plan eqs beFrom toBeOn t
     nameOf sameNames autoresizes tableRules tableTests tableGood takenLeb takenRecords allFF copyOf viewOf
     imageSeq viewRefusal refusal5678 refusal10 refusal9 pick chosen faceOf facesOf placesOf tableLeb
     tableRecords recordFor mapUpTo mapOf usedOf misfitIn misfitAt meanOf highestOf readOnlyOf classAt entries
-    refusal imageRules longEnough attaching dataEnd newSize newFlag newCrc newVid oldCounter newEc refusal13
+    refusal imageRules roomRules attaching dataEnd newSize newFlag newCrc newVid oldCounter newEc refusal13
     mapped refusal15 refusal16 refusal17 makePlan planOf beginning
 move-accepted = refl
 
@@ -161,7 +161,8 @@ shown (store at bs) = 1 ∷ at ∷ length bs ∷ []
 shown (erase at n) = 2 ∷ at ∷ n ∷ []
 shown nothing = []
 
--- the new headers: data size, flag, CRC and sequence; with unit 128; with no data; "free with 10", image sequence; "6 steps"
+-- the new headers: data size, flag, CRC and sequence; with unit 128; with no data; "free with 10", image sequence; "6
+-- steps"
 bench-headers :
     _≡_ {A = List ℕ}
     (newSize chip (copy chip abc) ∷ newFlag chip (copy chip abc) ∷ newCrc chip (copy chip abc) ∷ newVid chip 3 (copy chip abc) .sequence
