@@ -23,9 +23,6 @@ loop-again c =
     let w = c .before .before .args .words .now in
     (omega arith, rw length-set (l .inv .1), rw (l .inv .2) (fill-more (l .i) noWord w (omega arith)))
 
-same-length : tie.Need-same-length Inv-loop μ-loop
-same-length c = c .before .loop .inv .1
-
 returns : tie.Need-returns Inv-loop μ-loop
 returns c =
     let e : c .before .loop .i ≡ c .before .before .args .n = omega arith in
@@ -43,5 +40,5 @@ fill-words-spec =
     (λ c. search needs)
     (λ c. search needs)
     loop-again
-    same-length
+    (λ c. search needs)
     returns)

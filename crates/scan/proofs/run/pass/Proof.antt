@@ -6,7 +6,6 @@ use native.Mathlib.Nat.{mul-le-mul, mul-le-mul-right}
 use native.Mathlib.Omega.{arith}
 use borrow.Author.Needs.{needs}
 use lib.ListN.{length}
-use Rattle.base.proofs.Lists.{lent-length}
 use Rattle.words.specs.Words.{mostPebs}
 use Rattle.report.specs.View.{viewsOf, mediumOf}
 use Rattle.scan.proofs.Passes.{Passing, passing-none, pass-on, pass-refused, pass-whole}
@@ -27,20 +26,13 @@ loop-holds c =
     let m = mediumOf (a .g) (a .n) (a .image .now) in
     (omega arith, refl, refl, passing-none m (c .no-totals .ensures (viewsOf (a .g) (a .image .now))))
 
--- PEB i lies within the image
+-- the place of PEB i is small
 small-place : (c : tie.In-loop Inv-loop μ-loop)
     → let a = c .before .before .before .before .before .before .before .args in
     c .before .loop .i * a .g .«peb_size» ≤ mostPebs * 262144
 small-place c =
     let p = c .before .before .before .before .before .before .before .pre in
     mul-le-mul {n₁ = c .before .loop .i} {n₂ = mostPebs} (omega arith) (p .placed .peb-most)
-
-within : (c : tie.In-loop Inv-loop μ-loop)
-    → let a = c .before .before .before .before .before .before .before .args in
-    c .before .loop .i * a .g .«peb_size» + a .g .«peb_size» ≤ length (a .image .now)
-within c =
-    let a = c .before .before .before .before .before .before .before .args in
-    omega (arith, mul-le-mul-right {m = c .before .loop .i + 1} {n = a .n} (a .g .«peb_size») (omega arith))
 
 mul-at : tie.Need-mul-at Inv-loop μ-loop
 mul-at c = record { fits = omega (arith, small-place c) }
@@ -51,34 +43,9 @@ add-pass-peb c =
     record { fits = omega (arith, small-place c, p .placed .peb-most) }
 
 part-pass-peb-end : tie.Need-part-pass-peb-end Inv-loop μ-loop
-part-pass-peb-end c = omega (arith, within c)
-
-pass-peb-requires : tie.Need-pass-peb-requires Inv-loop μ-loop
-pass-peb-requires c κs =
-    let b = c .before .before .before in
-    let d = b .before .before .before .before .before .before .before in
-    let a = d .args in
-    let t = b .before .loop .inv .3 .totals in
-    record {
-      placed = d .pre .placed;
-      whole = lent-length (b .before .loop .i * a .g .«peb_size») (a .g .«peb_size») (a .image .now) (within b);
-      few = omega arith;
-      has-peb = omega arith;
-      has-entry = omega arith;
-      small = record {
-        counters-small = omega (arith, t .counters-small, t .good-few);
-        good-few = omega (arith, t .good-few);
-      };
-    }
-
--- i is below n, which is small
-few : (c : tie.After-pass-peb Inv-loop μ-loop) → c .before .before .before .before .before .loop .i + 1 ≤ mostPebs
-few c =
-    let l = c .before .before .before .before in
-    omega (arith, l .loop-test .taken, l .before .before .before .before .before .before .before .pre .few)
-
-cast-t22 : tie.Need-cast-t22 Inv-loop μ-loop
-cast-t22 c = omega (arith, few (c .before .before .before .before .before .before .before))
+part-pass-peb-end c =
+    let a = c .before .before .before .before .before .before .before .args in
+    omega (arith, mul-le-mul-right {m = c .before .loop .i + 1} {n = a .n} (a .g .«peb_size») (omega arith))
 
 returns : tie.Need-returns Inv-loop μ-loop
 returns c =
@@ -86,9 +53,6 @@ returns c =
     let a = d .before .before .before .before .before .before .before .before .before .before .before .args in
     pass-refused (a .g) (a .n) (a .image .now) (d .before .before .before .before .before .loop .inv .3) (omega arith)
     (d .pass-peb .ensures) (c .if1 .taken)
-
-add-i : tie.Need-add-i Inv-loop μ-loop
-add-i c = record { fits = omega (arith, few (c .before .before .before .before .before .before .before)) }
 
 loop-again : tie.Need-loop-again Inv-loop μ-loop
 loop-again c =
@@ -100,12 +64,6 @@ loop-again c =
       search needs,
       pass-on (a .g) (a .n) (a .image .now) o (omega arith) (d .pass-peb .ensures) (c .if1 .left),
     )
-
-same-length-3 : tie.Need-same-length-3 Inv-loop μ-loop
-same-length-3 c = c .before .loop .inv .1
-
-same-length-4 : tie.Need-same-length-4 Inv-loop μ-loop
-same-length-4 c = c .before .loop .inv .2
 
 returns-2 : tie.Need-returns-2 Inv-loop μ-loop
 returns-2 c =
@@ -127,14 +85,14 @@ pass-spec =
     (λ c. search needs)
     (λ c. search needs)
     part-pass-peb-end
-    pass-peb-requires
-    cast-t22
+    (λ c κs. search needs)
+    (λ c. search needs)
     (λ c. search needs)
     (λ c. search needs)
     returns
-    add-i
+    (λ c. search needs)
     (λ c. search needs)
     loop-again
-    same-length-3
-    same-length-4
+    (λ c. search needs)
+    (λ c. search needs)
     returns-2)

@@ -41,12 +41,6 @@ first-counter-requires c κs =
     let a = d .before .before .before .before .args in
     rw (d .see-ec .ensures) (small-view (a .g) (a .p .now))
 
-store-key-requires : tie.Need-store-key-requires
-store-key-requires c κs =
-    let d = c .before .before .before .before .before .before .before .before in
-    let p = d .before .before .before .before .before .before .before .before .before .pre in
-    (p .few, p .has-entry)
-
 returns-3 : tie.Need-returns-3
 returns-3 c =
     let q = c .before .before .before .before in
@@ -73,7 +67,7 @@ pass-peb-spec =
     (λ c κs. search needs)
     first-counter-requires
     (λ c κs. search needs)
-    store-key-requires
+    (λ c κs. search needs)
     (λ c κs. search needs)
     (λ c κs. search needs)
     (λ c. search needs)

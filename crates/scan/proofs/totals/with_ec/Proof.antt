@@ -11,15 +11,6 @@ with-good-ec-requires c κs =
 returns : tie.Need-returns
 returns c = rw (c .before .before .e .given .1) (c .with-good-ec .ensures)
 
-returns-2 : tie.Need-returns-2
-returns-2 c = rw (c .enum-told .given .1)
-
-returns-3 : tie.Need-returns-3
-returns-3 c = rw (c .enum-told2 .given .1)
-
-returns-4 : tie.Need-returns-4
-returns-4 c = rw (c .enum-told3 .given .1)
-
 pub with-ec-spec : {M : Type 1} → statement M
 with-ec-spec =
     tie.close
@@ -28,8 +19,8 @@ with-ec-spec =
     with-good-ec-requires
     returns
     (λ c. search needs)
-    returns-2
     (λ c. search needs)
-    returns-3
     (λ c. search needs)
-    returns-4)
+    (λ c. search needs)
+    (λ c. search needs)
+    (λ c. search needs))
