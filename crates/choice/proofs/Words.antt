@@ -18,7 +18,7 @@ use Rattle.report.specs.Scratch.{keyWords}
 use Rattle.base.proofs.Answers.{none-some}
 use Rattle.copies.specs.InPlace.{copyAt}
 use Rattle.copies.proofs.Copies.{copy-is}
-use Rattle.choice.specs.Keyed.{Keyed, Within, sequenceAt, sameLeb, repeatsAt}
+use Rattle.choice.specs.Keyed.{Holds, Keyed, Within, sequenceAt, sameLeb, repeatsAt}
 
 -- ---- the words of one PEB
 
@@ -69,7 +69,7 @@ module _ {g : Geometry} {image : List ℕ} {n : ℕ} {map : List ℕ} (d : Keyed
     words = omega (arith, d .long);
   }
 
-  pub held : (volumeWord map i ≡ noWord → ⊥) → Held g image map i
+  pub held : Holds map i → Held g image map i
   held n =
       let w = named i (viewsOf g image i .vid)
       (λ (e : getD (keyWords i (viewsOf g image i .vid)) 0 0 ≡ noWord). n (d .volumes i h ∙ e)) in
@@ -134,7 +134,7 @@ module _ {g : Geometry} {image : List ℕ} {n : ℕ} {map : List ℕ} (d : Keyed
   abbrev cs : ℕ → Option Copy
   cs = copies (viewsOf g image)
 
-  pub repeat-words : repeats (cs i) (cs j) ≡ true → (volumeWord map i ≡ noWord → ⊥) × (sameLeb map i j ≡ true)
+  pub repeat-words : repeats (cs i) (cs j) ≡ true → (Holds map i) × (sameLeb map i j ≡ true)
   repeat-words e =
       let r = repeat-of (cs i) (cs j) e in
       let a = has-words d i h (r .c) (r .is) (r .mappable) in
@@ -143,7 +143,7 @@ module _ {g : Geometry} {image : List ℕ} {n : ℕ} {map : List ℕ} (d : Keyed
         true-same map i j (a .0 ∙ r .volume ∙ sym (b .0)) (a .1 ∙ r .leb ∙ sym (b .1)),
       )
 
-  pub repeat-sequence : (volumeWord map i ≡ noWord → ⊥) → sameLeb map i j ≡ true
+  pub repeat-sequence : Holds map i → sameLeb map i j ≡ true
       → repeats (cs i) (cs j) ≡ eqb (sequenceAt g image i) (sequenceAt g image j)
   unfolding copyOf
   repeat-sequence z s =
