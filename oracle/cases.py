@@ -80,7 +80,7 @@ class Cases:
         return answer
 
     def stdin(self):
-        return b"".join(frames.frame(payload) for payload in self.payloads)
+        return frames.framed(self.payloads)
 
     def stdout(self):
         return "".join(answer + "\n" for answer in self.answers).encode("ascii")
@@ -92,6 +92,21 @@ class Cases:
             for kind in self.kinds_of(payload, answer):
                 counts[kind] = counts.get(kind, 0) + 1
         return counts
+
+
+def together(parts):
+    """The cases of several parts, by name, as those of one program.
+
+    Before a payload stands a byte: its part's number, from 1.
+    """
+    whole = Cases(None, lambda payload, answer: [
+        parts[payload[0] - 1][0] + " " + kind
+        for kind in parts[payload[0] - 1][1].kinds_of(payload[1:], answer)])
+    for number, (_, cases) in enumerate(parts, 1):
+        whole.payloads += [bytes([number]) + payload
+                           for payload in cases.payloads]
+        whole.answers += cases.answers
+    return whole
 
 
 def cycle(choices):

@@ -32,7 +32,7 @@ def add_bench(probes):
     slip, image = attach.bench_input()
     # Once as short patches, once as one over others that it hides.
     lent = (8, 12, 128)
-    erased = frames.attach_payload(slip, lent, b"\xff" * 4096)
+    hidden = [frames.patch(1000, bytes(200)), frames.patch(0, image)]
     wanted = (
         "attached 4 entries 3 mean 5 highest 3 readonly 0 table 0 copies 0 "
         "grade 0\n"
@@ -40,8 +40,8 @@ def add_bench(probes):
         "map 0*2 2 2147479551 0*2 2147479551 1*2 4294967295*3\n"
         "states 1 0*127")
     for payload in (frames.attach_payload(slip, lent, image),
-                    erased + frames.patch(1000, bytes(200))
-                    + frames.patch(0, image)):
+                    frames.attach_head(slip, lent, len(image))
+                    + frames.counted(hidden)):
         assert probes.cases.add(payload) == wanted
     # The same four PEBs in other orders.
     pebs = [image[at:at + 1024] for at in range(0, 4096, 1024)]

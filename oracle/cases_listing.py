@@ -536,7 +536,7 @@ def add_random(probes):
     added = 0
     while added < 155:
         data = random_dump(chance)
-        if len(frames.listing_payload(data, ROOM)) > 4000:
+        if len(frames.listing_payload(data, ROOM)) > 4002:
             continue
         room = next(rooms)
         probes.dump(data, len(listing(data)) if room is None else room)

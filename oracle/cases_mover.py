@@ -20,6 +20,7 @@ from images import Flash
 def mover_cases():
     moves = Moves()
     add_bench_case(moves)
+    add_look_ups(moves)
     add_begin_cases(moves)
     add_source_cases(moves)
     add_step_cases(moves)
@@ -109,6 +110,23 @@ def add_bench_case(moves):
     wants(text, "attached 4 entries 3 mean 5 highest 4 readonly 0 table 0 "
                 "copies 0 grade 0\npebs 1 3 1 5 0 10 1 4\nmap 0*2 3")
     moves.add(script)
+
+
+def add_look_ups(moves):
+    """01's image: each PEB and LEB, others, and tables that are too short."""
+    slip, image = attach.bench_input()
+    for lent in ((8, 12, 128), (7, 8, 128), (0, 0, 128)):
+        script = Script(slip, lent, image)
+        script.attach()
+        for peb_count in (0, 3, 4, 5, 2 ** 32 - 1):
+            for peb in (0, 2, 3, 4, 2 ** 31, 2 ** 32 - 1):
+                script.look_up(peb_count, peb, 3, 0, 0)
+        layout, most = ubi.LAYOUT_VOLUME, 2 ** 32 - 1
+        for entries in (0, 2, 3, 4, 5, most):
+            for volume, leb in ((0, 0), (0, 1), (1, 0), (layout, 0),
+                                (layout, 1), (most, most)):
+                script.look_up(4, 0, entries, volume, leb)
+        moves.add(script)
 
 
 def add_random_lists(moves):

@@ -17,6 +17,7 @@ def add_step_cases(moves):
         add_ec_headers(moves, flash)
     add_other_sizes(moves)
     add_nothing_beyond(moves)
+    add_finishes(moves)
     add_plans_by_chance(moves)
 
 
@@ -193,6 +194,26 @@ def add_nothing_beyond(moves):
             if size <= flash.leb_size:
                 whole_run(moves, flash, base._replace(
                     vid=base.vid._replace(data_size=size)))
+
+
+def add_finishes(moves):
+    """The rest of a move at once, from each step, and once more."""
+    for flash in (moves.small, moves.units, moves.gaps):
+        base = plan_for(flash)
+        last = step_count(base)
+        for steps in range(last + 2):
+            script = moves.script(flash, chip(flash))
+            script.step_plan(base._replace(steps=steps))
+            assert script.finish().startswith("finished done ")
+            script.attach()
+            script.finish()
+            moves.add(script)
+        script = moves.script(flash, chip(flash))
+        for change in ({"unit": 0}, {"old": 4}, {"target": 4},
+                       {"target": base.old}, {"peb_size": 1}):
+            script.step_plan(base._replace(**change))
+            assert script.finish().startswith("finished refused 18 at 0 ")
+        moves.add(script)
 
 
 def add_plans_by_chance(moves):

@@ -27,7 +27,7 @@ import ubi  # noqa: E402
 from cases import Chance  # noqa: E402
 from cases_mover_random import (  # noqa: E402
     random_chip, random_move, random_stop)
-from frames import frame  # noqa: E402
+from frames import framed  # noqa: E402
 from frames_mover import Script, mover_answer  # noqa: E402
 from programs import chosen_by, keep  # noqa: E402
 
@@ -199,7 +199,7 @@ def random_list(chance, counts):
         counts.add("lists ended by the premise")
     except (AssertionError, ubi.Refused) as failed:
         print("a list fails (%s), its case in %s" % (
-            failed, keep(frame(walk.script.payload()), "test_mover-",
+            failed, keep(framed([walk.script.payload()]), "test_mover-",
                          ".stdin")))
         raise
     walk.script.attach()
@@ -210,7 +210,7 @@ def random_list(chance, counts):
 
 def agrees(program, payloads):
     """Whether a test program prints for each case what the oracle does."""
-    stdin = b"".join(frame(payload) for payload in payloads)
+    stdin = framed(payloads)
     wanted = "".join(mover_answer(payload) + "\n" for payload in payloads)
     process = subprocess.run([program], input=stdin, timeout=SECONDS,
                              stdout=subprocess.PIPE)

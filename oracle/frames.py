@@ -13,9 +13,19 @@ import listing
 import ubi
 
 
-def frame(payload):
-    """One case of `stdin`: two bytes of length, then the payload."""
-    return len(payload).to_bytes(2, "big") + payload
+def framed(payloads):
+    """`stdin` of these cases: their number in four bytes, then each."""
+    return len(payloads).to_bytes(4, "big") + b"".join(map(part, payloads))
+
+
+def part(data):
+    """Two bytes of length, then the bytes: a case, or a part of one."""
+    return len(data).to_bytes(2, "big") + data
+
+
+def counted(parts):
+    """The number of parts in two bytes, then each."""
+    return len(parts).to_bytes(2, "big") + b"".join(parts)
 
 
 def line(*words):
@@ -162,8 +172,8 @@ NOT_ERASED = re.compile(b"[^\xff]+(?:\xff{1,6}[^\xff]+)*")
 
 
 def as_patches(data):
-    """The length of the bytes, and their runs of other bytes than 0xFF."""
-    return len(data).to_bytes(4, "big") + b"".join(patches_of(data))
+    """The runs of other bytes than 0xFF."""
+    return counted(patches_of(data))
 
 
 def patches_of(data):
@@ -176,12 +186,10 @@ def patch(offset, data):
     return offset.to_bytes(4, "big") + len(data).to_bytes(2, "big") + data
 
 
-def patched(fields, most):
-    """The bytes again, from the rest of a payload."""
-    size = fields.number(4)
-    assert size <= most
-    data = bytearray(b"\xff" * size)
-    while not fields.at_end():
+def patched(fields, data):
+    """The bytes with the next patches of a payload written over them."""
+    data = bytearray(data)
+    for _ in range(fields.number(2)):
         apply_patch(fields, data)
     return bytes(data)
 
@@ -199,19 +207,25 @@ LENT_BEFORE = 0xDEADBEEF
 MAX_IMAGE = 262144
 MAX_LENT_WORDS = 16384
 
+
 def attach_payload(slip, lent_lengths, image):
-    parts = [len(slip).to_bytes(2, "big"), slip]
-    parts += [length.to_bytes(2, "big") for length in lent_lengths]
-    return b"".join(parts) + as_patches(image)
+    return attach_head(slip, lent_lengths, len(image)) + as_patches(image)
 
 
-def attach_parts(payload):
+def attach_head(slip, lent_lengths, size):
+    """What stands before the patches."""
+    parts = [length.to_bytes(2, "big") for length in lent_lengths]
+    return b"".join(parts + [size.to_bytes(4, "big"), part(slip)])
+
+
+def attach_parts(fields):
     """Slip, lent tables before the call, and image of a payload."""
-    fields = Fields(payload)
-    slip = fields.bytes(fields.number(2))
     lengths = [fields.number(2) for _ in attach.Lent._fields]
     assert max(lengths) <= MAX_LENT_WORDS
-    image = patched(fields, MAX_IMAGE)
+    size = fields.number(4)
+    assert size <= MAX_IMAGE
+    slip = fields.bytes(fields.number(2))
+    image = patched(fields, b"\xff" * size)
     lent = attach.Lent(*([LENT_BEFORE] * length for length in lengths))
     return slip, lent, image
 
@@ -229,15 +243,24 @@ def words_in_runs(words):
 
 
 def attach_answer(payload):
-    slip, lent, image = attach_parts(payload)
+    fields = Fields(payload)
+    slip, lent, image = attach_parts(fields)
+    assert fields.at_end()
+    return attach_lines(slip, image, lent)
+
+
+def attach_lines(slip, image, lent):
     try:
         first = attach.first_line(attach.attach(slip, image, lent))
     except ubi.Refused as refused:
         first = attach.refusal_line(refused)
-    lines = [first]
-    for name, words in zip(attach.Lent._fields, lent):
-        lines.append(line(name, *words_in_runs(words)))
-    return "\n".join(lines)
+    return "\n".join([first] + tables_lines(lent))
+
+
+def tables_lines(lent):
+    """All words of the lent tables, a line for each."""
+    return [line(name, *words_in_runs(words))
+            for name, words in zip(attach.Lent._fields, lent)]
 
 
 class AttachAnswer:
@@ -295,16 +318,19 @@ def listing_payload(data, room):
     Of more input than the program holds only the first bytes are stored.
     """
     more = len(data) > listing.MOST_INPUT
+    held = data[:listing.MOST_INPUT]
     return (bytes([more]) + room.to_bytes(4, "big")
-            + as_patches(data[:listing.MOST_INPUT]))
+            + len(held).to_bytes(4, "big") + as_patches(held))
 
 
 def listing_parts(payload):
     """The bytes held, whether there were more, and the buffer's length."""
     fields = Fields(payload)
     more, room = fields.number(1), fields.number(4)
-    held = patched(fields, listing.MOST_INPUT)
-    assert room <= MAX_ROOM
+    size = fields.number(4)
+    assert size <= listing.MOST_INPUT and room <= MAX_ROOM
+    held = patched(fields, b"\xff" * size)
+    assert fields.at_end()
     assert more == 0 or more == 1 and len(held) == listing.MOST_INPUT
     return held, more, room
 

@@ -9,9 +9,10 @@ import attach
 import mover
 import ubi
 from frames import (LENT_BEFORE, MAX_IMAGE, MAX_LENT_WORDS, Fields,
-                    apply_patch, line, patch, patches_of, words_in_runs)
+                    as_patches, attach_head, attach_lines, attach_parts,
+                    counted, line, part, patch, patched, tables_lines)
 
-BEGIN, STEP, RUN, STEP_PLAN, CUT, ATTACH = range(1, 7)
+BEGIN, PLAN, RUN, FINISH, CUT, ATTACH, LOOK_UP = range(1, 8)
 
 # The numbers of a plan with their widths, in the order of payloads and
 # lines: the two headers' fields in the order of their bytes.
@@ -40,26 +41,15 @@ def plan_from(fields):
     return mover.Plan(*(front + [vid, ec, fields.number(STEPS_WIDTH)]))
 
 
-def counted(patches):
-    return len(patches).to_bytes(2, "big") + b"".join(patches)
-
-
-def words_crc(words):
-    return ubi.jamcrc(b"".join(word.to_bytes(4, "big") for word in words))
-
-
 # ------------------------------------------------------------- operations
 
 class Bench:
     """What the calls of one case leave behind them."""
 
-    def __init__(self, slip, lent_lengths, image):
-        assert len(image) <= MAX_IMAGE
-        assert max(lent_lengths) <= MAX_LENT_WORDS
+    def __init__(self, slip, lent, image):
         self.slip = slip
         self.image = image
-        self.lent = attach.Lent(*([LENT_BEFORE] * length
-                                  for length in lent_lengths))
+        self.lent = lent
         self.plan = None
 
     def begin(self, volume, leb, target):
@@ -70,7 +60,8 @@ class Bench:
             words = ["planned"] + plan_numbers(self.plan)
         except ubi.Refused as refused:
             words = [attach.refusal_line(refused)]
-        return line(*(words + self.tables_words() + self.image_words()))
+        first = line(*(words + self.image_words()))
+        return "\n".join([first] + tables_lines(self.lent))
 
     def one_step(self):
         """The answer, with the number of steps run if it is `on`."""
@@ -82,9 +73,6 @@ class Bench:
         if answer == mover.ON:
             return line(answer, self.plan.steps)
         return answer
-
-    def step(self):
-        return line(self.one_step(), *self.image_words())
 
     def run(self, most):
         """Steps until one does not answer `on`, at most so many."""
@@ -98,9 +86,26 @@ class Bench:
             went_on += 1
         return line("ran", went_on, answer, *self.image_words())
 
-    def step_plan(self, plan):
+    def finish(self):
+        """All steps that are left; the plan stays as it is."""
+        plan = self.plan
+        answer = mover.ON
+        while answer.startswith(mover.ON):
+            answer = self.one_step()
         self.plan = plan
-        return self.step()
+        return line("finished", answer, *self.image_words())
+
+    def look_up(self, peb_count, peb, entries, volume, leb):
+        """What tables of so many PEBs and entries say; all need be there."""
+        pebs, entry = self.lent.pebs, self.lent.map
+        words = ["absent"]
+        if peb < peb_count and 2 * peb + 2 <= len(pebs):
+            words = pebs[2 * peb:2 * peb + 2]
+        places = ["absent"]
+        if 3 * entries <= len(entry):
+            places = [entry[3 * at + 2] for at in range(entries)
+                      if entry[3 * at:3 * at + 2] == [volume, leb]] + places
+        return line("peb", *(words + ["leb", places[0]] + self.image_words()))
 
     def cut(self, image):
         assert len(image) == len(self.image)
@@ -108,63 +113,49 @@ class Bench:
         return line("cut", *self.image_words())
 
     def attach(self):
-        try:
-            first = attach.first_line(
-                attach.attach(self.slip, self.image, self.lent))
-        except ubi.Refused as refused:
-            first = attach.refusal_line(refused)
-        lines = [first]
-        for name, words in zip(attach.Lent._fields, self.lent):
-            lines.append(line(name, *words_in_runs(words)))
-        last = self.tables_words() + self.image_words()
-        return "\n".join(lines + [line(*last)])
-
-    def tables_words(self):
-        return ["tables"] + [words_crc(words) for words in self.lent]
+        lines = attach_lines(self.slip, self.image, self.lent)
+        return lines + "\n" + line(*self.image_words())
 
     def image_words(self):
         return ["image", ubi.jamcrc(self.image)]
 
 
-def bench_from(fields):
-    """Slip, lent tables and image, from the front of a payload."""
-    slip = fields.bytes(fields.number(2))
-    lengths = [fields.number(2) for _ in attach.Lent._fields]
-    size = fields.number(4)
-    assert size <= MAX_IMAGE
-    image = bytearray(b"\xff" * size)
-    for _ in range(fields.number(2)):
-        apply_patch(fields, image)
-    return Bench(slip, lengths, bytes(image))
+def operation_lines(bench, operation_bytes):
+    """The line or lines of an operation."""
+    fields = Fields(operation_bytes)
+    answer = answer_of(bench, fields)
+    assert fields.at_end()
+    return answer
 
 
-def operation_line(bench, fields):
-    """The line or lines of the next operation of a payload."""
+def answer_of(bench, fields):
     operation = fields.number(1)
     if operation == BEGIN:
         return bench.begin(*[fields.number(4) for _ in range(3)])
-    if operation == STEP:
-        return bench.step()
+    if operation == PLAN:
+        bench.plan = plan_from(fields)
+        return ""
     if operation == RUN:
         return bench.run(fields.number(2))
-    if operation == STEP_PLAN:
-        return bench.step_plan(plan_from(fields))
     if operation == CUT:
-        image = bytearray(bench.image)
-        for _ in range(fields.number(2)):
-            apply_patch(fields, image)
-        return bench.cut(bytes(image))
+        return bench.cut(patched(fields, bench.image))
+    if operation == FINISH:
+        return bench.finish()
+    if operation == LOOK_UP:
+        return bench.look_up(*[fields.number(4) for _ in range(5)])
     assert operation == ATTACH, "no such operation"
     return bench.attach()
 
 
 def mover_answer(payload):
     fields = Fields(payload)
-    bench = bench_from(fields)
+    bench = Bench(*attach_parts(fields))
     lines = []
-    while not fields.at_end():
-        lines.append(operation_line(bench, fields))
-    return "\n".join(lines)
+    for _ in range(fields.number(2)):
+        operation_bytes = fields.bytes(fields.number(2))
+        lines.append(operation_lines(bench, operation_bytes))
+    assert fields.at_end()
+    return "\n".join(filter(None, lines))
 
 
 # ------------------------------------------------------- writing payloads
@@ -173,11 +164,14 @@ class Script:
     """A case in the making: each operation is carried out and noted."""
 
     def __init__(self, slip, lent_lengths, image):
-        self.bench = Bench(slip, lent_lengths, image)
-        self.parts = [len(slip).to_bytes(2, "big"), slip]
-        self.parts += [length.to_bytes(2, "big") for length in lent_lengths]
-        self.parts += [len(image).to_bytes(4, "big"),
-                       counted(patches_of(image))]
+        assert len(image) <= MAX_IMAGE
+        assert max(lent_lengths) <= MAX_LENT_WORDS
+        lent = attach.Lent(*([LENT_BEFORE] * length
+                             for length in lent_lengths))
+        self.bench = Bench(slip, lent, image)
+        self.head = attach_head(slip, lent_lengths, len(image))
+        self.head += as_patches(image)
+        self.operations = []
 
     @property
     def image(self):
@@ -188,31 +182,41 @@ class Script:
         return self.bench.plan
 
     def note(self, operation, *parts):
-        self.parts += [bytes([operation])] + list(parts)
+        self.operations.append(part(bytes([operation]) + b"".join(parts)))
 
     def payload(self):
-        return b"".join(self.parts)
+        return self.head + counted(self.operations)
 
     def begin(self, volume, leb, target):
-        self.note(BEGIN, *[number.to_bytes(4, "big")
-                           for number in (volume, leb, target)])
+        self.note(BEGIN, *words_bytes(volume, leb, target))
         return self.bench.begin(volume, leb, target)
 
     def step(self):
-        self.note(STEP)
-        return self.bench.step()
+        """One step; gives its answer alone."""
+        return self.run(1).split(" ", 2)[2]
 
     def run(self, most):
         self.note(RUN, most.to_bytes(2, "big"))
         return self.bench.run(most)
 
     def step_plan(self, plan):
-        self.note(STEP_PLAN, plan_bytes(plan))
-        return self.bench.step_plan(plan)
+        """One step of a given plan."""
+        self.note(PLAN, plan_bytes(plan))
+        self.bench.plan = plan
+        return self.step()
 
     def attach(self):
         self.note(ATTACH)
         return self.bench.attach()
+
+    def finish(self):
+        self.note(FINISH)
+        return self.bench.finish()
+
+    def look_up(self, *numbers):
+        """PEB count, PEB, number of entries, volume and LEB."""
+        self.note(LOOK_UP, *words_bytes(*numbers))
+        return self.bench.look_up(*numbers)
 
     def cut(self, cut):
         """The plan's next step as a cut of it leaves the image."""
@@ -224,6 +228,10 @@ class Script:
         """Another image of the same length, noted as what differs."""
         self.note(CUT, counted(patches_between(self.image, image)))
         return self.bench.cut(image)
+
+
+def words_bytes(*numbers):
+    return [number.to_bytes(4, "big") for number in numbers]
 
 
 def patches_between(before, after):
@@ -242,14 +250,13 @@ def patches_between(before, after):
 # ------------------------------------------------------------------ kinds
 
 # The operation that a line belongs to, by its first word.
-OPERATION_OF = {"planned": "begin", "on": "step", "done": "step",
-                "ran": "run", "attached": "attach"}
+OPERATION_OF = {"planned": "begin", "attached": "attach"}
 
 
 def mover_kinds(payload, answer):
     """What each operation answered, from its line: all are counted."""
     return [kind_of_line(text.split(" ")) for text in answer.split("\n")
-            if text.split(" ")[0] not in ("pebs", "map", "states", "tables")]
+            if text.split(" ")[0] not in ("pebs", "map", "states", "image")]
 
 
 def kind_of_line(words):
@@ -258,13 +265,21 @@ def kind_of_line(words):
     if words[0] == "ran":
         # Behind the number of steps stands what the last one answered.
         return "run " + refusal_or_first(words[2:])
+    if words[0] == "peb":
+        # Two words of a PEB, or one that none are there.
+        behind = words[2:] if words[1] == "absent" else words[3:]
+        return "peb %s leb %s" % (given(words[1]), given(behind[1]))
+    if words[0] == "finished":
+        return "finish " + refusal_or_first(words[1:])
     if words[0] == "refused":
-        behind = words[4:5] or [""]
-        operation = {"tables": "begin", "image": "step", "": "attach"}[
-            behind[0]]
+        operation = "begin" if words[4:] else "attach"
     else:
         operation = OPERATION_OF[words[0]]
     return operation + " " + refusal_or_first(words)
+
+
+def given(word):
+    return word if word == "absent" else "given"
 
 
 def refusal_or_first(words):

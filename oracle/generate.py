@@ -18,6 +18,7 @@ import listing  # noqa: E402
 import mover  # noqa: E402
 import samples  # noqa: E402
 import ubi  # noqa: E402
+from cases import together  # noqa: E402
 from cases_attach import attach_cases  # noqa: E402
 from cases_crc import crc_cases  # noqa: E402
 from cases_header import header_cases  # noqa: E402
@@ -28,47 +29,48 @@ from cases_table import table_cases  # noqa: E402
 
 ROOT = os.path.dirname(HERE)
 
+
+def media_cases():
+    """Those of the media format's parts."""
+    return together([("crc", crc_cases()), ("slip", slip_cases()),
+                     ("header", header_cases()), ("table", table_cases())])
+
+
 # For each test program: its cases, the bytes its input stays below, and how
 # many cases there are of each kind of answer; an answer of test_attach or
 # test_listing is of several kinds, and of test_mover each operation is
 # counted. The numbers stand here so that a generator that loses a case does
 # not go unseen; who adds cases counts them again.
 PROGRAMS = (
-    ("test_crc", crc_cases, 1000000, {
-        "bytes": 937,
-        "empty": 38,
-    }),
-    ("test_slip", slip_cases, 500000, {
-        "good": 564,
-        "refused 1": 595,
-        "refused 2": 945,
-    }),
-    ("test_header", header_cases, 1000000, {
-        "op 1 good": 151,
-        "op 1 lost": 436,
-        "op 1 newer": 77,
-        "op 1 refused 4": 67,
-        "op 2 bad": 1438,
-        "op 2 good": 394,
-        "op 2 newer": 117,
-        "op 2 refused 4": 71,
-        "op 3 refused 19": 148,
-        "op 3 refused 4": 50,
-        "op 3 written": 97,
-        "op 4 refused 19": 1195,
-        "op 4 refused 4": 44,
-        "op 4 written": 366,
-    }),
-    ("test_table", table_cases, 1500000, {
-        "op 1 bad": 818,
-        "op 1 empty": 9,
-        "op 1 good": 298,
-        "op 1 refused 4": 35,
-        "op 2 taken 0 mark 0": 137,
-        "op 2 taken 0 mark 1": 228,
-        "op 2 taken 0 mark 2": 183,
-        "op 2 taken 1 mark 1": 197,
-        "op 2 taken 2 mark 1": 353,
+    ("test_media", media_cases, 4000000, {
+        "crc bytes": 937,
+        "crc empty": 38,
+        "slip good": 564,
+        "slip refused 1": 595,
+        "slip refused 2": 945,
+        "header op 1 good": 151,
+        "header op 1 lost": 436,
+        "header op 1 newer": 77,
+        "header op 1 refused 4": 67,
+        "header op 2 bad": 1438,
+        "header op 2 good": 394,
+        "header op 2 newer": 117,
+        "header op 2 refused 4": 71,
+        "header op 3 refused 19": 148,
+        "header op 3 refused 4": 50,
+        "header op 3 written": 97,
+        "header op 4 refused 19": 1195,
+        "header op 4 refused 4": 44,
+        "header op 4 written": 366,
+        "table op 1 bad": 818,
+        "table op 1 empty": 9,
+        "table op 1 good": 298,
+        "table op 1 refused 4": 35,
+        "table op 2 taken 0 mark 0": 137,
+        "table op 2 taken 0 mark 1": 228,
+        "table op 2 taken 0 mark 2": 183,
+        "table op 2 taken 1 mark 1": 197,
+        "table op 2 taken 2 mark 1": 353,
     }),
     ("test_attach", attach_cases, 3000000, {
         "attached": 1426,
@@ -156,9 +158,10 @@ PROGRAMS = (
         "text too long": 151,
     }),
     ("test_mover", mover_cases, 3000000, {
-        "attach attached": 912,
+        "attach attached": 931,
         "attach refused 11": 17,
         "attach refused 12": 2,
+        "attach refused 4": 2,
         "attach refused 9": 2,
         "begin planned": 768,
         "begin refused 1": 4,
@@ -179,12 +182,15 @@ PROGRAMS = (
         "begin refused 8": 2,
         "begin refused 9": 2,
         "cut": 371,
-        "run done": 566,
-        "run on": 211,
-        "run refused 18": 44,
-        "step done": 64,
-        "step on": 172,
-        "step refused 18": 661,
+        "finish done": 36,
+        "finish refused 18": 15,
+        "peb absent leb absent": 88,
+        "peb absent leb given": 19,
+        "peb given leb absent": 71,
+        "peb given leb given": 20,
+        "run done": 636,
+        "run on": 395,
+        "run refused 18": 720,
     }),
 )
 
@@ -206,7 +212,7 @@ def self_check(name, cases, limit, expected):
         assert stdout.count(b"\nend\n") == len(cases.payloads)
     elif name == "test_mover":
         # The image's checksum once for each operation.
-        assert stdout.count(b" image ") == sum(kinds.values())
+        assert stdout.count(b"image ") == sum(kinds.values())
     else:
         lines = LINES_OF_ANSWER.get(name, 1)
         assert stdout.count(b"\n") == lines * len(cases.payloads)
@@ -220,8 +226,8 @@ def self_check(name, cases, limit, expected):
 def unframe(stdin):
     """The payloads again, read as a test program would."""
     payloads = []
-    at = 0
-    while at < len(stdin):
+    at = 4
+    for _ in range(ubi.number_at(stdin, 0, 4)):
         length = ubi.number_at(stdin, at, 2)
         payloads.append(stdin[at + 2:at + 2 + length])
         at += 2 + length

@@ -1,39 +1,32 @@
 // Frames from standard input, and words to standard output: what the test programs share.
-ghost use mathlib.Core.Path.{_≡_};
-ghost use Prim.Native.Nat.{_+_, _≤_, _<_};
+ghost use Prim.Native.Nat.{_≤_, _<_};
 ghost use lib.ListN.{length};
-ghost use Rattle.frames.specs.Frame.{within, Onward};
 
-pub enum Frame {
-    // A payload of so many bytes, at the start of the buffer.
-    Payload(usize),
-    // No further whole frame that fits the buffer.
-    End,
+mod headers;
+
+pub use headers::ec_at;
+pub use headers::print_ec;
+pub use headers::print_vid;
+pub use headers::vid_at;
+
+// How many frames follow: the first four bytes, the highest first.
+pub fn count() -> u64 {
+    let mut head = [0u8; 4];
+    io::read_full(0, &mut head);
+    number_at(&head, 0, 4)
 }
 
-// Reads a length of two bytes, the highest first, and as many bytes of payload.
-pub fn next(buf: &mut [u8]) -> Frame
-    ensures { λ r. ⌜ within r (now (buf .exit)) ⌝ }
+// Reads a frame: a length of two bytes, the highest first, and as many bytes of payload. Answers the length; 0 if they are not all there.
+pub fn next(buf: &mut [u8]) -> usize
+    ensures { λ r. ⌜ r ≤ length (now (buf .exit)) ⌝ }
 {
     let mut head = [0u8; 2];
-    if io::read_full(0, &mut head) < 2 {
-        return Frame::End;
-    }
-    let n = wide(head[0]) * 256 + wide(head[1]);
-    if buf.len() < n {
-        return Frame::End;
-    }
+    io::read_full(0, &mut head);
+    let n = length_at(&head, 0, 2, buf.len());
     if io::read_full(0, &mut buf[0..n]) < n {
-        return Frame::End;
+        return 0;
     }
-    Frame::Payload(n)
-}
-
-// A byte as a number.
-pub fn wide(b: u8) -> usize
-    ensures { λ r. ⌜ (r ≡ b) × (r < 256) ⌝ }
-{
-    b as usize
+    n
 }
 
 // A number in decimal.
@@ -69,6 +62,26 @@ pub fn number_at(payload: &[u8], at: usize, width: usize) -> u64 {
     field::read(payload, at, width)
 }
 
+// The same in 32 bits.
+pub fn u32_at(payload: &[u8], at: usize) -> u32 {
+    (number_at(payload, at, 4) % 0x100000000) as u32
+}
+
+pub fn u8_at(payload: &[u8], at: usize) -> u8 {
+    (number_at(payload, at, 1) % 0x100) as u8
+}
+
+// The number in `width` bytes from `at` on, if it is at most `most`, else 0.
+pub fn length_at(payload: &[u8], at: usize, width: usize, most: usize) -> usize
+    ensures { λ r. ⌜ r ≤ most ⌝ }
+{
+    let n = number_at(payload, at, width) as usize;
+    if most < n {
+        return 0;
+    }
+    n
+}
+
 // What the payload has from `at` on.
 pub fn rest<'a>(payload: &'a [u8], at: usize) -> &'a [u8] {
     if payload.len() < at {
@@ -77,91 +90,130 @@ pub fn rest<'a>(payload: &'a [u8], at: usize) -> &'a [u8] {
     &payload[at..]
 }
 
+// Where a part of a payload stands.
+pub struct Part {
+    pub start: usize,
+    pub end: usize,
+}
+
+// The part at `at`: a length of two bytes, and as many bytes; none where the payload has not so many.
+pub fn part_at(payload: &[u8], at: usize) -> Part
+    requires { ⌜ at ≤ length (now payload) ⌝ }
+    ensures { λ r. ⌜ (r .start ≤ r .end) × (r .end ≤ length (now (payload .entry))) ⌝ }
+{
+    let start = onward(payload, at, 2);
+    let n = length_at(payload, at, 2, payload.len() - start);
+    Part {
+        start,
+        end: start + n,
+    }
+}
+
+// The bytes of the i-th part behind a number of parts.
+pub fn nth_part<'a>(payload: &'a [u8], i: u64) -> &'a [u8] {
+    let mut at = onward(payload, 0, 2);
+    for _ in 0..i {
+        at = part_at(payload, at).end;
+    }
+    bytes_at(payload, at)
+}
+
+// The bytes of the part at `at`.
+pub fn bytes_at<'a>(payload: &'a [u8], at: usize) -> &'a [u8]
+    requires { ⌜ at ≤ length (now payload) ⌝ }
+{
+    let part = part_at(payload, at);
+    let start = part.start;
+    let end = part.end;
+    &payload[start..end]
+}
+
+// The place n bytes on, or the end.
+fn onward(payload: &[u8], at: usize, n: usize) -> usize
+    requires { ⌜ at ≤ length (now payload) ⌝ }
+    ensures { λ r. ⌜ r ≤ length (now (payload .entry)) ⌝ }
+{
+    if payload.len() - at < n {
+        return payload.len();
+    }
+    at + n
+}
+
 // A patch at `at`: an offset, a length, and so many bytes that are written there. Answers the place after it; the end, where it is not whole or
 // does not fit.
-pub fn patch_at(image: &mut [u8], patches: &[u8], at: usize) -> usize
-    requires { ⌜ at ≤ length (now patches) ⌝ }
-    ensures { λ r. ⌜ Onward at r (length (now (patches .entry))) ⌝ }
+fn patch(image: &mut [u8], payload: &[u8], at: usize) -> usize
+    requires { ⌜ at ≤ length (now payload) ⌝ }
+    ensures { λ r. ⌜ r ≤ length (now (payload .entry)) ⌝ }
 {
-    let end = patches.len();
+    let end = payload.len();
     if end - at < 6 {
         return end;
     }
-    let from = number_at(patches, at, 4) as usize;
-    let n = number_at(patches, at + 4, 2) as usize;
     let start = at + 6;
+    let n = number_at(payload, at + 4, 2) as usize;
     if end - start < n {
         return end;
     }
     if image.len() < n {
         return end;
     }
-    if image.len() - n < from {
-        return end;
-    }
-    base::store(image, from, &patches[start..start + n]);
+    let from = length_at(payload, at, 4, image.len() - n);
+    base::store(image, from, &payload[start..start + n]);
     start + n
 }
 
-// All patches.
-pub fn patch(image: &mut [u8], patches: &[u8]) {
-    let mut at: usize = 0;
-    while at < patches.len() {
-        at = patch_at(image, patches, at);
+// A number of patches in two bytes, and the patches. Answers the place after them.
+pub fn patches(image: &mut [u8], payload: &[u8], at: usize) -> usize
+    requires { ⌜ at ≤ length (now payload) ⌝ }
+    ensures { λ r. ⌜ r ≤ length (now (payload .entry)) ⌝ }
+{
+    let mut end = onward(payload, at, 2);
+    for _ in 0..number_at(payload, at, 2) {
+        end = patch(image, payload, end);
     }
+    end
 }
 
 // Two digits for each byte.
 pub fn hex(bytes: &[u8]) {
-    let mut i: usize = 0;
-    while i < bytes.len() {
-        io::print_hex(1, wide(bytes[i]) as u64, 2);
-        i += 1;
+    for i in 0..bytes.len() {
+        hex_of(bytes[i]);
     }
 }
 
-// Words that the call has to leave or to write over.
-pub fn mark(words: &mut [u32]) {
-    let mut i: usize = 0;
-    while i < words.len() {
-        words[i] = 0xDEADBEEF;
-        i += 1;
-    }
+fn hex_of(b: u8) {
+    io::print_hex(1, b as u64, 2);
 }
 
 // A name, and words: each with how often it stands there.
 pub fn words(name: &[u8], words: &[u32]) {
     word(name);
-    let mut i: usize = 0;
-    while i < words.len() {
-        let n = run(words, i);
-        run_of(words[i], n);
-        i += n;
+    let mut n: u64 = 1;
+    for i in 0..words.len() {
+        n = run_on(words, i, n);
     }
     line_end();
 }
 
+// The i-th word is the last of n equal ones so far. They are printed if the next is another. Answers how many are equal up to the next.
+fn run_on(words: &[u32], i: usize, n: u64) -> u64
+    requires { ⌜ i < length (now words) ⌝ }
+{
+    if i + 1 < words.len() {
+        if words[i + 1] == words[i] {
+            return std::num::wrapping_add_u64(n, 1);
+        }
+    }
+    print_run(words[i], n);
+    1
+}
+
 // A word, and how often it stands there.
-fn run_of(w: u32, n: usize) {
+fn print_run(w: u32, n: u64) {
     next_number(w as u64);
     if n == 1 {
         return;
     }
     word(b"*");
-    number(n as u64);
-}
-
-// How many words from i on are equal.
-fn run(words: &[u32], i: usize) -> usize
-    requires { ⌜ i < length (now words) ⌝ }
-    ensures { λ r. ⌜ (0 < r) × (i + r ≤ length (now (words .entry))) ⌝ }
-{
-    let mut n: usize = 1;
-    while i + n < words.len() {
-        if words[i + n] != words[i] {
-            return n;
-        }
-        n += 1;
-    }
-    n
+    number(n);
 }

@@ -1,6 +1,12 @@
-// Answers of attaching as the test programs print them.
+// Answers of attaching and moving as the test programs print them.
 use report::Attached;
 use report::Report;
+
+mod moves;
+
+pub use moves::begun;
+pub use moves::plan_at;
+pub use moves::stepped;
 
 // A report, or a refusal, and the end of the line.
 pub fn answer(r: Attached) {
@@ -12,11 +18,25 @@ pub fn answer(r: Attached) {
 }
 
 // A refusal.
-pub fn refusal(number: u32, place: u32) {
+fn refusal(number: u32, place: u32) {
     frames::word(b"refused");
     frames::next_number(number as u64);
     frames::word(b" at");
     frames::next_number(place as u64);
+}
+
+// All words of the lent tables.
+pub fn tables(pebs: &[u32], map: &[u32], states: &[u32]) {
+    frames::words(b"pebs", pebs);
+    frames::words(b"map", map);
+    frames::words(b"states", states);
+}
+
+// The image's checksum, and the end of the line.
+pub fn image(bytes: &[u8]) {
+    frames::word(b"image");
+    frames::next_number(crc32::crc32(bytes) as u64);
+    frames::line_end();
 }
 
 fn print_report(r: Report) {

@@ -1,73 +1,39 @@
-// Carries out the calls of each frame on its image, and prints what each answers and leaves.
-ghost use Prim.Native.Nat.{_≤_, _<_};
-ghost use lib.ListN.{length};
-ghost use Rattle.frames.specs.Frame.{Onward};
-use frames::Frame;
+// Carries out the operations of each frame on its image, and prints what each answers and leaves.
+use lookup::LebPlace;
+use lookup::PebReport;
 use plan::Begun;
 use plan::Plan;
 use plan::Stepped;
 
-mod printed;
-mod read;
-
 fn main() {
+    for _ in 0..frames::count() {
+        turn();
+    }
+}
+
+// The operations of the next frame. Image and lent tables are made anew for each.
+fn turn() {
     let mut buf = [0u8; 65536];
-    let mut image = [0u8; 262144];
-    let mut pebs = [0u32; 16384];
-    let mut map = [0u32; 16384];
-    let mut states = [0u32; 16384];
-    // A proved loop ends: no input has so many frames.
-    for _ in 0u32..1000000 {
-        if !turn(&mut buf, &mut image, &mut pebs, &mut map, &mut states) {
-            break;
-        }
-    }
+    let mut image = [0xFFu8; 262144];
+    let mut pebs = [0xDEADBEEFu32; 16384];
+    let mut map = [0xDEADBEEFu32; 16384];
+    let mut states = [0xDEADBEEFu32; 16384];
+    let n = frames::next(&mut buf);
+    lend(&buf[0..n], &mut image, &mut pebs, &mut map, &mut states);
 }
 
-// The calls of the next frame, if there is one.
-fn turn(
-    buf: &mut [u8],
-    image: &mut [u8],
-    pebs: &mut [u32],
-    map: &mut [u32],
-    states: &mut [u32],
-) -> bool {
-    let Frame::Payload(n) = frames::next(buf) else {
-        return false;
-    };
-    frame(&buf[0..n], image, pebs, map, states);
-    true
-}
-
-// Slip, lengths of the lent tables, image; then the calls.
-fn frame(payload: &[u8], image: &mut [u8], pebs: &mut [u32], map: &mut [u32], states: &mut [u32]) {
-    let n = frames::number_at(payload, 0, 2) as usize;
-    let body = frames::rest(payload, 2);
-    if body.len() < n {
-        return;
-    }
-    let rest = &body[n..];
-    let size = frames::number_at(rest, 6, 4) as usize;
-    if image.len() < size {
-        return;
-    }
+// Lengths of the lent tables and the image, slip, patches, and operations.
+fn lend(payload: &[u8], image: &mut [u8], pebs: &mut [u32], map: &mut [u32], states: &mut [u32]) {
+    let p = frames::length_at(payload, 0, 2, pebs.len());
+    let m = frames::length_at(payload, 2, 2, map.len());
+    let s = frames::length_at(payload, 4, 2, states.len());
+    let size = frames::length_at(payload, 6, 4, image.len());
+    let rest = frames::rest(payload, 10);
     let lent = &mut image[0..size];
-    base::fill(lent, size, 0xFF);
-    let p = frames::number_at(rest, 0, 2) as usize;
-    let m = frames::number_at(rest, 2, 2) as usize;
-    let s = frames::number_at(rest, 4, 2) as usize;
-    if pebs.len() < p {
-        return;
-    }
-    if map.len() < m {
-        return;
-    }
-    if states.len() < s {
-        return;
-    }
-    lend(
-        &body[0..n],
-        frames::rest(rest, 10),
+    let at = frames::patches(lent, rest, frames::part_at(rest, 0).end);
+    operations(
+        frames::bytes_at(rest, 0),
+        &rest[at..],
         lent,
         &mut pebs[0..p],
         &mut map[0..m],
@@ -75,7 +41,8 @@ fn frame(payload: &[u8], image: &mut [u8], pebs: &mut [u32], map: &mut [u32], st
     );
 }
 
-fn lend(
+// A number of operations, and as many parts, each carried out on what the one before left.
+fn operations(
     slip: &[u8],
     s: &[u8],
     image: &mut [u8],
@@ -83,135 +50,48 @@ fn lend(
     map: &mut [u32],
     states: &mut [u32],
 ) {
-    frames::mark(pebs);
-    frames::mark(map);
-    frames::mark(states);
-    let from = patches(image, s, 0);
-    calls(slip, s, from, image, pebs, map, states);
-}
-
-// A number of patches, and the patches. Answers the place after them.
-fn patches(image: &mut [u8], s: &[u8], at: usize) -> usize
-    requires { ⌜ at ≤ length (now s) ⌝ }
-    ensures { λ r. ⌜ Onward at r (length (now (s .entry))) ⌝ }
-{
-    let count = frames::number_at(s, at, 2);
-    let mut end = read::onward(s, at, 2);
-    let mut i: u64 = 0;
-    while i < count {
-        end = frames::patch_at(image, s, end);
-        i += 1;
-    }
-    end
-}
-
-// What a call leaves beside image and tables.
-struct Next {
-    at: usize,
-    plan: Plan,
-}
-
-// All calls, each on what the one before left.
-fn calls(
-    slip: &[u8],
-    s: &[u8],
-    from: usize,
-    image: &mut [u8],
-    pebs: &mut [u32],
-    map: &mut [u32],
-    states: &mut [u32],
-)
-    requires { ⌜ from ≤ length (now s) ⌝ }
-{
-    let mut at = from;
-    let mut plan = read::plan_at(s, from);
-    while at < s.len() {
-        let next = call(slip, s, at, plan, image, pebs, map, states);
-        plan = next.plan;
-        at = next.at;
+    // Any plan: one is set before it is stepped.
+    let mut plan = show::plan_at(s, 0);
+    for i in 0..frames::number_at(s, 0, 2) {
+        plan = operation(slip, frames::nth_part(s, i), plan, image, pebs, map, states);
     }
 }
 
-fn call(
+// An operation's number, and its operands. Each is one of tables or one of steps.
+fn operation(
     slip: &[u8],
     s: &[u8],
-    at: usize,
     plan: Plan,
     image: &mut [u8],
     pebs: &mut [u32],
     map: &mut [u32],
     states: &mut [u32],
-) -> Next
-    requires { ⌜ at < length (now s) ⌝ }
-    ensures { λ r. ⌜ Onward at (r .at) (length (now (s .entry))) ⌝ }
-{
-    let op = frames::number_at(s, at, 1);
-    if op == 5 {
-        return Next {
-            at: cut(image, s, at),
-            plan,
-        };
-    }
-    let p = act(op, slip, s, at, plan, image, pebs, map, states);
-    Next {
-        at: read::onward(s, at, size(op)),
-        plan: p,
-    }
+) -> Plan {
+    let next = of_tables(slip, s, plan, image, pebs, map, states);
+    of_steps(s, next, image)
 }
 
-// Bytes of a call.
-fn size(op: u64) -> usize
-    ensures { λ r. ⌜ 0 < r ⌝ }
-{
+fn of_tables(
+    slip: &[u8],
+    s: &[u8],
+    plan: Plan,
+    image: &[u8],
+    pebs: &mut [u32],
+    map: &mut [u32],
+    states: &mut [u32],
+) -> Plan {
+    let op = frames::number_at(s, 0, 1);
     if op == 1 {
-        return 13;
+        return begin(slip, s, plan, image, pebs, map, states);
     }
-    if op == 3 {
-        return 3;
+    if op == 6 {
+        attach(slip, image, pebs, map, states);
+        return plan;
     }
-    if op == 4 {
-        return 82;
+    if op == 7 {
+        look_up(s, image, pebs, map);
+        return plan;
     }
-    1
-}
-
-// What a cut left of the image is in the payload.
-fn cut(image: &mut [u8], s: &[u8], at: usize) -> usize
-    requires { ⌜ at < length (now s) ⌝ }
-    ensures { λ r. ⌜ Onward at r (length (now (s .entry))) ⌝ }
-{
-    let end = patches(image, s, at + 1);
-    frames::word(b"cut");
-    printed::image(image);
-    end
-}
-
-fn act(
-    op: u64,
-    slip: &[u8],
-    s: &[u8],
-    at: usize,
-    plan: Plan,
-    image: &mut [u8],
-    pebs: &mut [u32],
-    map: &mut [u32],
-    states: &mut [u32],
-) -> Plan
-    requires { ⌜ at < length (now s) ⌝ }
-{
-    if op == 1 {
-        return begin(slip, s, at, plan, image, pebs, map, states);
-    }
-    if op == 2 {
-        return step(plan, image);
-    }
-    if op == 3 {
-        return run(plan, image, frames::number_at(s, at + 1, 2));
-    }
-    if op == 4 {
-        return step(read::plan_at(s, at + 1), image);
-    }
-    attach(slip, image, pebs, map, states);
     plan
 }
 
@@ -219,44 +99,109 @@ fn act(
 fn begin(
     slip: &[u8],
     s: &[u8],
-    at: usize,
     plan: Plan,
     image: &[u8],
     pebs: &mut [u32],
     map: &mut [u32],
     states: &mut [u32],
-) -> Plan
-    requires { ⌜ at < length (now s) ⌝ }
-{
-    let volume = read::low(frames::number_at(s, at + 1, 4));
-    let leb = read::low(frames::number_at(s, at + 5, 4));
-    let target = read::low(frames::number_at(s, at + 9, 4));
-    let r = mover::begin(slip, image, pebs, map, states, volume, leb, target);
-    let p = begun(r, plan);
-    frames::word(b" ");
-    printed::tables(pebs, map, states);
-    printed::image(image);
-    p
+) -> Plan {
+    let volume = frames::u32_at(s, 1);
+    let lnum = frames::u32_at(s, 5);
+    let target = frames::u32_at(s, 9);
+    let r = mover::begin(slip, image, pebs, map, states, volume, lnum, target);
+    show::begun(r);
+    show::image(image);
+    show::tables(pebs, map, states);
+    plan_begun(r, plan)
 }
 
-fn begun(r: Begun, plan: Plan) -> Plan {
+fn plan_begun(r: Begun, plan: Plan) -> Plan {
     match r {
-        Begun::Planned(p) => {
-            printed::plan(p);
-            return p;
-        }
-        Begun::Refused { number, place } => {
-            show::refusal(number, place);
-            return plan;
-        }
+        Begun::Planned(p) => return p,
+        Begun::Refused { number, place } => return plan,
     }
 }
 
-fn step(plan: Plan, image: &mut [u8]) -> Plan {
-    let r = mover_steps::step(plan, image);
-    printed::stepped(r);
-    printed::image(image);
-    plan_after(r, plan)
+fn attach(slip: &[u8], image: &[u8], pebs: &mut [u32], map: &mut [u32], states: &mut [u32]) {
+    show::answer(attach::attach(slip, image, pebs, map, states));
+    show::tables(pebs, map, states);
+    show::image(image);
+}
+
+// What tables of so many PEBs and entries say of a PEB and of a LEB.
+fn look_up(s: &[u8], image: &[u8], pebs: &[u32], map: &[u32]) {
+    match lookup::peb_report(pebs, frames::u32_at(s, 1), frames::u32_at(s, 5)) {
+        PebReport::Given { class, counter } => peb(class, counter),
+        PebReport::Absent => frames::word(b"peb absent"),
+    }
+    match lookup::find_leb(
+        map,
+        frames::u32_at(s, 9),
+        frames::u32_at(s, 13),
+        frames::u32_at(s, 17),
+    ) {
+        LebPlace::At(p) => leb(p),
+        LebPlace::Absent => frames::word(b" leb absent "),
+    }
+    show::image(image);
+}
+
+fn peb(class: u32, counter: u32) {
+    frames::word(b"peb");
+    frames::next_number(class as u64);
+    frames::next_number(counter as u64);
+}
+
+fn leb(peb: u32) {
+    frames::word(b" leb");
+    frames::next_number(peb as u64);
+    frames::word(b" ");
+}
+
+// An operation on plan and image alone.
+fn of_steps(s: &[u8], plan: Plan, image: &mut [u8]) -> Plan {
+    let op = frames::number_at(s, 0, 1);
+    if op == 2 {
+        return show::plan_at(s, 1);
+    }
+    if op == 3 {
+        return run(plan, image, frames::number_at(s, 1, 2));
+    }
+    if op == 4 {
+        finish(plan, image);
+        return plan;
+    }
+    if op == 5 {
+        cut(s, image);
+        return plan;
+    }
+    plan
+}
+
+// So many steps; those after the last one change nothing.
+fn run(plan: Plan, image: &mut [u8], most: u64) -> Plan {
+    let mut p = plan;
+    let mut r = Stepped::On(plan);
+    for _ in 0..most {
+        p = plan_after(r, p);
+        r = step(p, image);
+    }
+    let last = plan_after(r, p);
+    ran(plan.steps, last.steps, r, image);
+    last
+}
+
+// How many steps went on, and the last answer.
+fn ran(from: u32, to: u32, r: Stepped, image: &[u8]) {
+    frames::word(b"ran");
+    frames::next_number(std::num::wrapping_sub_u32(to, from) as u64);
+    frames::word(b" ");
+    show::stepped(r);
+    show::image(image);
+}
+
+fn step(plan: Plan, image: &mut [u8]) -> Stepped {
+    mover_steps::step(plan, image)
 }
 
 fn plan_after(r: Stepped, plan: Plan) -> Plan {
@@ -267,44 +212,15 @@ fn plan_after(r: Stepped, plan: Plan) -> Plan {
     }
 }
 
-fn is_on(r: Stepped) -> bool {
-    match r {
-        Stepped::On(p) => return true,
-        Stepped::Done => return false,
-        Stepped::Refused => return false,
-    }
+fn finish(plan: Plan, image: &mut [u8]) {
+    frames::word(b"finished ");
+    show::stepped(mover_steps::finish(plan, image));
+    show::image(image);
 }
 
-// Steps until one does not go on, at most so many.
-fn run(plan: Plan, image: &mut [u8], most: u64) -> Plan {
-    let mut p = plan;
-    let mut went: u64 = 0;
-    while went < most {
-        let r = mover_steps::step(p, image);
-        if !is_on(r) {
-            ran(went, r, image);
-            return p;
-        }
-        p = plan_after(r, p);
-        went += 1;
-    }
-    ran(went, Stepped::On(p), image);
-    p
-}
-
-fn ran(went: u64, r: Stepped, image: &[u8]) {
-    frames::word(b"ran");
-    frames::next_number(went);
-    frames::word(b" ");
-    printed::stepped(r);
-    printed::image(image);
-}
-
-fn attach(slip: &[u8], image: &[u8], pebs: &mut [u32], map: &mut [u32], states: &mut [u32]) {
-    show::answer(attach::attach(slip, image, pebs, map, states));
-    frames::words(b"pebs", pebs);
-    frames::words(b"map", map);
-    frames::words(b"states", states);
-    printed::tables(pebs, map, states);
-    printed::image(image);
+// What a cut left of the image is in the payload.
+fn cut(s: &[u8], image: &mut [u8]) {
+    frames::patches(image, frames::rest(s, 1), 0);
+    frames::word(b"cut ");
+    show::image(image);
 }

@@ -11,7 +11,7 @@ use lib.Dec.{ltb}
 use Rattle.base.specs.Answers.{mapO}
 use Rattle.base.specs.Below.{firstBelow}
 use Rattle.geometry.specs.declared.Geometry.{Geometry}
-use Rattle.volume_table.specs.Record.{recordOf}
+use Rattle.volume_record.specs.Record.{recordOf}
 use Rattle.volume_table.specs.Table.{recordAt}
 use Rattle.report.specs.View.{copyOf}
 use Rattle.report.specs.Volumes.{Face, faceOf, recordFor, reservedOf, usedOf}

@@ -10,9 +10,9 @@ use borrow.Author.Tests.{eqb-true, eq-eqb, lt-ltb, le-ltb}
 use Rattle.base.proofs.Answers.{and-left, and-right}
 use Rattle.base.proofs.Below.{first-none}
 use Rattle.geometry.specs.declared.Geometry.{Geometry}
-use Rattle.volume_table.specs.Record.{recordOf}
+use Rattle.volume_record.specs.Record.{recordOf}
 use Rattle.volume_table.specs.Table.{recordAt}
-use Rattle.volume_table.specs.declared.VolumeRecord.{VolumeRecord}
+use Rattle.volume_record.specs.declared.VolumeRecord.{VolumeRecord}
 use Rattle.report.specs.View.{mediumOf, copyOf}
 use Rattle.report.specs.Scan.{when}
 use Rattle.report.specs.Volumes.{faceOf, recordFor, usedOf, misfit, misfitIn, misfitAt}

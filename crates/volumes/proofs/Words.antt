@@ -90,7 +90,7 @@ module _ {g : Geometry} {n : ℕ} {image map table : List ℕ} {count : ℕ} (s 
 
   -- ---- the words of the map
 
-  within : (count * 3 ≤ length map) × (count ≤ n)
+  pub within : (count * 3 ≤ length map) × (count ≤ n)
   unfolding mapWords
   within =
       let e = simp (length-take, length-append) at (ap length (s .words)) in
