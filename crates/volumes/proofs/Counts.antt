@@ -1,20 +1,19 @@
 -- How many entries a volume has in the map, and that fewer than u numbers below u pass a test exactly if one does not.
 -- Assumes nothing.
-use mathlib.Core.Path.{_≡_, refl, _∙_}
+use mathlib.Core.Path.{_≡_, refl, sym, _∙_}
 use mathlib.Core.Logic.{⊎-elim, _≢_}
-use mathlib.Core.Bool.{Bool, true, false, not, cond}
+use mathlib.Core.Bool.{or-true, or-false, Bool, true, false, not, cond}
 use mathlib.Core.Option.{Option, none, some}
 use mathlib.Core.List.{List, [], _∷_, _++_}
 use Prim.Native.Nat.{ℕ, zero, suc, _+_, _≤_, _<_}
 use native.Mathlib.Omega.{arith}
-use borrow.Author.Tests.{eq-eqb, ne-eqb, lt-ltb, le-ltb, not-true, not-false}
+use borrow.Author.Tests.{eq-eqb, ne-eqb, lt-ltb, le-ltb}
 use lib.Dec.{eqb, ltb}
 use lib.ListN.{length, getD}
 use Rattle.base.specs.Below.{anyBelow, countBelow, sumBelow, concatBelow}
-use Rattle.base.proofs.Below.{below-suc, none-at}
+use Rattle.base.proofs.Below.{lt-or-le, below-suc}
 use Rattle.header.specs.Vid.{layoutVolume}
 use Rattle.base.proofs.Answers.{by-test}
-use Rattle.base.proofs.Below.{any-hit}
 use Rattle.report.specs.Volumes.{Places, recordFor, reservedOf, Entry, entryAt, mapUpTo}
 
 -- ---- numbers that pass a test
@@ -31,18 +30,6 @@ count-most : (n : ℕ) (p : ℕ → Bool) → countBelow n p ≤ n
 count-most zero p = omega arith
 count-most (suc n) p = omega (arith, count-most n p, one-most (p n))
 
-count-all : (n : ℕ) (p : ℕ → Bool) → ((i : ℕ) → i < n → p i ≡ true) → countBelow n p ≡ n
-count-all zero p h = refl
-count-all (suc n) p h = rw (h n (omega arith)) (omega (arith, count-all n p (λ i k. h i (omega arith))))
-
-count-less : (n : ℕ) (p : ℕ → Bool) (i : ℕ) → i < n → p i ≡ false → countBelow n p < n
-count-less zero p i h e = absurd (omega arith)
-count-less (suc n) p i h e =
-    ⊎-elim
-    (λ (k : i < n). omega (arith, count-less n p i k e, one-most (p n)))
-    (λ (k : i ≡ n). let z : p n ≡ false = rw k at e in rw z (omega (arith, count-most n p)))
-    (below-suc n i h)
-
 -- past u none passes
 pub count-upto : (u n : ℕ) (p : ℕ → Bool) → u ≤ n → ((i : ℕ) → u ≤ i → i < n → p i ≡ false)
     → countBelow n p ≡ countBelow u p
@@ -54,18 +41,17 @@ count-upto u (suc n) p h z =
     (λ (k : u ≡ suc n). rw k)
     (below-suc (suc n) u (omega arith))
 
+one-less : (c u : ℕ) → ltb (c + 1) (suc u) ≡ ltb c u
+one-less c u =
+    ⊎-elim (λ (h : c < u). lt-ltb (c + 1) (suc u) (omega arith) ∙ sym (lt-ltb c u h))
+    (λ (h : u ≤ c). le-ltb (c + 1) (suc u) (omega arith) ∙ sym (le-ltb c u h))
+    (lt-or-le c u)
+
 pub fewer : (u : ℕ) (p : ℕ → Bool) → ltb (countBelow u p) u ≡ anyBelow u (λ i. not (p i))
-fewer u p =
-    by-test (anyBelow u (λ i. not (p i)))
-    (λ e. let r = any-hit u (λ i. not (p i)) e in rw (
-      e,
-      lt-ltb (countBelow u p) u (count-less u p (r .0) (r .1) (not-true (p (r .0)) (r .2))),
-    ))
-    (λ e. rw (
-      e,
-      le-ltb (countBelow u p) u
-          (omega (arith, count-all u p (λ i k. not-false (p i) (none-at u (λ i. not (p i)) e i k)))),
-    ))
+fewer zero p = le-ltb 0 0 (omega arith)
+fewer (suc u) p =
+    by-test (p u) (λ e. rw (e, or-false) (one-less (countBelow u p) u ∙ fewer u p))
+    (λ e. rw (e, or-true) (lt-ltb (countBelow u p + 0) (suc u) (omega (arith, count-most u p))))
 
 -- ---- entries of one volume
 
