@@ -2,32 +2,31 @@
 use mathlib.Core.Path.{_≡_}
 use Prim.Native.Nat.{ℕ, _+_, _*_, _≤_, _<_}
 use mathlib.Core.Bool.{Bool, not, _&&_, _||_}
-use mathlib.Core.Option.{Option, none}
+use mathlib.Core.Option.{none}
 use lib.Dec.{eqb, ltb}
 use mathlib.Core.List.{List}
-use lib.ListN.{length, getD}
-use Rattle.base.specs.Answers.{mapO}
+use lib.ListN.{length}
 use Rattle.base.specs.Lists.{Bytes}
+use Rattle.words.specs.Words.{pebWordsNeeded, classWord, counterWord}
 use Rattle.geometry.specs.declared.Geometry.{Geometry}
 use Rattle.geometry.specs.Placed.{Placed}
 use Rattle.header.specs.declared.EcHeader.{EcHeader}
 use Rattle.header.specs.declared.VidHeader.{VidHeader}
-use Rattle.report.specs.View.{Copy, viewsOf}
-use Rattle.report.specs.Volumes.{orZero}
+use Rattle.report.specs.View.{Copy, Medium, mediumOf}
 use Rattle.report.specs.Report.{refusal, classAt, counterAt}
 use Rattle.plan.specs.Headers.{newSize, newFlag, newCrc}
 use Rattle.moving.specs.declared.Examined.{Examined}
 
 -- an image of n PEBs that attached, with the words of its PEBs
-pub record Reported (g : Geometry) (image : List ℕ) (n : ℕ) (pebs : List ℕ) : Type 0 where
+pub record Reported (g : Geometry) (n : ℕ) (image pebs : List ℕ) : Type 0 where
   pub placed : Placed g
   pub bytes : Bytes image
   pub whole : length image ≡ n * g .«peb_size»
   pub few : n ≤ 4096
-  pub long : n * 2 ≤ length pebs
-  pub attached : refusal g n (viewsOf g image) ≡ none
-  pub classes : (i : ℕ) → i < n → getD pebs (i * 2) 0 ≡ classAt g n (viewsOf g image) i
-  pub counters : (i : ℕ) → i < n → getD pebs (i * 2 + 1) 0 ≡ counterAt g n (viewsOf g image) i
+  pub long : pebWordsNeeded n ≤ length pebs
+  pub attached : refusal (mediumOf g n image) ≡ none
+  pub classes : (i : ℕ) → i < n → classWord pebs i ≡ classAt (mediumOf g n image) i
+  pub counters : (i : ℕ) → i < n → counterWord pebs i ≡ counterAt (mediumOf g n image) i
 
 -- the bytes p of a PEB are whole, and hold the data of a copy with the header h
 pub record Fits (g : Geometry) (p : List ℕ) (h : VidHeader) : Type 0 where
@@ -48,8 +47,8 @@ abbrev pub examined : Geometry → Copy → Examined
 examined g c = record { damaged = isDamaged c; flag = newFlag g c; size = newSize g c; crc = newCrc g c }
 
 -- refusal 16's test of a target
-abbrev pub isNoTarget : Geometry → List ℕ → ℕ → ℕ → Bool
-isNoTarget g image n t = not (ltb t n) || (not (eqb (classAt g n (viewsOf g image) t) 0) || not (viewsOf g image t .clean))
+abbrev pub isNoTarget : Medium → ℕ → Bool
+isNoTarget m t = not (ltb t (m .count)) || (not (eqb (classAt m t) 0) || not (m .views t .clean))
 
 -- a header with another flag, data size, data CRC and sequence
 abbrev pub renewedAs : VidHeader → Examined → ℕ → VidHeader
@@ -67,12 +66,12 @@ renewedAs h found sequence = record {
   sequence = sequence;
 }
 
--- an EC header with the counter after this one, and the image sequence of another
-abbrev pub ecWith : Geometry → ℕ → Option EcHeader → EcHeader
-ecWith g counter e = record {
+-- an EC header with the counter after this one
+abbrev pub ecWith : Geometry → ℕ → ℕ → EcHeader
+ecWith g counter seq = record {
   version = 1;
   counter = counter + 1;
   «vid_start» = g .«vid_start»;
   «data_start» = g .«data_start»;
-  «image_seq» = orZero (mapO (λ (h : EcHeader). h .«image_seq») e);
+  «image_seq» = seq;
 }

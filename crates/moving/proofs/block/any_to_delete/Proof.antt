@@ -10,9 +10,6 @@ use Rattle.report.specs.View.{viewsOf, copies}
 use Rattle.report.specs.Report.{isInternal}
 use Rattle.moving.proofs.block.any_to_delete.Statement.{statement}
 use Rattle.moving.proofs.block.any_to_delete.Tie as tie
-use Rattle.moving.proofs.block.any_to_delete.Reads as reads
-use Rattle.moving.proofs.block.any_to_delete.Lts as lts
-use Rattle.moving.proofs.block.to_delete_at.Reads as to-delete-at-reads
 
 abbrev Inv-loop : tie.InvT-loop
 Inv-loop image g n pebs i₀ i = (i ≤ n) × ((j : ℕ) → j < i → isInternal 1 (copies (viewsOf g image) j) ≡ false)
@@ -23,18 +20,9 @@ abbrev μ-loop : tie.MeasureT-loop
 loop-holds : tie.Need-loop-holds Inv-loop μ-loop
 loop-holds c = (omega arith, λ j h. absurd (omega arith))
 
-to-delete-at-requires : tie.Need-to-delete-at-requires Inv-loop μ-loop
-to-delete-at-requires c κs = search needs
-
 returns : tie.Need-returns Inv-loop μ-loop
 returns c = let a = c .before .before .before .before .before .before .args in
     sym (any-intro (a .n) (λ (j : ℕ). isInternal 1 (copies (viewsOf (a .g) (a .image .now)) j)) (c .before .before .before .loop .i) (omega arith) (sym (c .before .to-delete-at .ensures) ∙ c .if1 .taken))
-
-add-i : tie.Need-add-i Inv-loop μ-loop
-add-i c = search needs
-
-loop-less : tie.Need-loop-less Inv-loop μ-loop
-loop-less c = search needs
 
 loop-again : tie.Need-loop-again Inv-loop μ-loop
 loop-again c = let a = c .before .before .before .before .before .before .args in
@@ -51,9 +39,9 @@ any-to-delete-spec =
     Inv-loop
     μ-loop
     loop-holds
-    to-delete-at-requires
+    (λ c κs. search needs)
     returns
-    add-i
-    loop-less
+    (λ c. search needs)
+    (λ c. search needs)
     loop-again
     returns-2)

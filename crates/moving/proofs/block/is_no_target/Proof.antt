@@ -1,71 +1,59 @@
 -- `moving::block::is_no_target` meets its contract. Assumes nothing.
-use mathlib.Core.Path.{refl}
+use mathlib.Core.Path.{refl, sym, _∙_}
 use native.Mathlib.Omega.{arith}
-use borrow.Author.Needs.{needs}
+use Rattle.report.specs.View.{mediumOf}
 use Rattle.moving.proofs.Words.{room, absent-target, used-target, free-target}
+use borrow.Author.Needs.{needs}
 use Rattle.moving.proofs.block.is_no_target.Statement.{statement}
 use Rattle.moving.proofs.block.is_no_target.Tie as tie
-use Rattle.moving.proofs.block.is_no_target.Reads as reads
-use Rattle.moving.proofs.block.is_no_target.Lts as lts
-use Rattle.moving.proofs.copy.data_end.Reads as data-end-reads
 
 returns : tie.Need-returns
-returns c = let a = c .before .before .before .args in absent-target (a .g) (a .image .now) (a .n) (a .target) (c .if1 .taken)
-
-mul-if2 : tie.Need-mul-if2
-mul-if2 c = search needs
-
-mul-if2-2 : tie.Need-mul-if2-2
-mul-if2-2 c = search needs
-
-shared-slice-read-if2 : tie.Need-shared-slice-read-if2
-shared-slice-read-if2 c = search needs
+returns c = let a = c .before .before .before .args in absent-target (mediumOf (a .g) (a .n) (a .image .now)) (a .target) (c .if1 .taken)
 
 returns-2 : tie.Need-returns-2
-returns-2 c = let a = c .before .before .before .before .before .args in used-target (a .g) (a .image .now) (a .n) (a .target) (c .before .before .if1 .left) (c .before .before .before .before .before .pre .classes (a .target) (c .before .before .if1 .left)) (c .if2 .taken)
-
-cast-size : tie.Need-cast-size
-cast-size c = search needs
+returns-2 c =
+    let a = c .before .before .before .before .before .args in
+    let h = c .before .before .if1 .left in
+    used-target (mediumOf (a .g) (a .n) (a .image .now)) (a .target) h (c .before .class-word .ensures ∙ c .before .before .before .before .before .pre .classes (a .target) h) (c .if2 .taken)
 
 mul-at : tie.Need-mul-at
-mul-at c = record { fits = omega (arith, room (c .before .before .before .before .before .before .pre) (c .before .before .before .before .before .before .args .target) (c .before .before .before .if1 .left), c .before .before .before .before .before .before .pre .placed .vid-after-ec, c .before .before .before .before .before .before .pre .placed .data-after-vid, c .before .before .before .before .before .before .pre .placed .leb-fills) }
+mul-at c =
+    let d = c .before .before .before .before .before .before in let q = room (d .pre) (d .args .target) (c .before .before .before .if1 .left) in let p = d .pre .placed in
+    record { fits = omega (arith, q, p .vid-after-ec, p .data-after-vid, p .leb-fills) }
 
 add-data-end : tie.Need-add-data-end
-add-data-end c = record { fits = omega (arith, room (c .before .before .before .before .before .before .pre) (c .before .before .before .before .before .before .args .target) (c .before .before .before .if1 .left), c .before .before .before .before .before .before .pre .placed .vid-after-ec, c .before .before .before .before .before .before .pre .placed .data-after-vid, c .before .before .before .before .before .before .pre .placed .leb-fills) }
+add-data-end c =
+    let d = c .before .before .before .before .before .before in let q = room (d .pre) (d .args .target) (c .before .before .before .if1 .left) in let p = d .pre .placed in
+    record { fits = omega (arith, q, p .vid-after-ec, p .data-after-vid, p .leb-fills) }
 
 add-data-end-2 : tie.Need-add-data-end-2
-add-data-end-2 c = record { fits = omega (arith, room (c .before .before .before .before .before .before .pre) (c .before .before .before .before .before .before .args .target) (c .before .before .before .if1 .left), c .before .before .before .before .before .before .pre .placed .vid-after-ec, c .before .before .before .before .before .before .pre .placed .data-after-vid, c .before .before .before .before .before .before .pre .placed .leb-fills) }
-
-sub-data-end : tie.Need-sub-data-end
-sub-data-end c = search needs
-
-part-data-end-start : tie.Need-part-data-end-start
-part-data-end-start c = search needs
+add-data-end-2 c =
+    let d = c .before .before .before .before .before .before in let q = room (d .pre) (d .args .target) (c .before .before .before .if1 .left) in let p = d .pre .placed in
+    record { fits = omega (arith, q, p .vid-after-ec, p .data-after-vid, p .leb-fills) }
 
 part-data-end-end : tie.Need-part-data-end-end
 part-data-end-end c = search (needs, room (c .before .before .before .before .before .before .pre) (c .before .before .before .before .before .before .args .target) (c .before .before .before .if1 .left))
 
-data-end-requires : tie.Need-data-end-requires
-data-end-requires c κs = search needs
-
 returns-3 : tie.Need-returns-3
-returns-3 c = let a = c .before .before .before .before .before .before .before .before .args in free-target (a .g) (a .image .now) (a .n) (a .target) (c .before .before .before .before .before .before .before .before .pre) (c .before .before .before .before .before .if1 .left) (c .before .before .before .before .before .before .before .before .pre .classes (a .target) (c .before .before .before .before .before .if1 .left)) (c .before .before .before .if2 .left) refl (c .data-end .ensures .0)
+returns-3 c =
+    let d = c .before .before .before .before .before .before .before .before in
+    let t = d .args .target in
+    let h = c .before .before .before .before .before .if1 .left in
+    free-target (d .pre) t h (c .before .before .before .before .class-word .ensures ∙ d .pre .classes t h) (c .before .before .before .if2 .left) refl (c .data-end .ensures .0)
 
 pub is-no-target-spec : {M : Type 1} → statement M
 is-no-target-spec =
     tie.close
     (tie.spec
     returns
-    mul-if2
-    mul-if2-2
-    shared-slice-read-if2
+    (λ c κs. search needs)
     returns-2
-    cast-size
+    (λ c. search needs)
     mul-at
     add-data-end
     add-data-end-2
-    sub-data-end
-    part-data-end-start
+    (λ c. search needs)
+    (λ c. search needs)
     part-data-end-end
-    data-end-requires
+    (λ c κs. search needs)
     returns-3)

@@ -9,8 +9,6 @@ use Rattle.plan.specs.Headers.{dataEnd}
 use Rattle.moving.proofs.Data.{end-go, end-stop}
 use Rattle.moving.proofs.copy.data_end.Statement.{statement}
 use Rattle.moving.proofs.copy.data_end.Tie as tie
-use Rattle.moving.proofs.copy.data_end.Reads as reads
-use Rattle.moving.proofs.copy.data_end.Lts as lts
 
 abbrev Inv-loop : tie.InvT-loop
 Inv-loop s i₀ i = (i ≤ length s) × (dataEnd (take i s) ≡ dataEnd s)
@@ -21,20 +19,8 @@ abbrev μ-loop : tie.MeasureT-loop
 loop-holds : tie.Need-loop-holds Inv-loop μ-loop
 loop-holds c = let s = c .args .s .now in (omega arith, ap dataEnd (take-all (length s) s (omega arith)))
 
-sub-if1 : tie.Need-sub-if1 Inv-loop μ-loop
-sub-if1 c = search needs
-
-shared-slice-read-if1 : tie.Need-shared-slice-read-if1 Inv-loop μ-loop
-shared-slice-read-if1 c = search needs
-
 returns : tie.Need-returns Inv-loop μ-loop
 returns c = (end-stop (c .before .before .before .before .args .s .now) (c .before .before .before .loop .i) (omega arith) (omega arith) (c .if1 .taken) ∙ c .before .before .before .loop .inv .1, omega arith)
-
-sub-i : tie.Need-sub-i Inv-loop μ-loop
-sub-i c = search needs
-
-loop-less : tie.Need-loop-less Inv-loop μ-loop
-loop-less c = search needs
 
 loop-again : tie.Need-loop-again Inv-loop μ-loop
 loop-again c = (omega arith, end-go (c .before .before .before .before .args .s .now) (c .before .before .before .loop .i) (omega arith) (omega arith) (c .if1 .left) ∙ c .before .before .before .loop .inv .1)
@@ -50,10 +36,10 @@ data-end-spec =
     Inv-loop
     μ-loop
     loop-holds
-    sub-if1
-    shared-slice-read-if1
+    (λ c. search needs)
+    (λ c. search needs)
     returns
-    sub-i
-    loop-less
+    (λ c. search needs)
+    (λ c. search needs)
     loop-again
     returns-2)

@@ -3,20 +3,6 @@ use borrow.Author.Needs.{needs}
 use Rattle.moving.proofs.Data.{Read, static-found, empty-found, dynamic-found}
 use Rattle.moving.proofs.copy.examine.Statement.{statement}
 use Rattle.moving.proofs.copy.examine.Tie as tie
-use Rattle.moving.proofs.copy.examine.Reads as reads
-use Rattle.moving.proofs.copy.examine.Lts as lts
-use Rattle.moving.proofs.copy.both_crcs.Reads as both-crcs-reads
-use Rattle.moving.proofs.copy.is_damaged.Reads as is-damaged-reads
-use Rattle.moving.proofs.copy.new_size.Reads as new-size-reads
-
-new-size-requires : tie.Need-new-size-requires
-new-size-requires c κs = search needs
-
-both-crcs-requires : tie.Need-both-crcs-requires
-both-crcs-requires c κs = search needs
-
-is-damaged-requires : tie.Need-is-damaged-requires
-is-damaged-requires c κs = search needs
 
 read : (d : tie.After-struct-known3) → Read (d .before .before .before .before .before .before .before .args .g) (d .before .before .before .before .before .before .before .args .p .now) (d .before .before .before .before .before .before .before .args .h) (d .before .before .before .before .before .new-size .result) (d .before .before .before .before .both-crcs .result .old) (d .before .before .before .before .both-crcs .result .new) (d .before .is-damaged .result)
 read d = search needs
@@ -33,4 +19,4 @@ returns-3 c = dynamic-found (read (c .before .before)) (c .before .if1 .left) (c
 pub examine-spec : {M : Type 1} → statement M
 examine-spec =
     tie.close
-    (tie.spec new-size-requires both-crcs-requires is-damaged-requires returns returns-2 returns-3)
+    (tie.spec (λ c κs. search needs) (λ c κs. search needs) (λ c κs. search needs) returns returns-2 returns-3)

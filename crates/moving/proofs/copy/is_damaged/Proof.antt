@@ -2,8 +2,6 @@
 use Rattle.moving.proofs.Data.{matching, flagged, plain}
 use Rattle.moving.proofs.copy.is_damaged.Statement.{statement}
 use Rattle.moving.proofs.copy.is_damaged.Tie as tie
-use Rattle.moving.proofs.copy.is_damaged.Reads as reads
-use Rattle.moving.proofs.copy.is_damaged.Lts as lts
 
 returns : tie.Need-returns
 returns c = matching (c .before .args .h) (c .if1 .taken)
