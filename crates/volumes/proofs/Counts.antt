@@ -10,7 +10,7 @@ use native.Mathlib.Omega.{arith}
 use borrow.Author.Tests.{eq-eqb, ne-eqb, lt-ltb, le-ltb}
 use lib.Dec.{eqb, ltb}
 use lib.ListN.{length, getD}
-use Rattle.base.specs.Below.{anyBelow, countBelow, sumBelow, concatBelow}
+use Rattle.base.specs.Below.{anyBelow, countBelow, concatBelow}
 use Rattle.base.proofs.Below.{lt-or-le, below-suc}
 use Rattle.header.specs.Vid.{layoutVolume}
 use Rattle.base.proofs.Answers.{by-test}
@@ -74,30 +74,21 @@ unfolding countOf
 count-append v [] b = omega arith
 count-append v (e ∷ a) b = omega (arith, count-append v a b)
 
-count-concat : (v n : ℕ) (f : ℕ → List Entry) → countOf v (concatBelow n f) ≡ sumBelow n (λ i. countOf v (f i))
+count-none : (v n : ℕ) (f : ℕ → List Entry) → ((i : ℕ) → i < n → countOf v (f i) ≡ 0) → countOf v (concatBelow n f) ≡ 0
 unfolding countOf
-count-concat v zero f = refl
-count-concat v (suc n) f = count-append v (concatBelow n f) (f n) ∙ rw (count-concat v n f)
+count-none v zero f z = refl
+count-none v (suc n) f z =
+    count-append v (concatBelow n f) (f n)
+    ∙ omega (arith, count-none v n f (λ i k. z i (omega arith)), z n (omega arith))
 
-sum-none : (n : ℕ) (f : ℕ → ℕ) → ((i : ℕ) → i < n → f i ≡ 0) → sumBelow n f ≡ 0
-sum-none zero f h = refl
-sum-none (suc n) f h = omega (arith, sum-none n f (λ i k. h i (omega arith)), h n (omega arith))
-
-sum-only : (n v : ℕ) (f : ℕ → ℕ) → v < n → ((i : ℕ) → i < n → i ≢ v → f i ≡ 0) → sumBelow n f ≡ f v
-sum-only zero v f h z = absurd (omega arith)
-sum-only (suc n) v f h z =
-    ⊎-elim
-    (λ (k : v < n). omega (
-      arith,
-      sum-only n v f k (λ i l ne. z i (omega arith) ne),
-      z n (omega arith) (λ q. absurd (omega (arith, q))),
-    ))
-    (λ (k : v ≡ n). rw k (omega (arith, sum-none n f (λ i l. z i (omega arith) (λ q. absurd (omega (arith, q, k)))))))
+count-only : (v n : ℕ) (f : ℕ → List Entry) → v < n → ((i : ℕ) → i ≢ v → countOf v (f i) ≡ 0)
+    → countOf v (concatBelow n f) ≡ countOf v (f v)
+count-only v zero f h z = absurd (omega arith)
+count-only v (suc n) f h z =
+    count-append v (concatBelow n f) (f n)
+    ∙ ⊎-elim (λ (k : v < n). omega (arith, count-only v n f k z, z n (λ q. absurd (omega (arith, q)))))
+    (λ (k : v ≡ n). rw (← k) (omega (arith, count-none v v f (λ i l. z i (λ q. absurd (omega (arith, q)))))))
     (below-suc n v h)
-
-sum-count : (n : ℕ) (f : ℕ → ℕ) (p : ℕ → Bool) → ((i : ℕ) → f i ≡ cond (p i) 1 0) → sumBelow n f ≡ countBelow n p
-sum-count zero f p h = refl
-sum-count (suc n) f p h = rw (sum-count n f p h, h n)
 
 -- is there one?
 abbrev pub has : Option ℕ → Bool
@@ -119,14 +110,12 @@ module _ (ps : Places) (v : ℕ) where
   entriesOf w r = concatBelow r (λ l. entryAt w l (ps w l))
 
   of-this : (r : ℕ) → countOf v (entriesOf v r) ≡ countBelow r (λ l. has (ps v l))
-  of-this r =
-      count-concat v r (λ l. entryAt v l (ps v l))
-      ∙ sum-count r (λ l. countOf v (entryAt v l (ps v l))) (λ l. has (ps v l)) (λ l. one-entry v l (ps v l))
+  unfolding countOf
+  of-this zero = refl
+  of-this (suc r) = count-append v (entriesOf v r) (entryAt v r (ps v r)) ∙ rw (of-this r, one-entry v r (ps v r))
 
   of-other : (w r : ℕ) → w ≢ v → countOf v (entriesOf w r) ≡ 0
-  of-other w r n =
-      count-concat v r (λ l. entryAt w l (ps w l))
-      ∙ sum-none r (λ l. countOf v (entryAt w l (ps w l))) (λ l _. no-entry v w l (ps w l) n)
+  of-other w r n = count-none v r (λ l. entryAt w l (ps w l)) (λ l _. no-entry v w l (ps w l) n)
 
   -- a user volume has as many entries as LEBs below reserved that have a place
   pub count-map : (k m : ℕ) (t : List ℕ) (d : Entry) → v < k → k ≤ layoutVolume → let es = mapUpTo k m t ps in
@@ -135,8 +124,7 @@ module _ (ps : Places) (v : ℕ) where
   unfolding mapUpTo
   count-map k m t d h q =
       let f : ℕ → List Entry = λ w. entriesOf w (reservedOf (recordFor t w)) in
-      let a = count-concat v k f ∙ sum-only k v (λ w. countOf v (f w)) h
-      (λ w _ n. of-other w (reservedOf (recordFor t w)) n) in
+      let a = count-only v k f h (λ w n. of-other w (reservedOf (recordFor t w)) n) in
       let b = of-other layoutVolume m (λ z. absurd (omega (arith, z))) in
       let c = count-append v (concatBelow k f) (entriesOf layoutVolume m) in
       count-list v d (concatBelow k f ++ entriesOf layoutVolume m) ∙ c

@@ -45,8 +45,8 @@ returns c =
     let l = c .before .before .before in
     let d = l .before .before .before .before in
     let r = l .loop .inv .0 .range in
-    let e = repeats-told (d .pre .1 .0) (d .args .i) (l .loop .j) (d .pre .0) (omega arith) (c .before .is-repeat .ensures)
-    (c .if1 .taken) in
+    let e = repeats-told (d .pre .1 .0) (d .args .i) (l .loop .j) (d .pre .0) (omega arith)
+    (c .before .is-repeat .ensures) (c .if1 .taken) in
     sym (any-intro (d .args .i) (told d) (l .loop .j) (omega arith) e)
 
 link-requires-2 : tie.Need-link-requires-2 Inv-loop μ-loop

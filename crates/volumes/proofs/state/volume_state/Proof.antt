@@ -63,7 +63,8 @@ static-state c e =
     let k = b .before .before in
     let p = start (read k) .pre in
     state-static (p .0) (p .1) (read k .record-numbers .ensures) (k .before .before .if1 .left) (k .if2 .left)
-    (b .before .asks-crc .ensures) (b .any-faulty .ensures) (d .if3 .left) (c .before .if4 .left) (c .lacks-leb .ensures) e
+    (b .before .asks-crc .ensures) (b .any-faulty .ensures) (d .if3 .left) (c .before .if4 .left)
+    (c .lacks-leb .ensures) e
 
 returns-5 : tie.Need-returns-5
 returns-5 c = static-state (c .before) (c .if5 .taken)
