@@ -15,7 +15,7 @@ use Rattle.words.proofs.Laws.{peb-set-same, peb-set-other, peb-set-volume, peb-
 use Rattle.geometry.specs.declared.Geometry.{Geometry}
 use Rattle.report.specs.View.{viewsOf, copies}
 use Rattle.report.specs.Choice.{repeats}
-use Rattle.choice.specs.Keyed.{Keyed, sameLeb}
+use Rattle.choice.specs.Keyed.{Holds, Keyed, sameLeb}
 use Rattle.choice.specs.Chain.{buckets, bucketOf, bucketAt, Nearest, Link, Linked, Chained, Relinked, Chains}
 use Rattle.choice.proofs.Words.{same-true, repeat-words}
 
@@ -26,21 +26,21 @@ module _ (map : List ℕ) (i : ℕ) where
   unfolding bucketAt
   no-bucket e = rw (eq-eqb (volumeWord map i) noWord e)
 
-  pub in-bucket : (volumeWord map i ≡ noWord → ⊥) → bucketAt map i ≡ bucketOf (volumeWord map i) (lnumWord map i)
+  pub in-bucket : Holds map i → bucketAt map i ≡ bucketOf (volumeWord map i) (lnumWord map i)
   unfolding bucketAt
   in-bucket h = rw (ne-eqb (volumeWord map i) noWord h)
 
-  bucket-small : (volumeWord map i ≡ noWord → ⊥) → bucketAt map i < buckets
+  bucket-small : Holds map i → bucketAt map i < buckets
   bucket-small h = rw (in-bucket h) (omega arith)
 
-module _ (map : List ℕ) (i k : ℕ) (h : volumeWord map i ≡ noWord → ⊥) where
+module _ (map : List ℕ) (i k : ℕ) (h : Holds map i) where
   pub same-bucket : sameLeb map i k ≡ true → bucketAt map k ≡ bucketAt map i
   same-bucket s =
       let e = same-true map i k s in
       in-bucket map k (λ (z : volumeWord map k ≡ noWord). h (e .0 ∙ z)) ∙ ap₂ bucketOf (sym (e .0)) (sym (e .1))
       ∙ sym (in-bucket map i h)
 
-  bucket-holds : bucketAt map k ≡ bucketAt map i → volumeWord map k ≡ noWord → ⊥
+  bucket-holds : bucketAt map k ≡ bucketAt map i → Holds map k
   bucket-holds e z = let y = bucket-small map i h in let x = no-bucket map k z in omega arith
 
 -- ---- a walk along the chain of PEB i, over the PEBs below m
@@ -48,14 +48,13 @@ module _ (map : List ℕ) (i k : ℕ) (h : volumeWord map i ≡ noWord → ⊥) 
 -- those from `at` on are behind; w is next
 pub record Along (map : List ℕ) (i m at w : ℕ) : Type 0 where
   pub range : at ≤ m
-  pub near : (volumeWord map i ≡ noWord → ⊥) → Nearest map (bucketAt map i) at w
+  pub near : Holds map i → Nearest map (bucketAt map i) at w
 
 pub along-from : {n : ℕ} {map : List ℕ} → Linked n map → (i : ℕ) → i < n → Along map i i i (pebWord map i)
 along-from o i h = record { range = omega arith; near = o i h }
 
-pub head-near : {n w : ℕ} {map heads : List ℕ} → Chained n n map heads → (i : ℕ) → (volumeWord map i ≡ noWord → ⊥)
-    → w ≡ getD heads (bucketAt map i) 0
-    → Nearest map (bucketAt map i) n w
+pub head-near : {n w : ℕ} {map heads : List ℕ} → Chained n n map heads → (i : ℕ) → (Holds map i)
+    → w ≡ getD heads (bucketAt map i) 0 → Nearest map (bucketAt map i) n w
 head-near {n} {w} {map} o i h e = rw e (o .tops (bucketAt map i) (bucket-small map i h))
 
 module _ {map : List ℕ} {i m at w : ℕ} (o : Along map i m at w) where
@@ -69,7 +68,7 @@ module _ {map : List ℕ} {i m at w : ℕ} (o : Along map i m at w) where
 
   -- what holds of the PEBs behind, and of all outside the bucket
   module _ (P : ℕ → Type 0) (behind : (x : ℕ) → at ≤ x → x < m → P x)
-      (outside : (x : ℕ) → x < m → ((volumeWord map i ≡ noWord → ⊥) → bucketAt map x ≡ bucketAt map i → ⊥) → P x) where
+      (outside : (x : ℕ) → x < m → (Holds map i → bucketAt map x ≡ bucketAt map i → ⊥) → P x) where
     -- holds from the next one on, if it holds of that
     pub walk-on : P w → (x : ℕ) → w ≤ x → x < m → P x
     walk-on p x h k =
@@ -86,8 +85,8 @@ module _ {map : List ℕ} {i m at w : ℕ} (o : Along map i m at w) where
         (λ (l : at ≤ x). behind x l k) (lt-or-le x at)
 
 -- PEBs of other buckets have other LEBs, and no repeats
-module _ (map : List ℕ) (i x : ℕ) (f : (volumeWord map i ≡ noWord → ⊥) → bucketAt map x ≡ bucketAt map i → ⊥) where
-  pub other-leb : (volumeWord map i ≡ noWord → ⊥) → sameLeb map i x ≡ false
+module _ (map : List ℕ) (i x : ℕ) (f : Holds map i → bucketAt map x ≡ bucketAt map i → ⊥) where
+  pub other-leb : Holds map i → sameLeb map i x ≡ false
   other-leb c = not-so (sameLeb map i x) (λ s. f c (same-bucket map i x c s))
 
   pub other-copy : {g : Geometry} {image : List ℕ} {n : ℕ} → Keyed g image n map → i < n → x < n
@@ -169,7 +168,7 @@ module _ {n i : ℕ} {map heads : List ℕ} (h : i < n) (o : Chained n i map hea
     heads-size = refl;
   }
 
-  module _ (c : volumeWord map i ≡ noWord → ⊥) where
+  module _ (c : Holds map i) where
     abbrev b₀ : ℕ
     b₀ = bucketOf (volumeWord map i) (lnumWord map i)
 
@@ -226,8 +225,7 @@ module _ {n i : ℕ} {map heads : List ℕ} (h : i < n) (o : Chained n i map hea
     }
 
 pub chains-on : {n m k : ℕ} {map map′ map″ heads heads′ heads″ : List ℕ} → Chains n m map map′ heads heads′
-    → Chains n k map′ map″ heads′ heads″
-    → Chains n k map map″ heads heads″
+    → Chains n k map′ map″ heads′ heads″ → Chains n k map map″ heads heads″
 chains-on o p = record {
   chained = p .chained;
   relinked = relinked-on (o .relinked) (p .relinked);

@@ -2,6 +2,6 @@
 pub mod Words
 pub mod Chains
 pub mod Repeats
-pub mod Best
+pub mod ChosenCopy
 pub mod Rows
 pub mod Marks

@@ -22,7 +22,7 @@ use Rattle.report.specs.Report.{places, counterOr, isPlace}
 use Rattle.report.specs.Scratch.{markedClass, markedWords}
 use Rattle.report.proofs.Choice.{chosen-at}
 use Rattle.copies.specs.InPlace.{copyAt}
-use Rattle.choice.specs.Keyed.{Keyed, sameLeb}
+use Rattle.choice.specs.Keyed.{Holds, Keyed, sameLeb}
 use Rattle.choice.specs.Marking.{MarkedTo}
 use Rattle.choice.proofs.Words.{held, has-words, same-true, mappable-word}
 use Rattle.choice.proofs.Rows.{rows-there}
@@ -68,7 +68,7 @@ module _ {m : Medium} {map pebs : List ℕ} {i : ℕ} (o : MarkedTo m map pebs i
   -- the chosen copy of PEB k's LEB is marked
   abbrev Mark : List ℕ → ℕ → Type 0
   Mark ws k =
-      (volumeWord map k ≡ noWord → ⊥) → (p : ℕ)
+      Holds map k → (p : ℕ)
       → places m (volumeWord map k) (lnumWord map k) ≡ some p → classWord ws p ≡ 1
 
   marked-on : Mark pebs i → MarkedTo m map pebs (i + 1)
@@ -93,7 +93,7 @@ module _ {m : Medium} {map pebs : List ℕ} {i : ℕ} (o : MarkedTo m map pebs i
 -- r is chosen for the LEB of PEB i
 module _ {g : Geometry} {image : List ℕ} {n : ℕ} {map pebs : List ℕ} {i : ℕ}
     (o : MarkedTo (mediumOf g n image) map pebs i)
-    (d : Keyed g image n map) (h : i < n) (c : volumeWord map i ≡ noWord → ⊥) {r : ℕ}
+    (d : Keyed g image n map) (h : i < n) (c : Holds map i) {r : ℕ}
     (e : chosen n (copies (mediumOf g n image .views)) (volumeWord map i) (lnumWord map i) ≡ some (r, copyAt g image r))
     (l : r < n) where
   abbrev m : Medium
@@ -157,7 +157,7 @@ module _ {g : Geometry} {image : List ℕ} {n : ℕ} {map pebs : List ℕ} (o : 
       (λ (a : classWord pebs p ≡ firstClass (vs p .ec) (vs p .vid)).
       a ∙ class-same _ _ (vs p .ec) (vs p .vid) (λ c q w. by-test (isPlace (pl (c .header .volume) (c .header .lnum)) p)
       (λ b. let x = has-words d p h c q w in
-      let z : volumeWord map p ≡ noWord → ⊥ = λ z. mappable-word (c .header .volume) w (sym (x .0) ∙ z) in
+      let z : Holds map p = λ z. mappable-word (c .header .volume) w (sym (x .0) ∙ z) in
       let one = o .chosen p h z p (ap₂ pl (x .0) (x .1) ∙ place-is _ p b) in
       absurd (omega (arith, a ∙ class-of _ (vs p .ec) (vs p .vid) c q w)))
       (λ b. rw b)))

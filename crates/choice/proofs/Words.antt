@@ -1,7 +1,7 @@
 -- The map's words after the first pass, and the copies that they name. Assumes nothing.
 use mathlib.Core.Path.{_≡_, refl, sym, ap, _∙_}
 use mathlib.Core.Bool.{Bool, true, _&&_, true≢false, false≢true}
-use mathlib.Core.Option.{Option, none, some}
+use mathlib.Core.Option.{Option, some}
 use mathlib.Core.List.{List}
 use Prim.Native.Nat.{ℕ, _<_}
 use native.Mathlib.Omega.{arith}
@@ -15,10 +15,10 @@ use Rattle.geometry.specs.declared.Geometry.{Geometry}
 use Rattle.report.specs.View.{Copy, VidView, vidGood, vidNewer, vidBlank, vidBad, copyOf, viewsOf, goodVid, copies, isMappable}
 use Rattle.report.specs.Choice.{repeats}
 use Rattle.report.specs.Scratch.{keyWords}
-use Rattle.base.proofs.Answers.{none-some}
+use Rattle.base.proofs.Answers.{by-option, none-some}
 use Rattle.copies.specs.InPlace.{copyAt}
 use Rattle.copies.proofs.Copies.{copy-is}
-use Rattle.choice.specs.Keyed.{Keyed, Within, sequenceAt, sameLeb, repeatsAt}
+use Rattle.choice.specs.Keyed.{Holds, Keyed, Within, sequenceAt, sameLeb, repeatsAt}
 
 -- ---- the words of one PEB
 
@@ -69,7 +69,7 @@ module _ {g : Geometry} {image : List ℕ} {n : ℕ} {map : List ℕ} (d : Keyed
     words = omega (arith, d .long);
   }
 
-  pub held : (volumeWord map i ≡ noWord → ⊥) → Held g image map i
+  pub held : Holds map i → Held g image map i
   held n =
       let w = named i (viewsOf g image i .vid)
       (λ (e : getD (keyWords i (viewsOf g image i .vid)) 0 0 ≡ noWord). n (d .volumes i h ∙ e)) in
@@ -87,34 +87,6 @@ module _ {g : Geometry} {image : List ℕ} {n : ℕ} {map : List ℕ} (d : Keyed
   has-words c e m = let w = words-of i (viewsOf g image i .vid) c e m in (d .volumes i h ∙ w .0, d .lnums i h ∙ w .1)
 
 -- ---- repeats
-
-record Repeat (o p : Option Copy) : Type 0 where
-  pub c : Copy
-  pub d : Copy
-  pub is : o ≡ some c
-  pub was : p ≡ some d
-  pub mappable : isMappable (c .header .volume) ≡ true
-  pub volume : c .header .volume ≡ d .header .volume
-  pub leb : c .header .lnum ≡ d .header .lnum
-
-repeat-of : (o p : Option Copy) → repeats o p ≡ true → Repeat o p
-repeat-of none p e = absurd (false≢true e)
-repeat-of (some c) none e = absurd (false≢true e)
-repeat-of (some c) (some d) e =
-    let t = eqb (c .header .sequence) (d .header .sequence) in
-    let l = eqb (c .header .lnum) (d .header .lnum) in
-    let v = eqb (c .header .volume) (d .header .volume) in
-    let m = isMappable (c .header .volume) in
-    let r = and-right m (v && (l && t)) e in
-    record {
-      c = c;
-      d = d;
-      is = refl;
-      was = refl;
-      mappable = and-left m (v && (l && t)) e;
-      volume = eqb-true (c .header .volume) (d .header .volume) (and-left v (l && t) r);
-      leb = eqb-true (c .header .lnum) (d .header .lnum) (and-left l t (and-right v (l && t) r));
-    }
 
 pub same-true : (map : List ℕ) (i j : ℕ) → sameLeb map i j ≡ true
     → (volumeWord map i ≡ volumeWord map j) × (lnumWord map i ≡ lnumWord map j)
@@ -134,16 +106,26 @@ module _ {g : Geometry} {image : List ℕ} {n : ℕ} {map : List ℕ} (d : Keyed
   abbrev cs : ℕ → Option Copy
   cs = copies (viewsOf g image)
 
-  pub repeat-words : repeats (cs i) (cs j) ≡ true → (volumeWord map i ≡ noWord → ⊥) × (sameLeb map i j ≡ true)
+  pub repeat-words : repeats (cs i) (cs j) ≡ true → (Holds map i) × (sameLeb map i j ≡ true)
   repeat-words e =
-      let r = repeat-of (cs i) (cs j) e in
-      let a = has-words d i h (r .c) (r .is) (r .mappable) in
-      let b = has-words d j k (r .d) (r .was) (rw (r .volume) at (r .mappable)) in (
-        λ (z : volumeWord map i ≡ noWord). mappable-word (r .c .header .volume) (r .mappable) (sym (a .0) ∙ z),
-        true-same map i j (a .0 ∙ r .volume ∙ sym (b .0)) (a .1 ∙ r .leb ∙ sym (b .1)),
-      )
+      by-option (cs i) (λ p. absurd (false≢true (rw p at e)))
+      (λ c p. by-option (cs j) (λ q. absurd (false≢true (rw (p, q) at e)))
+      (λ x q. let t = eqb (c .header .sequence) (x .header .sequence) in
+      let l = eqb (c .header .lnum) (x .header .lnum) in
+      let v = eqb (c .header .volume) (x .header .volume) in
+      let m = isMappable (c .header .volume) in
+      let f : m && (v && (l && t)) ≡ true = rw (p, q) at e in
+      let r = and-right m (v && (l && t)) f in
+      let mc = and-left m (v && (l && t)) f in
+      let ev = eqb-true (c .header .volume) (x .header .volume) (and-left v (l && t) r) in
+      let el = eqb-true (c .header .lnum) (x .header .lnum) (and-left l t (and-right v (l && t) r)) in
+      let a = has-words d i h c p mc in
+      let b = has-words d j k x q (rw ev at mc) in (
+        λ (z : volumeWord map i ≡ noWord). mappable-word (c .header .volume) mc (sym (a .0) ∙ z),
+        true-same map i j (a .0 ∙ ev ∙ sym (b .0)) (a .1 ∙ el ∙ sym (b .1)),
+      )))
 
-  pub repeat-sequence : (volumeWord map i ≡ noWord → ⊥) → sameLeb map i j ≡ true
+  pub repeat-sequence : Holds map i → sameLeb map i j ≡ true
       → repeats (cs i) (cs j) ≡ eqb (sequenceAt g image i) (sequenceAt g image j)
   unfolding copyOf
   repeat-sequence z s =

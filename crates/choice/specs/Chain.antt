@@ -7,6 +7,7 @@ use Prim.Native.Nat.{ℕ, _+_, _*_, _%_, _≤_, _<_}
 use lib.Dec.{eqb}
 use lib.ListN.{length, drop, getD}
 use Rattle.words.specs.Words.{noWord, mostPebs, mapWordsNeeded, volumeWord, lnumWord, pebWord}
+use Rattle.choice.specs.Keyed.{Holds}
 
 abbrev pub buckets : ℕ
 buckets = 2048
@@ -27,22 +28,18 @@ pub record Nearest (map : List ℕ) (b m w : ℕ) : Type 0 where
 
 -- PEB i, if it is in a bucket, is linked to the nearest below it; and so is each of the first m PEBs
 abbrev pub Link : List ℕ → ℕ → Type 0
-Link map i = (volumeWord map i ≡ noWord → ⊥) → Nearest map (bucketAt map i) i (pebWord map i)
+Link map i = Holds map i → Nearest map (bucketAt map i) i (pebWord map i)
 
 abbrev pub Linked : ℕ → List ℕ → Type 0
 Linked m map = (i : ℕ) → i < m → Link map i
 
--- each bucket's head is the nearest below m
-abbrev pub Headed : ℕ → List ℕ → List ℕ → Type 0
-Headed m map heads = (b : ℕ) → b < buckets → Nearest map b m (getD heads b 0)
-
--- the first m of n PEBs are linked
+-- the first m of n PEBs are linked, and each bucket's head is the nearest below m
 pub record Chained (n m : ℕ) (map heads : List ℕ) : Type 0 where
   pub few : n ≤ mostPebs
   pub long-map : mapWordsNeeded n ≤ length map
   pub long-heads : buckets ≤ length heads
   pub links : Linked m map
-  pub tops : Headed m map heads
+  pub tops : (b : ℕ) → b < buckets → Nearest map b m (getD heads b 0)
 
 -- map′ has other links than map: the volumes, the LEBs and the words beyond n PEBs are the same
 pub record Relinked (n : ℕ) (map map′ : List ℕ) : Type 0 where

@@ -7,13 +7,18 @@ use Prim.Native.Nat.{ℕ, _+_, _*_, _≤_, _<_}
 use lib.Dec.{eqb, ltb, leb}
 use lib.ListN.{length, getD}
 use Rattle.words.specs.Words.{noWord, mapWordsNeeded, HasEntry, volumeWord, lnumWord}
+use Rattle.base.specs.Below.{anyBelow}
 use Rattle.geometry.specs.declared.Geometry.{Geometry}
 use Rattle.geometry.specs.Placed.{Placed}
-use Rattle.report.specs.View.{viewsOf, copies}
-use Rattle.report.specs.Choice.{refusal9}
+use Rattle.report.specs.View.{Copy, viewsOf, copies}
+use Rattle.report.specs.Choice.{repeats, refusal9}
 use Rattle.report.specs.Scan.{Refusal}
 use Rattle.report.specs.Scratch.{keyWords}
 use Rattle.copies.specs.InPlace.{headerAt}
+
+-- PEB i holds a user or layout LEB
+abbrev pub Holds : List ℕ → ℕ → Type 0
+Holds map i = volumeWord map i ≡ noWord → ⊥
 
 -- an image of n PEBs, and the lent words: the first two of each PEB's three hold its volume and LEB
 pub record Keyed (g : Geometry) (image : List ℕ) (n : ℕ) (map : List ℕ) : Type 0 where
@@ -42,6 +47,10 @@ abbrev pub repeatsAt : Geometry → List ℕ → List ℕ → ℕ → ℕ → Bo
 repeatsAt g image map i j =
     not (eqb (volumeWord map i) noWord) && (sameLeb map i j && eqb (sequenceAt g image i) (sequenceAt g image j))
 
+-- does PEB i repeat one of the copies below it?
+abbrev pub repeatsLower : (ℕ → Option Copy) → ℕ → Bool
+repeatsLower cs i = anyBelow i (λ (j : ℕ). repeats (cs i) (cs j))
+
 -- the refusal that a first repeat r stands for, if it is one of the n PEBs
 abbrev pub repeatAt : ℕ → ℕ → Option Refusal
 repeatAt n r = cond (ltb r n) (some (record { number = 9; place = r })) none
@@ -50,7 +59,7 @@ repeatAt n r = cond (ltb r n) (some (record { number = 9; place = r })) none
 pub record Choosing (g : Geometry) (image : List ℕ) (n : ℕ) (map : List ℕ) (i : ℕ) : Type 0 where
   pub keyed : Keyed g image n map
   pub below : i < n
-  pub holds : volumeWord map i ≡ noWord → ⊥
+  pub holds : Holds map i
   pub no-repeat : refusal9 n (copies (viewsOf g image)) ≡ none
 
 -- the better of `best` (n for none) and PEB j: of the copies of PEB i's LEB with a sequence of at most `most`, the one

@@ -12,7 +12,7 @@ use Rattle.report.specs.Class.{firstClass}
 use Rattle.report.specs.Choice.{refusal9}
 use Rattle.report.specs.Report.{counterOr, places}
 use Rattle.report.specs.Scratch.{markedClass}
-use Rattle.choice.specs.Keyed.{Keyed}
+use Rattle.choice.specs.Keyed.{Holds, Keyed}
 use Rattle.choice.specs.Chain.{Chained}
 
 -- the copies are linked, and none repeats another
@@ -29,5 +29,5 @@ pub record MarkedTo (m : Medium) (map pebs : List ℕ) (i : ℕ) : Type 0 where
   pub classes : (p : ℕ) → p < m .count
       → (classWord pebs p ≡ firstClass (m .views p .ec) (m .views p .vid))
       ⊎ (classWord pebs p ≡ markedClass (places m) p (m .views p .ec) (m .views p .vid))
-  pub chosen : (k : ℕ) → k < i → (volumeWord map k ≡ noWord → ⊥)
+  pub chosen : (k : ℕ) → k < i → (Holds map k)
       → (p : ℕ) → places m (volumeWord map k) (lnumWord map k) ≡ some p → classWord pebs p ≡ 1

@@ -5,8 +5,8 @@ ghost use mathlib.Core.Path.{_≡_};
 ghost use Prim.Native.Nat.{_+_, _≤_, _<_};
 ghost use lib.ListN.{length, getD};
 ghost use Rattle.base.specs.Below.{anyBelow};
-ghost use Rattle.words.specs.Words.{noWord, mostPebs, mapWordsNeeded, HasEntry, volumeWord, pebWord};
-ghost use Rattle.choice.specs.Keyed.{sameLeb};
+ghost use Rattle.words.specs.Words.{mostPebs, mapWordsNeeded, HasEntry, pebWord};
+ghost use Rattle.choice.specs.Keyed.{Holds, sameLeb};
 ghost use Rattle.choice.specs.Chain.{buckets, bucketOf, bucketAt, Linked, Chained, Chains};
 use crate::repeat::same_leb;
 use words::NO_WORD;
@@ -27,7 +27,7 @@ fn bucket(volume: u32, lnum: u32) -> usize
 
 // The highest PEB in the bucket of PEB i, which holds a user or layout LEB.
 pub fn head(map: &[u32], heads: &[u32], i: usize) -> usize
-    requires { ⌜ (HasEntry (now map) i) × ((buckets ≤ length (now heads)) × (volumeWord (now map) i ≡ noWord → ⊥)) ⌝ }
+    requires { ⌜ (HasEntry (now map) i) × ((buckets ≤ length (now heads)) × (Holds (now map) i)) ⌝ }
     ensures { λ r. ⌜ r ≡ getD (now (heads .entry)) (bucketAt (now (map .entry)) i) 0 ⌝ }
 {
     let at = bucket(volume_word(map, i), lnum_word(map, i));
@@ -72,7 +72,7 @@ pub fn link_copies(n: usize, map: &mut [u32], heads: &mut [u32])
 // Has a PEB below i, which holds a user or layout LEB, the same LEB?
 pub fn has_lower_copy(map: &[u32], n: usize, i: usize) -> bool
     requires { ⌜ (i < n) × ((mapWordsNeeded n ≤ length (now map))
-        × ((Linked n (now map)) × (volumeWord (now map) i ≡ noWord → ⊥))) ⌝ }
+        × ((Linked n (now map)) × (Holds (now map) i))) ⌝ }
     ensures { λ r. ⌜ r ≡ anyBelow i (sameLeb (now (map .entry)) i) ⌝ }
 {
     let mut above = i;

@@ -1,20 +1,19 @@
 -- How many entries a volume has in the map, and that fewer than u numbers below u pass a test exactly if one does not.
 -- Assumes nothing.
-use mathlib.Core.Path.{_≡_, refl, _∙_}
+use mathlib.Core.Path.{_≡_, refl, sym, _∙_}
 use mathlib.Core.Logic.{⊎-elim, _≢_}
-use mathlib.Core.Bool.{Bool, true, false, not, cond}
+use mathlib.Core.Bool.{or-true, or-false, Bool, true, false, not, cond}
 use mathlib.Core.Option.{Option, none, some}
 use mathlib.Core.List.{List, [], _∷_, _++_}
 use Prim.Native.Nat.{ℕ, zero, suc, _+_, _≤_, _<_}
 use native.Mathlib.Omega.{arith}
-use borrow.Author.Tests.{eq-eqb, ne-eqb, lt-ltb, le-ltb, not-true, not-false}
+use borrow.Author.Tests.{eq-eqb, ne-eqb, lt-ltb, le-ltb}
 use lib.Dec.{eqb, ltb}
 use lib.ListN.{length, getD}
-use Rattle.base.specs.Below.{anyBelow, countBelow, sumBelow, concatBelow}
-use Rattle.base.proofs.Below.{below-suc, none-at}
+use Rattle.base.specs.Below.{anyBelow, countBelow, concatBelow}
+use Rattle.base.proofs.Below.{lt-or-le, below-suc}
 use Rattle.header.specs.Vid.{layoutVolume}
 use Rattle.base.proofs.Answers.{by-test}
-use Rattle.base.proofs.Below.{any-hit}
 use Rattle.report.specs.Volumes.{Places, recordFor, reservedOf, Entry, entryAt, mapUpTo}
 
 -- ---- numbers that pass a test
@@ -31,18 +30,6 @@ count-most : (n : ℕ) (p : ℕ → Bool) → countBelow n p ≤ n
 count-most zero p = omega arith
 count-most (suc n) p = omega (arith, count-most n p, one-most (p n))
 
-count-all : (n : ℕ) (p : ℕ → Bool) → ((i : ℕ) → i < n → p i ≡ true) → countBelow n p ≡ n
-count-all zero p h = refl
-count-all (suc n) p h = rw (h n (omega arith)) (omega (arith, count-all n p (λ i k. h i (omega arith))))
-
-count-less : (n : ℕ) (p : ℕ → Bool) (i : ℕ) → i < n → p i ≡ false → countBelow n p < n
-count-less zero p i h e = absurd (omega arith)
-count-less (suc n) p i h e =
-    ⊎-elim
-    (λ (k : i < n). omega (arith, count-less n p i k e, one-most (p n)))
-    (λ (k : i ≡ n). let z : p n ≡ false = rw k at e in rw z (omega (arith, count-most n p)))
-    (below-suc n i h)
-
 -- past u none passes
 pub count-upto : (u n : ℕ) (p : ℕ → Bool) → u ≤ n → ((i : ℕ) → u ≤ i → i < n → p i ≡ false)
     → countBelow n p ≡ countBelow u p
@@ -54,18 +41,17 @@ count-upto u (suc n) p h z =
     (λ (k : u ≡ suc n). rw k)
     (below-suc (suc n) u (omega arith))
 
+one-less : (c u : ℕ) → ltb (c + 1) (suc u) ≡ ltb c u
+one-less c u =
+    ⊎-elim (λ (h : c < u). lt-ltb (c + 1) (suc u) (omega arith) ∙ sym (lt-ltb c u h))
+    (λ (h : u ≤ c). le-ltb (c + 1) (suc u) (omega arith) ∙ sym (le-ltb c u h))
+    (lt-or-le c u)
+
 pub fewer : (u : ℕ) (p : ℕ → Bool) → ltb (countBelow u p) u ≡ anyBelow u (λ i. not (p i))
-fewer u p =
-    by-test (anyBelow u (λ i. not (p i)))
-    (λ e. let r = any-hit u (λ i. not (p i)) e in rw (
-      e,
-      lt-ltb (countBelow u p) u (count-less u p (r .0) (r .1) (not-true (p (r .0)) (r .2))),
-    ))
-    (λ e. rw (
-      e,
-      le-ltb (countBelow u p) u
-          (omega (arith, count-all u p (λ i k. not-false (p i) (none-at u (λ i. not (p i)) e i k)))),
-    ))
+fewer zero p = le-ltb 0 0 (omega arith)
+fewer (suc u) p =
+    by-test (p u) (λ e. rw (e, or-false) (one-less (countBelow u p) u ∙ fewer u p))
+    (λ e. rw (e, or-true) (lt-ltb (countBelow u p + 0) (suc u) (omega (arith, count-most u p))))
 
 -- ---- entries of one volume
 
@@ -88,30 +74,21 @@ unfolding countOf
 count-append v [] b = omega arith
 count-append v (e ∷ a) b = omega (arith, count-append v a b)
 
-count-concat : (v n : ℕ) (f : ℕ → List Entry) → countOf v (concatBelow n f) ≡ sumBelow n (λ i. countOf v (f i))
+count-none : (v n : ℕ) (f : ℕ → List Entry) → ((i : ℕ) → i < n → countOf v (f i) ≡ 0) → countOf v (concatBelow n f) ≡ 0
 unfolding countOf
-count-concat v zero f = refl
-count-concat v (suc n) f = count-append v (concatBelow n f) (f n) ∙ rw (count-concat v n f)
+count-none v zero f z = refl
+count-none v (suc n) f z =
+    count-append v (concatBelow n f) (f n)
+    ∙ omega (arith, count-none v n f (λ i k. z i (omega arith)), z n (omega arith))
 
-sum-none : (n : ℕ) (f : ℕ → ℕ) → ((i : ℕ) → i < n → f i ≡ 0) → sumBelow n f ≡ 0
-sum-none zero f h = refl
-sum-none (suc n) f h = omega (arith, sum-none n f (λ i k. h i (omega arith)), h n (omega arith))
-
-sum-only : (n v : ℕ) (f : ℕ → ℕ) → v < n → ((i : ℕ) → i < n → i ≢ v → f i ≡ 0) → sumBelow n f ≡ f v
-sum-only zero v f h z = absurd (omega arith)
-sum-only (suc n) v f h z =
-    ⊎-elim
-    (λ (k : v < n). omega (
-      arith,
-      sum-only n v f k (λ i l ne. z i (omega arith) ne),
-      z n (omega arith) (λ q. absurd (omega (arith, q))),
-    ))
-    (λ (k : v ≡ n). rw k (omega (arith, sum-none n f (λ i l. z i (omega arith) (λ q. absurd (omega (arith, q, k)))))))
+count-only : (v n : ℕ) (f : ℕ → List Entry) → v < n → ((i : ℕ) → i ≢ v → countOf v (f i) ≡ 0)
+    → countOf v (concatBelow n f) ≡ countOf v (f v)
+count-only v zero f h z = absurd (omega arith)
+count-only v (suc n) f h z =
+    count-append v (concatBelow n f) (f n)
+    ∙ ⊎-elim (λ (k : v < n). omega (arith, count-only v n f k z, z n (λ q. absurd (omega (arith, q)))))
+    (λ (k : v ≡ n). rw (← k) (omega (arith, count-none v v f (λ i l. z i (λ q. absurd (omega (arith, q)))))))
     (below-suc n v h)
-
-sum-count : (n : ℕ) (f : ℕ → ℕ) (p : ℕ → Bool) → ((i : ℕ) → f i ≡ cond (p i) 1 0) → sumBelow n f ≡ countBelow n p
-sum-count zero f p h = refl
-sum-count (suc n) f p h = rw (sum-count n f p h, h n)
 
 -- is there one?
 abbrev pub has : Option ℕ → Bool
@@ -133,14 +110,12 @@ module _ (ps : Places) (v : ℕ) where
   entriesOf w r = concatBelow r (λ l. entryAt w l (ps w l))
 
   of-this : (r : ℕ) → countOf v (entriesOf v r) ≡ countBelow r (λ l. has (ps v l))
-  of-this r =
-      count-concat v r (λ l. entryAt v l (ps v l))
-      ∙ sum-count r (λ l. countOf v (entryAt v l (ps v l))) (λ l. has (ps v l)) (λ l. one-entry v l (ps v l))
+  unfolding countOf
+  of-this zero = refl
+  of-this (suc r) = count-append v (entriesOf v r) (entryAt v r (ps v r)) ∙ rw (of-this r, one-entry v r (ps v r))
 
   of-other : (w r : ℕ) → w ≢ v → countOf v (entriesOf w r) ≡ 0
-  of-other w r n =
-      count-concat v r (λ l. entryAt w l (ps w l))
-      ∙ sum-none r (λ l. countOf v (entryAt w l (ps w l))) (λ l _. no-entry v w l (ps w l) n)
+  of-other w r n = count-none v r (λ l. entryAt w l (ps w l)) (λ l _. no-entry v w l (ps w l) n)
 
   -- a user volume has as many entries as LEBs below reserved that have a place
   pub count-map : (k m : ℕ) (t : List ℕ) (d : Entry) → v < k → k ≤ layoutVolume → let es = mapUpTo k m t ps in
@@ -149,8 +124,7 @@ module _ (ps : Places) (v : ℕ) where
   unfolding mapUpTo
   count-map k m t d h q =
       let f : ℕ → List Entry = λ w. entriesOf w (reservedOf (recordFor t w)) in
-      let a = count-concat v k f ∙ sum-only k v (λ w. countOf v (f w)) h
-      (λ w _ n. of-other w (reservedOf (recordFor t w)) n) in
+      let a = count-only v k f h (λ w n. of-other w (reservedOf (recordFor t w)) n) in
       let b = of-other layoutVolume m (λ z. absurd (omega (arith, z))) in
       let c = count-append v (concatBelow k f) (entriesOf layoutVolume m) in
       count-list v d (concatBelow k f ++ entriesOf layoutVolume m) ∙ c

@@ -7,12 +7,12 @@ use Rattle.copies.proofs.Copies.{sequence-fits}
 use Rattle.choice.specs.Keyed.{sequenceAt}
 use Rattle.choice.proofs.Words.{within}
 use Rattle.choice.proofs.Chains.{head-near}
-use Rattle.choice.proofs.Best.{Down, has-copy, is-chosen, down-first, down-next, lowest}
+use Rattle.choice.proofs.ChosenCopy.{NoneAbove, has-copy, is-chosen, highest-met, next-met, lowest}
 use Rattle.choice.proofs.chosen.chosen_peb.Statement.{statement}
 use Rattle.choice.proofs.chosen.chosen_peb.Tie as tie
 
 abbrev Inv-loop : tie.InvT-loop
-Inv-loop image g n map heads i top at₀ at = Down g image n map i at
+Inv-loop image g n map heads i top at₀ at = NoneAbove g image n map i at
 
 abbrev μ-loop : tie.MeasureT-loop
 μ-loop image g n map heads i top at₀ at = sequenceAt g image at
@@ -35,7 +35,7 @@ loop-holds : tie.Need-loop-holds Inv-loop μ-loop
 loop-holds c =
     let k = c .before .before .before .before in
     let d = k .before in
-    down-first (d .pre .0) (c .highest-up-to .ensures)
+    highest-met (d .pre .0) (c .highest-up-to .ensures)
     (λ j h. let w = within (d .pre .0 .keyed) j h in
     omega (
       arith,
@@ -102,7 +102,7 @@ loop-again : tie.Need-loop-again Inv-loop μ-loop
 loop-again c =
     let t = c .before .before .before in
     let l = t .before .before .before in
-    down-next (start l .pre .0) (l .loop .inv) (t .before .before .header-field .ensures) (t .before .if1 .left)
+    next-met (start l .pre .0) (l .loop .inv) (t .before .before .header-field .ensures) (t .before .if1 .left)
     (sym (c .before .is-sound .ensures) ∙ c .if3 .left) (t .highest-up-to2 .ensures) (c .before .before .if2 .left)
 
 pub chosen-peb-spec : {M : Type 1} → statement M

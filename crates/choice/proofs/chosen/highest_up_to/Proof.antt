@@ -3,7 +3,7 @@ use native.Mathlib.Omega.{arith}
 use borrow.Author.Needs.{needs}
 use Rattle.choice.specs.Keyed.{Highest}
 use Rattle.choice.proofs.Chains.{Along, along-next}
-use Rattle.choice.proofs.Best.{highest-none, highest-more, highest-all}
+use Rattle.choice.proofs.ChosenCopy.{highest-none, highest-more, highest-all}
 use Rattle.choice.proofs.chosen.highest_up_to.Statement.{statement}
 use Rattle.choice.proofs.chosen.highest_up_to.Tie as tie
 

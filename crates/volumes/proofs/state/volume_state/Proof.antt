@@ -1,5 +1,9 @@
 -- `volumes::state::volume_state` meets its contract. Assumes nothing.
+use mathlib.Core.Path.{_≡_}
+use mathlib.Core.Bool.{Bool, cond}
 use borrow.Author.Needs.{needs}
+use Rattle.report.specs.View.{mediumOf}
+use Rattle.report.specs.Report.{stateAt}
 use Rattle.volumes.proofs.Words.{table-long, entries-there}
 use Rattle.volumes.proofs.States.{state-none, state-marked, state-faulty, state-dynamic, state-static}
 use Rattle.volumes.proofs.state.volume_state.Statement.{statement}
@@ -49,25 +53,24 @@ returns-4 c =
 lacks-leb-requires : tie.Need-lacks-leb-requires
 lacks-leb-requires c κs = entries-there (start (read (c .before .before .before .before .before)) .pre .0 .sorted)
 
-returns-5 : tie.Need-returns-5
-returns-5 c =
-    let d = c .before .before .before .before in
+-- of a static volume without faults: damaged if a LEB is missing, else good
+static-state : (c : tie.After-lacks-leb) {x : Bool} → c .lacks-leb .result ≡ x
+    → let a = start (read (c .before .before .before .before .before .before)) .args in
+    cond x 3 1 ≡ stateAt (mediumOf (a .g) (a .n) (a .image .now)) (a .volume)
+static-state c e =
+    let d = c .before .before .before in
     let b = d .before in
-    let e = b .before .before in
-    let p = start (read e) .pre in
-    state-static (p .0) (p .1) (read e .record-numbers .ensures) (e .before .before .if1 .left) (e .if2 .left)
-    (b .before .asks-crc .ensures) (b .any-faulty .ensures) (d .if3 .left) (c .before .before .if4 .left)
-    (c .before .lacks-leb .ensures) (c .if5 .taken)
+    let k = b .before .before in
+    let p = start (read k) .pre in
+    state-static (p .0) (p .1) (read k .record-numbers .ensures) (k .before .before .if1 .left) (k .if2 .left)
+    (b .before .asks-crc .ensures) (b .any-faulty .ensures) (d .if3 .left) (c .before .if4 .left)
+    (c .lacks-leb .ensures) e
+
+returns-5 : tie.Need-returns-5
+returns-5 c = static-state (c .before) (c .if5 .taken)
 
 returns-6 : tie.Need-returns-6
-returns-6 c =
-    let d = c .before .before .before .before in
-    let b = d .before in
-    let e = b .before .before in
-    let p = start (read e) .pre in
-    state-static (p .0) (p .1) (read e .record-numbers .ensures) (e .before .before .if1 .left) (e .if2 .left)
-    (b .before .asks-crc .ensures) (b .any-faulty .ensures) (d .if3 .left) (c .before .before .if4 .left)
-    (c .before .lacks-leb .ensures) (c .if5 .left)
+returns-6 c = static-state (c .before) (c .if5 .left)
 
 pub volume-state-spec : {M : Type 1} → statement M
 volume-state-spec =

@@ -18,7 +18,7 @@ use Rattle.report.proofs.Facts.{none9-at}
 use Rattle.report.proofs.Choice.{beats-irreflexive, beats-trans, ofKey-hit, ofKey-some}
 use Rattle.copies.specs.InPlace.{copyAt}
 use Rattle.copies.proofs.Copies.{copy-is}
-use Rattle.choice.specs.Keyed.{Choosing, sequenceAt, sameLeb, higherOf, Highest}
+use Rattle.choice.specs.Keyed.{Holds, Choosing, sequenceAt, sameLeb, higherOf, Highest}
 use Rattle.choice.proofs.Words.{Held, held, has-words, same-true, true-same, repeat-sequence}
 use Rattle.choice.specs.Chain.{bucketAt}
 use Rattle.choice.proofs.Chains.{Along, same-bucket, walk-on, walk-end}
@@ -66,14 +66,13 @@ module _ {g : Geometry} {image : List ℕ} {n : ℕ} {map : List ℕ} {i most : 
   pub highest-none : Highest g image n map i most n n
   highest-none = record { range = omega arith; is = λ h. absurd (omega arith); leads = λ j h k. absurd (omega arith) }
 
-  module _ (c : volumeWord map i ≡ noWord → ⊥) {at k best : ℕ} (o : Along map i n at k)
+  module _ (c : Holds map i) {at k best : ℕ} (o : Along map i n at k)
       (b : Highest g image n map i most at best) where
     abbrev Leads : ℕ → ℕ → Type 0
     Leads r j =
         sameLeb map i j ≡ true → sequenceAt g image j ≤ most → (r < n) × (sequenceAt g image j ≤ sequenceAt g image r)
 
-    apart-leads : (r x : ℕ) → x < n → ((volumeWord map i ≡ noWord → ⊥) → bucketAt map x ≡ bucketAt map i → ⊥)
-        → Leads r x
+    apart-leads : (r x : ℕ) → x < n → (Holds map i → bucketAt map x ≡ bucketAt map i → ⊥) → Leads r x
     apart-leads r x h f s l = absurd (f c (same-bucket map i x c s))
 
     -- the chain ends
@@ -90,8 +89,7 @@ module _ {g : Geometry} {image : List ℕ} {n : ℕ} {map : List ℕ} {i most : 
       stays l = record { range = b .range; is = b .is; leads = walk-on o (Leads best) (b .leads) (apart-leads best) l }
 
       takes : sameLeb map i k ≡ true → sequenceAt g image k ≤ most
-          → (best < n → sequenceAt g image best ≤ sequenceAt g image k)
-          → Highest g image n map i most k k
+          → (best < n → sequenceAt g image best ≤ sequenceAt g image k) → Highest g image n map i most k k
       takes s l up =
           let q : k < n = let r = o .range in omega arith in
           record {
@@ -121,7 +119,7 @@ module _ {g : Geometry} {image : List ℕ} {n : ℕ} {map : List ℕ} {i most : 
 -- ---- the copies of one LEB
 
 -- a copy of PEB i's LEB, above which no copy is sound
-pub record Down (g : Geometry) (image : List ℕ) (n : ℕ) (map : List ℕ) (i at : ℕ) : Type 0 where
+pub record NoneAbove (g : Geometry) (image : List ℕ) (n : ℕ) (map : List ℕ) (i at : ℕ) : Type 0 where
   pub below : at < n
   pub same : sameLeb map i at ≡ true
   pub above : (k : ℕ) → k < n → sameLeb map i k ≡ true → sequenceAt g image at < sequenceAt g image k
@@ -169,8 +167,7 @@ module _ {g : Geometry} {image : List ℕ} {n : ℕ} {map : List ℕ} {i : ℕ} 
       (lt-or-le k j)
 
   -- the copy is chosen if it is sound or the lowest
-  pub is-chosen : {at : ℕ} → Down g image n map i at
-      → (sound (copyAt g image at) ≡ true)
+  pub is-chosen : {at : ℕ} → NoneAbove g image n map i at → (sound (copyAt g image at) ≡ true)
       ⊎ ((k : ℕ) → k < n → sameLeb map i k ≡ true → sequenceAt g image at ≤ sequenceAt g image k)
       → chosen n (copies (viewsOf g image)) (volumeWord map i) (lnumWord map i) ≡ some (at, copyAt g image at)
   unfolding chosen copyOf
@@ -183,9 +180,9 @@ module _ {g : Geometry} {image : List ℕ} {n : ℕ} {map : List ℕ} {i : ℕ} 
       (⊎-elim (λ s. inl s) (λ l. inr (l j k (m .0))) low)))
 
   -- the first copy met is the highest
-  pub down-first : {most at : ℕ} → Highest g image n map i most 0 at → ((j : ℕ) → j < n → sequenceAt g image j ≤ most)
-      → Down g image n map i at
-  down-first t fits =
+  pub highest-met : {most at : ℕ} → Highest g image n map i most 0 at → ((j : ℕ) → j < n → sequenceAt g image j ≤ most)
+      → NoneAbove g image n map i at
+  highest-met t fits =
       let y = t .leads i (omega arith) (v .below) (true-same map i i refl refl) (fits i (v .below)) in
       record {
         below = y .0;
@@ -194,10 +191,10 @@ module _ {g : Geometry} {image : List ℕ} {n : ℕ} {map : List ℕ} {i : ℕ} 
       }
 
   -- and then the next lower one
-  pub down-next : {at next s : ℕ} → Down g image n map i at → s ≡ sequenceAt g image at → (s ≡ 0 → ⊥)
+  pub next-met : {at next s : ℕ} → NoneAbove g image n map i at → s ≡ sequenceAt g image at → (s ≡ 0 → ⊥)
       → sound (copyAt g image at) ≡ false
-      → Highest g image n map i (s - 1) 0 next → (next ≡ n → ⊥) → Down g image n map i next
-  down-next {at} {next} {s} w e p u t q =
+      → Highest g image n map i (s - 1) 0 next → (next ≡ n → ⊥) → NoneAbove g image n map i next
+  next-met {at} {next} {s} w e p u t q =
       let l : next < n = let y = t .range in omega (arith, q) in
       record {
         below = l;
@@ -216,8 +213,7 @@ module _ {g : Geometry} {image : List ℕ} {n : ℕ} {map : List ℕ} {i : ℕ} 
 
   -- a copy with no next lower one is the lowest
   pub lowest : (at : ℕ) {next s : ℕ} → s ≡ sequenceAt g image at → (s ≡ 0 → ⊥) → Highest g image n map i (s - 1) 0 next
-      → next ≡ n
-      → (k : ℕ) → k < n → sameLeb map i k ≡ true → sequenceAt g image at ≤ sequenceAt g image k
+      → next ≡ n → (k : ℕ) → k < n → sameLeb map i k ≡ true → sequenceAt g image at ≤ sequenceAt g image k
   lowest at {next} {s} e p t q k l m =
       ⊎-elim (λ (y : s - 1 < sequenceAt g image k). omega (arith, p))
       (λ (y : sequenceAt g image k ≤ s - 1). absurd (let x = t .leads k (omega arith) l m y in omega arith))
