@@ -1,7 +1,5 @@
 pub mod Laws
 pub mod Ends
 pub mod Layouts
-pub mod Rows
-pub mod Marks
 pub mod Reports
 pub mod Stages

@@ -1,7 +1,6 @@
 // Attaching: from a slip and an image to the report.
 mod layout;
 mod lent;
-mod marking;
 mod summary;
 
 ghost use mathlib.Core.Path.{_≡_};
@@ -67,7 +66,7 @@ fn attach_with_heads(
     requires { ⌜ (Past8 g (now image) n sums (now pebs) (now map) (now states)) × (2048 ≤ length (now heads)) ⌝ }
     ensures { λ r. ⌜ Ended (outcome g (now (image .entry)) n) r (now (pebs .entry)) (now (pebs .exit)) (now (map .entry)) (now (map .exit)) (now (states .entry)) (now (states .exit)) ⌝ }
 {
-    marking::link_copies(n, map, heads);
+    choice::link_copies(n, map, heads);
     let again = choice::first_repeat(image, g, n, map);
     if again < n {
         return lent::refuse(
@@ -82,7 +81,7 @@ fn attach_with_heads(
     if sums.unused {
         return lent::refuse(refusal::EMPTY_IMAGE, 0, n, pebs, map, states);
     }
-    marking::mark_chosen(image, g, n, map, heads, pebs);
+    choice::mark_chosen(image, g, n, map, heads, pebs);
     attach_chosen(image, g, n, sums, pebs, map, states)
 }
 

@@ -1,28 +1,28 @@
 -- Laws of the tests, sums and first hits below n. Assumes nothing.
 use mathlib.Core.Path.{_≡_, refl, sym, _∙_, ap, subst}
 use mathlib.Core.Logic.{_≢_, _⊎_, inl, inr, ⊎-elim}
-use mathlib.Core.Bool.{Bool, true, false, true≢false}
+use mathlib.Core.Bool.{Bool, true, false}
 use mathlib.Core.Option.{Option, none, some}
 use Prim.Native.Nat.{ℕ, zero, suc, _+_, _≤_, _<_}
+use native.Mathlib.Numerals.{add-one}
 use native.Mathlib.Omega.{arith}
-use native.Mathlib.Decide.{ℕ-discrete}
-use Rattle.base.specs.Below.{allBelow, anyBelow, numbered, firstBelow}
-use Rattle.base.proofs.Answers.{and-left, and-right, and-intro, or-left, or-right, or-intro, orElse-none, orElse-some}
+use borrow.Author.Tests.{ltb-true, ltb-false, eqb-true, eqb-false}
+use lib.Dec.{ltb, eqb}
+use Rattle.base.specs.Below.{allBelow, anyBelow, sumBelow, numbered, firstBelow}
+use Rattle.base.proofs.Answers.{clash, by-test, by-option, not-so, and-left, and-right, and-intro, or-left}
+use Rattle.base.proofs.Answers.{or-right, or-intro, or-true-cases, none-some, orElse-none, orElse-some}
+
+-- ---- numbers in order
+
+pub lt-or-le : (a b : ℕ) → (a < b) ⊎ (b ≤ a)
+lt-or-le a b = by-test (ltb a b) (λ q. inl (ltb-true a b q)) (λ q. inr (ltb-false a b q))
+
+pub eq-or-ne : (i j : ℕ) → (i ≡ j) ⊎ (i ≢ j)
+eq-or-ne i j = by-test (eqb i j) (λ q. inl (eqb-true i j q)) (λ q. inr (eqb-false i j q))
 
 -- a number below suc n is below n or is n
 pub below-suc : (n i : ℕ) → i < suc n → (i < n) ⊎ (i ≡ n)
-below-suc n i h = go (ℕ-discrete i n)
-  where
-    go : Dec (i ≡ n) → (i < n) ⊎ (i ≡ n)
-    go (yes e) = inr e
-    go (no ne) = inl (omega arith)
-
-pub eq-or-ne : (i j : ℕ) → (i ≡ j) ⊎ (i ≢ j)
-eq-or-ne i j = go (ℕ-discrete i j)
-  where
-    go : Dec (i ≡ j) → (i ≡ j) ⊎ (i ≢ j)
-    go (yes e) = inl e
-    go (no ne) = inr ne
+below-suc n i h = ⊎-elim inl (λ (k : n ≤ i). inr (omega arith)) (lt-or-le i n)
 
 -- a fact of every number below suc n, or n + 1: of those below n, and of n
 pub step-below : (P : ℕ → Type 0) (n : ℕ) → ((i : ℕ) → i < n → P i) → P n → (i : ℕ) → i < suc n → P i
@@ -39,6 +39,17 @@ pub all-intro : (n : ℕ) (p : ℕ → Bool) → ((i : ℕ) → i < n → p i �
 all-intro zero p h = refl
 all-intro (suc n) p h = and-intro (allBelow n p) (p n) (all-intro n p (λ i k. h i (omega arith))) (h n (omega arith))
 
+pub all-cong : (n : ℕ) (p q : ℕ → Bool) → ((i : ℕ) → i < n → p i ≡ q i) → allBelow n p ≡ allBelow n q
+all-cong zero p q h = refl
+all-cong (suc n) p q h = rw (all-cong n p q (λ i k. h i (omega arith)), h n (omega arith))
+
+-- a test that fails at one number; and one number more
+pub all-fails : (n : ℕ) (p : ℕ → Bool) (i : ℕ) → i < n → p i ≡ false → allBelow n p ≡ false
+all-fails n p i h e = not-so (allBelow n p) (λ q. clash e (all-at n p q i h))
+
+pub all-more : (p : ℕ → Bool) (i : ℕ) → allBelow i p ≡ true → p i ≡ true → allBelow (i + 1) p ≡ true
+all-more p i e h = rw (add-one, e, h)
+
 pub none-at : (n : ℕ) (p : ℕ → Bool) → anyBelow n p ≡ false → (i : ℕ) → i < n → p i ≡ false
 none-at zero p e i h = absurd (omega arith)
 none-at (suc n) p e i h = step-below (λ i. p i ≡ false) n (none-at n p (or-left (anyBelow n p) (p n) e)) (or-right (anyBelow n p) (p n) e) i h
@@ -48,11 +59,19 @@ none-intro zero p h = refl
 none-intro (suc n) p h = or-intro (anyBelow n p) (p n) (none-intro n p (λ i k. h i (omega arith))) (h n (omega arith))
 
 pub any-intro : (n : ℕ) (p : ℕ → Bool) (i : ℕ) → i < n → p i ≡ true → anyBelow n p ≡ true
-any-intro n p i h e = go (anyBelow n p) refl
-  where
-    go : (b : Bool) → anyBelow n p ≡ b → anyBelow n p ≡ true
-    go true q = q
-    go false q = absurd (true≢false (sym e ∙ none-at n p q i h))
+any-intro n p i h e = by-test (anyBelow n p) (λ q. q) (λ q. clash (none-at n p q i h) e)
+
+pub any-hit : (n : ℕ) (p : ℕ → Bool) → anyBelow n p ≡ true → (i : ℕ) × (i < n) × (p i ≡ true)
+any-hit zero p e = clash refl e
+any-hit (suc n) p e =
+    ⊎-elim
+    (λ q. let r = any-hit n p q in (r .0, omega (arith, r .1), r .2))
+    (λ q. (n, omega arith, q))
+    (or-true-cases (anyBelow n p) (p n) e)
+
+-- one number more
+pub any-more : (p : ℕ → Bool) (i : ℕ) → anyBelow i p ≡ false → p i ≡ false → anyBelow (i + 1) p ≡ false
+any-more p i e h = rw (add-one, e, h)
 
 pub any-cong : (n : ℕ) (p q : ℕ → Bool) → ((i : ℕ) → i < n → p i ≡ q i) → anyBelow n p ≡ anyBelow n q
 any-cong zero p q h = refl
@@ -111,3 +130,22 @@ module _ {A : Type 0} where
 
   pub first-is : (f : ℕ → Option A) (n i : ℕ) (a : A) → i < n → firstBelow i f ≡ none → f i ≡ some a → firstBelow n f ≡ some (i, a)
   first-is f n i a h e q = first-keeps f n (suc i) (i, a) (rw (e, q)) h
+
+  pub first-lowest : (n : ℕ) (f : ℕ → Option A) (i : ℕ) (a : A) → i < n → f i ≡ some a → ((j : ℕ) → j < i → f j ≡ none)
+      → firstBelow n f ≡ some (i, a)
+  first-lowest n f i a h e l = first-is f n i a h (first-none i f l) e
+
+  -- where there is an answer, there is a first
+  pub first-some : (n : ℕ) (f : ℕ → Option A) (i : ℕ) (a : A) → i < n → f i ≡ some a → (x : ℕ × A) × (firstBelow n f ≡ some x)
+  first-some n f i a h e =
+      by-option (firstBelow n f) (λ q. none-some (sym (first-none-at n f q i h) ∙ e)) (λ x q. (x, q))
+
+-- ---- sums
+
+pub sum-grows : (f : ℕ → ℕ) (j k : ℕ) → j ≤ k → sumBelow j f ≤ sumBelow k f
+sum-grows f j zero h = let z : j ≡ 0 = omega arith in rw z (omega arith)
+sum-grows f j (suc k) h =
+    ⊎-elim
+    (λ (l : j < suc k). omega (arith, sum-grows f j k (omega arith)))
+    (λ (e : suc k ≤ j). let z : j ≡ suc k = omega arith in rw z (omega arith))
+    (lt-or-le j (suc k))

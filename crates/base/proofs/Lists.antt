@@ -1,16 +1,21 @@
 -- Laws of lists of numbers: what a loop that reads, stores, compares or fills needs. Assumes nothing.
-use mathlib.Core.Path.{_≡_, refl, sym, ap, ap₂, _∙_}
+use mathlib.Core.Path.{_≡_, refl, sym, ap, ap₂, subst, _∙_}
 use mathlib.Core.Bool.{Bool, true, false, _&&_}
-use mathlib.Core.List.{List, [], _∷_, _++_, map, append-assoc}
+use mathlib.Core.Logic.{⊎-elim}
+use mathlib.Core.List.{List, [], _∷_, _++_, map, append-assoc, List·Memᴰ, List·Memᴰ·head, List·Memᴰ·tail}
+use mathlib.Core.List.{List·Memᴰ·not-nil, List·Memᴰ·cases-cons}
 use Prim.Native.Nat.{ℕ, zero, suc, _+_, _*_, _-_, _≤_, _<_}
-use native.Mathlib.Nat.{add-suc, suc-add, add-zero, zero-add, not-suc-le-zero, le-of-suc-le-suc}
+use native.Mathlib.Nat.{add-suc, suc-add, add-zero, zero-add, sub-zero, zero-sub, suc-sub-suc, add-sub-cancel-left}
+use native.Mathlib.Nat.{not-suc-le-zero, le-of-suc-le-suc}
 use native.Mathlib.Numerals.{add-one}
 use native.Mathlib.Omega.{arith}
 use borrow.Author.Tests.{eq-eqb, ne-eqb, eqb-true}
 use lib.Dec.{T, eqb, lit<}
-use lib.ListN.{length, take, drop, getD, set, replicate, length-take, length-drop, length-map, take-append-drop, List·getD-append}
-use lib.Seq.{take-all, take-length, take-take, drop-cons, drop-drop, drop-at, take-append-seam, getD-drop, getD-append-add, paste, drop-length}
-use Rattle.base.proofs.Answers.{and-left, and-right}
+use lib.ListN.{length, take, drop, getD, set, replicate, length-take, length-drop, length-map, take-append-drop}
+use lib.ListN.{List·getD-append}
+use lib.Seq.{take-all, take-nil, take-length, take-take, drop-cons, drop-drop, drop-at, take-append-seam, getD-drop}
+use lib.Seq.{getD-append-add, paste, drop-length}
+use Rattle.base.proofs.Answers.{by-test, not-so, and-left, and-right}
 use Rattle.base.specs.Lists.{part, put, eqs, table, rows, Bytes}
 
 -- ---- parts and stores
@@ -34,15 +39,41 @@ put-part at n s h = rw (length-part at n s h, ← drop-drop n at s, take-append-
 pub paste-all : (d : List ℕ) (at : ℕ) (m : List ℕ) → paste d at m (length m) ≡ put at m d
 paste-all d at m = rw (take-length, append-assoc)
 
+pub drop-take : {A : Type 0} (s m : ℕ) (b : List A) → drop s (take m b) ≡ take (m - s) (drop s b)
+drop-take zero m b = rw sub-zero
+drop-take (suc s) zero b = rw zero-sub
+drop-take (suc s) (suc m) [] = rw take-nil
+drop-take (suc s) (suc m) (x ∷ b) = rw suc-sub-suc (drop-take s m b)
+
 -- a part that lies in the front, and a part of a part
 pub part-take : (at n m : ℕ) (s : List ℕ) → at + n ≤ m → part at n (take m s) ≡ part at n s
-part-take zero n m s h = take-take n m s (omega arith)
-part-take (suc at) n zero s h = absurd (omega arith)
-part-take (suc at) n (suc m) [] h = refl
-part-take (suc at) n (suc m) (x ∷ s) h = part-take at n m s (omega arith)
+part-take at n m s h = rw drop-take (take-take n (m - at) (drop at s) (omega arith))
 
 pub part-part : (i n at m : ℕ) (s : List ℕ) → i + n ≤ m → part i n (part at m s) ≡ part (at + i) n s
 part-part i n at m s h = part-take i n m (drop at s) h ∙ rw (drop-drop i at s)
+
+-- a part that is lent as `s[at..at + n]`
+pub lent-part : (at n : ℕ) (s : List ℕ) → take (at + n - at) (drop at s) ≡ part at n s
+lent-part at n s = rw add-sub-cancel-left
+
+pub lent-length : (at n : ℕ) (s : List ℕ) → at + n ≤ length s → length (take (at + n - at) (drop at s)) ≡ n
+lent-length at n s h = rw add-sub-cancel-left (length-part at n s h)
+
+-- ---- members
+
+module _ {A : Type 0} (d : A) where
+  pub getD-mem : (l : List A) (k : ℕ) → k < length l → List·Memᴰ (getD l k d) l
+  getD-mem [] k h = absurd (not-suc-le-zero h)
+  getD-mem (x ∷ l) zero h = List·Memᴰ·head refl
+  getD-mem (x ∷ l) (suc k) h = List·Memᴰ·tail (getD-mem l k (le-of-suc-le-suc h))
+
+  pub mem-getD : (l : List A) (x : A) → List·Memᴰ x l → (k : ℕ) × (k < length l) × (getD l k d ≡ x)
+  mem-getD [] x m = absurd (List·Memᴰ·not-nil m)
+  mem-getD (y ∷ l) x m =
+      ⊎-elim
+      (λ (q : x ≡ y). (0, omega arith, sym q))
+      (λ (q : List·Memᴰ x l). let r = mem-getD l x q in (suc (r .0), omega (arith, r .1), r .2))
+      (List·Memᴰ·cases-cons m)
 
 -- ---- bytes
 
@@ -92,11 +123,7 @@ eqs-true (x ∷ a) (y ∷ b) e =
     ap₂ (λ (z : ℕ) (l : List ℕ). z ∷ l) (eqb-true x y (and-left (eqb x y) (eqs a b) e)) (eqs-true a b (and-right (eqb x y) (eqs a b) e))
 
 pub eqs-false : (a b : List ℕ) → (a ≡ b → ⊥) → eqs a b ≡ false
-eqs-false a b n = go (eqs a b) refl
-  where
-    go : (t : Bool) → eqs a b ≡ t → eqs a b ≡ false
-    go true e = absurd (n (eqs-true a b e))
-    go false e = e
+eqs-false a b n = not-so (eqs a b) (λ e. n (eqs-true a b e))
 
 pub eqs-lengths : (a b : List ℕ) → (length a ≡ length b → ⊥) → eqs a b ≡ false
 eqs-lengths a b n = eqs-false a b (λ (e : a ≡ b). n (ap length e))
@@ -120,11 +147,7 @@ eqs-end a b e = rw (drop-length a, e, drop-length b)
 
 -- two lists, compared by a test that computes
 pub same : (xs ys : List ℕ) → T (eqs xs ys) → xs ≡ ys
-same xs ys t = go (eqs xs ys) refl t
-  where
-    go : (b : Bool) → eqs xs ys ≡ b → T b → xs ≡ ys
-    go true e u = eqs-true xs ys e
-    go false e u = absurd u
+same xs ys t = by-test (eqs xs ys) (eqs-true xs ys) (λ e. absurd (subst T e t))
 
 -- ---- tables by a rule
 

@@ -5,8 +5,10 @@ use Prim.Native.Nat.{ℕ, zero, suc, _+_, _-_, _≤_}
 use native.Mathlib.Nat.{add-assoc, zero-add}
 use native.Mathlib.Omega.{arith}
 use lib.ListN.{length, take, drop, replicate, length-append, length-take, length-drop, take-append-drop}
-use lib.Seq.{take-at, drop-at, take-append-le, drop-append-le, take-append-add, drop-append-add, length-take-le, drop-drop, drop-length}
+use lib.Seq.{take-append-seam, drop-append-seam, take-at, drop-at, take-append-le, drop-append-le, take-append-add}
+use lib.Seq.{drop-append-add, length-take-le, drop-drop, drop-length}
 use Rattle.base.specs.Lists.{part, put, Bytes}
+use Rattle.base.proofs.Lists as lists
 use Rattle.base.proofs.Lists.{bytes-take, bytes-drop}
 
 -- ---- stores
@@ -89,18 +91,17 @@ part-put-in b size at bs s h k = ap (part b size) whole ∙ ap (take size) (drop
         ap (put (b + at) bs) is ∙ ap (λ (m : ℕ). put (m + at) bs (x ++ (y ++ z))) (sym lx) ∙ put-right at bs x (y ++ z)
         ∙ ap (λ (r : List ℕ). x ++ r) (put-left at bs y z (omega (arith, ly)))
 
+-- a store over the middle of three lists
+pub put-middle : (n : ℕ) (bs x y z : List ℕ) → length x ≡ n → length bs ≡ length y → put n bs (x ++ (y ++ z)) ≡ x ++ (bs ++ z)
+put-middle n bs x y z e f = rw (← e, take-append-seam x (y ++ z), drop-append-add x (y ++ z) (length bs), f, drop-append-seam y z)
+
 -- a store over the whole list
 pub put-all : (bs s : List ℕ) → length bs ≡ length s → put 0 bs s ≡ bs
 put-all bs s e = rw (zero-add, e, drop-length, append-nil)
 
--- a part of a part
+-- a part of the front (Lists has it without the length)
 pub part-take : (r c d : ℕ) (b : List ℕ) → c + r ≤ d → d ≤ length b → part c r (take d b) ≡ part c r b
-part-take r c d b h k =
-    let l = length-take-le d b k in
-    sym
-    (ap (λ (x : List ℕ). take r (drop c x)) (sym (take-append-drop d b))
-    ∙ rw (drop-append-le c (take d b) (drop d b) (omega arith))
-    (take-append-le r (drop c (take d b)) (drop d b) (simp (length-drop, l) (omega arith))))
+part-take r c d b h k = lists.part-take c r d b h
 
 -- ---- runs of one number
 

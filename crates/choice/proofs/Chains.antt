@@ -1,35 +1,36 @@
 -- Laws of the chains: who is in a bucket, a walk along a chain, links stored. Assumes nothing.
-use mathlib.Core.Path.{_≡_, refl, sym, ap₂, _∙_}
-use mathlib.Core.Logic.{_≢_, _⊎_, inl, inr}
-use mathlib.Core.Bool.{Bool, true, false}
-use mathlib.Core.List.{List}
+use mathlib.Core.Path.{_≡_, refl, sym, ap, ap₂, _∙_}
+use mathlib.Core.Logic.{_≢_, _⊎_, inl, inr, ⊎-elim}
+use mathlib.Core.Bool.{true, false}
+use mathlib.Core.List.{List, _++_}
 use Prim.Native.Nat.{ℕ, _+_, _*_, _≤_, _<_}
 use native.Mathlib.Omega.{arith}
-use borrow.Author.Tests.{eq-eqb, ne-eqb, ltb-true, ltb-false}
-use lib.Dec.{ltb}
-use lib.ListN.{getD, set, length-set}
-use lib.Seq.{getD-set-same, getD-set-other, drop-set-lt}
-use Rattle.base.proofs.Below.{eq-or-ne, one-more}
+use borrow.Author.Tests.{eq-eqb, ne-eqb}
+use lib.ListN.{length, drop, getD, set, replicate, length-set, length-replicate, getD-replicate, List·getD-append}
+use lib.Seq.{getD-set-same, getD-set-other}
+use Rattle.base.proofs.Below.{lt-or-le, eq-or-ne, one-more}
+use Rattle.base.proofs.Answers.{not-so}
+use Rattle.words.specs.Words.{noWord, mostPebs, mapWordsNeeded, volumeWord, lnumWord, pebWord}
+use Rattle.words.proofs.Laws.{peb-set-same, peb-set-other, peb-set-volume, peb-set-lnum, peb-set-tail}
 use Rattle.geometry.specs.declared.Geometry.{Geometry}
 use Rattle.report.specs.View.{viewsOf, copies}
 use Rattle.report.specs.Choice.{repeats}
-use Rattle.report.specs.Report.{noWord}
-use Rattle.choice.specs.Keyed.{Keyed, volumeWord, lebWord, sameLeb}
-use Rattle.choice.specs.Chain.{linkWord, bucketOf, bucketAt, Nearest, Link, Linked, Chained, Relinked, Chains}
-use Rattle.choice.proofs.Words.{not-so, same-true, repeat-words}
+use Rattle.choice.specs.Keyed.{Keyed, sameLeb}
+use Rattle.choice.specs.Chain.{buckets, bucketOf, bucketAt, Nearest, Link, Linked, Chained, Relinked, Chains}
+use Rattle.choice.proofs.Words.{same-true, repeat-words}
 
 -- ---- who is in a bucket
 
 module _ (map : List ℕ) (i : ℕ) where
-  no-bucket : volumeWord map i ≡ noWord → bucketAt map i ≡ 2048
+  no-bucket : volumeWord map i ≡ noWord → bucketAt map i ≡ buckets
   unfolding bucketAt
   no-bucket e = rw (eq-eqb (volumeWord map i) noWord e)
 
-  pub in-bucket : (volumeWord map i ≡ noWord → ⊥) → bucketAt map i ≡ bucketOf (volumeWord map i) (lebWord map i)
+  pub in-bucket : (volumeWord map i ≡ noWord → ⊥) → bucketAt map i ≡ bucketOf (volumeWord map i) (lnumWord map i)
   unfolding bucketAt
   in-bucket h = rw (ne-eqb (volumeWord map i) noWord h)
 
-  bucket-small : (volumeWord map i ≡ noWord → ⊥) → bucketAt map i < 2048
+  bucket-small : (volumeWord map i ≡ noWord → ⊥) → bucketAt map i < buckets
   bucket-small h = rw (in-bucket h) (omega arith)
 
 module _ (map : List ℕ) (i k : ℕ) (h : volumeWord map i ≡ noWord → ⊥) where
@@ -48,7 +49,7 @@ pub record Along (map : List ℕ) (i m at w : ℕ) : Type 0 where
   pub range : at ≤ m
   pub near : (volumeWord map i ≡ noWord → ⊥) → Nearest map (bucketAt map i) at w
 
-pub along-from : {n : ℕ} {map : List ℕ} → Linked n map → (i : ℕ) → i < n → Along map i i i (linkWord map i)
+pub along-from : {n : ℕ} {map : List ℕ} → Linked n map → (i : ℕ) → i < n → Along map i i i (pebWord map i)
 along-from o i h = record { range = omega arith; near = o i h }
 
 pub head-near : {n w : ℕ} {map heads : List ℕ} → Chained n n map heads → (i : ℕ) → (volumeWord map i ≡ noWord → ⊥) → w ≡ getD heads (bucketAt map i) 0
@@ -56,7 +57,7 @@ pub head-near : {n w : ℕ} {map heads : List ℕ} → Chained n n map heads →
 head-near {n} {w} {map} o i h e = rw e (o .tops (bucketAt map i) (bucket-small map i h))
 
 module _ {map : List ℕ} {i m at w : ℕ} (o : Along map i m at w) where
-  pub along-next : {n : ℕ} → Linked n map → m ≤ n → w < at → Along map i m w (linkWord map w)
+  pub along-next : {n : ℕ} → Linked n map → m ≤ n → w < at → Along map i m w (pebWord map w)
   along-next l k h =
       let r = o .range in
       record { range = omega arith; near = λ c. let e = o .near c .is h in rw e at (l w (omega arith) (bucket-holds map i w c e)) }
@@ -66,20 +67,18 @@ module _ {map : List ℕ} {i m at w : ℕ} (o : Along map i m at w) where
       (outside : (x : ℕ) → x < m → ((volumeWord map i ≡ noWord → ⊥) → bucketAt map x ≡ bucketAt map i → ⊥) → P x) where
     -- holds from the next one on, if it holds of that
     pub walk-on : P w → (x : ℕ) → w ≤ x → x < m → P x
-    walk-on p x h k = go (ltb x at) refl (eq-or-ne x w)
-      where
-        go : (t : Bool) → ltb x at ≡ t → (x ≡ w) ⊎ (x ≢ w) → P x
-        go t e (inl q) = rw q p
-        go true e (inr q) = outside x k (λ c y. q (let z = o .near c .skips x (ltb-true x at e) y in omega arith))
-        go false e (inr q) = behind x (ltb-false x at e) k
+    walk-on p x h k =
+        ⊎-elim (λ (q : x ≡ w). rw q p)
+        (λ (q : x ≢ w). ⊎-elim
+        (λ (l : x < at). outside x k (λ c y. q (let z = o .near c .skips x l y in omega arith)))
+        (λ (l : at ≤ x). behind x l k) (lt-or-le x at))
+        (eq-or-ne x w)
 
     -- holds of all, if the chain ends
     pub walk-end : at ≤ w → (x : ℕ) → x < m → P x
-    walk-end h x k = go (ltb x at) refl
-      where
-        go : (t : Bool) → ltb x at ≡ t → P x
-        go true e = outside x k (λ c y. let z = o .near c .skips x (ltb-true x at e) y in absurd (omega arith))
-        go false e = behind x (ltb-false x at e) k
+    walk-end h x k =
+        ⊎-elim (λ (l : x < at). outside x k (λ c y. let z = o .near c .skips x l y in absurd (omega arith)))
+        (λ (l : at ≤ x). behind x l k) (lt-or-le x at)
 
 -- PEBs of other buckets have other LEBs, and no repeats
 module _ (map : List ℕ) (i x : ℕ) (f : (volumeWord map i ≡ noWord → ⊥) → bucketAt map x ≡ bucketAt map i → ⊥) where
@@ -97,7 +96,7 @@ module _ (map : List ℕ) (i x : ℕ) (f : (volumeWord map i ≡ noWord → ⊥)
 module _ {n : ℕ} {map map′ : List ℕ} (o : Relinked n map map′) where
   same-buckets : (i : ℕ) → bucketAt map′ i ≡ bucketAt map i
   unfolding bucketAt
-  same-buckets i = rw (o .volumes i, o .lebs i)
+  same-buckets i = rw (o .volumes i, o .lnums i)
 
   nearest-same : {b m w : ℕ} → Nearest map b m w → Nearest map′ b m w
   nearest-same {b} {m} {w} t = record { is = λ h. same-buckets w ∙ t .is h; none = t .none; skips = λ k h e. t .skips k h (sym (same-buckets k) ∙ e) }
@@ -106,19 +105,19 @@ module _ {n : ℕ} {map map′ : List ℕ} (o : Relinked n map map′) where
   relinked-on p = record {
     size = p .size ∙ o .size;
     volumes = λ i. p .volumes i ∙ o .volumes i;
-    lebs = λ i. p .lebs i ∙ o .lebs i;
+    lnums = λ i. p .lnums i ∙ o .lnums i;
     tail = p .tail ∙ o .tail;
   }
 
 pub relinked-none : (n : ℕ) (map : List ℕ) → Relinked n map map
-relinked-none n map = record { size = refl; volumes = λ i. refl; lebs = λ i. refl; tail = refl }
+relinked-none n map = record { size = refl; volumes = λ i. refl; lnums = λ i. refl; tail = refl }
 
 relinked-one : (n i v : ℕ) (map : List ℕ) → i < n → Relinked n map (set map (i * 3 + 2) v)
 relinked-one n i v map h = record {
   size = length-set map (i * 3 + 2) v;
-  volumes = λ k. getD-set-other map (i * 3 + 2) (k * 3) v 0 (λ e. omega arith);
-  lebs = λ k. getD-set-other map (i * 3 + 2) (k * 3 + 1) v 0 (λ e. omega arith);
-  tail = drop-set-lt (n * 3) map (i * 3 + 2) v (omega arith);
+  volumes = peb-set-volume map i v;
+  lnums = peb-set-lnum map i v;
+  tail = peb-set-tail map i v n h;
 }
 
 -- the head of another bucket stays
@@ -130,11 +129,7 @@ nearest-past {map} {b} {m} {w} l h t = record {
 }
   where
     below : w < m + 1 → w < m
-    below k = go (ltb w m) refl
-      where
-        go : (x : Bool) → ltb w m ≡ x → w < m
-        go true e = ltb-true w m e
-        go false e = absurd (let z = t .none (ltb-false w m e) in omega arith)
+    below k = ⊎-elim (λ (h : w < m). h) (λ (h : m ≤ w). absurd (let z = t .none h in omega arith)) (lt-or-le w m)
 
     within : (k : ℕ) → k < m + 1 → bucketAt map k ≡ b → k < m
     within k q e = let z : k ≢ m = λ (y : k ≡ m). h (rw y at e) in omega (arith, z)
@@ -160,7 +155,7 @@ module _ {n i : ℕ} {map heads : List ℕ} (h : i < n) (o : Chained n i map hea
 
   module _ (c : volumeWord map i ≡ noWord → ⊥) where
     abbrev b₀ : ℕ
-    b₀ = bucketOf (volumeWord map i) (lebWord map i)
+    b₀ = bucketOf (volumeWord map i) (lnumWord map i)
 
     abbrev map₁ : List ℕ
     map₁ = set map (i * 3 + 2) (getD heads b₀ 0)
@@ -171,20 +166,20 @@ module _ {n i : ℕ} {map heads : List ℕ} (h : i < n) (o : Chained n i map hea
     r₁ : Relinked n map map₁
     r₁ = relinked-one n i (getD heads b₀ 0) map h
 
-    b-small : b₀ < 2048
+    b-small : b₀ < buckets
     b-small = omega arith
 
     linked : Linked i map₁
     linked k l z =
-        rw (same-buckets r₁ k, getD-set-other map (i * 3 + 2) (k * 3 + 2) (getD heads b₀ 0) 0 (λ e. omega arith))
+        rw (same-buckets r₁ k, peb-set-other map i (getD heads b₀ 0) k (λ e. omega arith))
         (nearest-same r₁ (o .links k l (λ (y : volumeWord map k ≡ noWord). z (r₁ .volumes k ∙ y))))
 
-    linked-one : Nearest map₁ (bucketAt map₁ i) i (linkWord map₁ i)
+    linked-one : Nearest map₁ (bucketAt map₁ i) i (pebWord map₁ i)
     linked-one =
-        rw (same-buckets r₁ i, in-bucket map i c, getD-set-same map (i * 3 + 2) (getD heads b₀ 0) 0 (let l = o .long-map in omega arith))
+        rw (same-buckets r₁ i, in-bucket map i c, peb-set-same map i (getD heads b₀ 0) (let l = o .long-map in omega arith))
         (nearest-same r₁ (o .tops b₀ b-small))
 
-    topped : (b : ℕ) → b < 2048 → (b ≡ b₀) ⊎ (b ≢ b₀) → Nearest map b (i + 1) (getD heads₁ b 0)
+    topped : (b : ℕ) → b < buckets → (b ≡ b₀) ⊎ (b ≢ b₀) → Nearest map b (i + 1) (getD heads₁ b 0)
     topped b l (inl e) =
         rw (e, getD-set-same heads b₀ i 0 (let y = o .long-heads in let x = b-small in omega arith), ← (in-bucket map i c)) (nearest-self map i)
     topped b l (inr e) =
@@ -211,4 +206,22 @@ chains-on o p = record {
   chained = p .chained;
   relinked = relinked-on (o .relinked) (p .relinked);
   heads-size = p .heads-size ∙ o .heads-size;
+}
+
+-- ---- no heads before copies are linked
+
+pub no-heads : {n : ℕ} {map heads₁ : List ℕ} (heads : List ℕ) (k : ℕ) → heads₁ ≡ replicate k noWord ++ drop k heads → length heads₁ ≡ length heads
+    → buckets ≤ k → buckets ≤ length heads → n ≤ mostPebs → mapWordsNeeded n ≤ length map → Chained n 0 map heads₁
+no-heads heads k e s q h f l = record {
+  few = f;
+  long-map = l;
+  long-heads = omega arith;
+  links = λ i z. absurd (omega arith);
+  tops = λ b z. record {
+    is = λ y. absurd (omega arith);
+    none = λ _. ap (λ (x : List ℕ). getD x b 0) e
+        ∙ List·getD-append (replicate k noWord) (drop k heads) 0 b (omega (arith, length-replicate k noWord))
+        ∙ getD-replicate k b noWord 0 (omega arith);
+    skips = λ i y. absurd (omega arith);
+  };
 }

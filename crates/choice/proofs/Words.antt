@@ -1,6 +1,6 @@
 -- The map's words after the first pass, and the copies that they name. Assumes nothing.
 use mathlib.Core.Path.{_≡_, refl, sym, ap, _∙_}
-use mathlib.Core.Bool.{Bool, true, false, not, _&&_, true≢false, false≢true}
+use mathlib.Core.Bool.{Bool, true, _&&_, true≢false, false≢true}
 use mathlib.Core.Option.{Option, none, some}
 use mathlib.Core.List.{List}
 use Prim.Native.Nat.{ℕ, _<_}
@@ -9,16 +9,16 @@ use native.Mathlib.Nat.{mul-le-mul-right}
 use borrow.Author.Tests.{eqb-true, eqb-false, eq-eqb}
 use lib.Dec.{eqb}
 use lib.ListN.{getD}
-use Rattle.base.proofs.Answers.{and-left, and-right}
+use Rattle.base.proofs.Answers.{by-test, not-so, and-left, and-right}
+use Rattle.words.specs.Words.{noWord, volumeWord, lnumWord}
 use Rattle.geometry.specs.declared.Geometry.{Geometry}
 use Rattle.report.specs.View.{Copy, VidView, vidGood, vidNewer, vidBlank, vidBad, copyOf, viewsOf, goodVid, copies, isMappable}
-use Rattle.report.specs.Report.{noWord}
 use Rattle.report.specs.Choice.{repeats}
 use Rattle.report.specs.Scratch.{keyWords}
-use Rattle.report.proofs.First.{none-some}
+use Rattle.base.proofs.Answers.{none-some}
 use Rattle.copies.specs.InPlace.{copyAt}
 use Rattle.copies.proofs.Copies.{copy-is}
-use Rattle.choice.specs.Keyed.{Keyed, Within, sequenceAt, volumeWord, lebWord, sameLeb, repeatsAt}
+use Rattle.choice.specs.Keyed.{Keyed, Within, sequenceAt, sameLeb, repeatsAt}
 
 -- ---- the words of one PEB
 
@@ -34,15 +34,15 @@ record Named (o : Option Copy) (v l : ℕ) : Type 0 where
   pub volume : copy .header .volume ≡ v
   pub leb : copy .header .lnum ≡ l
 
-named : (i : ℕ) (x : VidView) → (getD (keyWords i x) 0 0 ≡ noWord → ⊥) → Named (goodVid x) (getD (keyWords i x) 0 0) (getD (keyWords i x) 1 0)
+named : (i : ℕ) (x : VidView) → (getD (keyWords i x) 0 0 ≡ noWord → ⊥)
+    → Named (goodVid x) (getD (keyWords i x) 0 0) (getD (keyWords i x) 1 0)
 named i vidNewer n = absurd (n refl)
 named i vidBlank n = absurd (n refl)
 named i vidBad n = absurd (n refl)
-named i (vidGood c) n = go (isMappable (c .header .volume)) refl
-  where
-    go : (b : Bool) → isMappable (c .header .volume) ≡ b → Named (some c) (getD (keyWords i (vidGood c)) 0 0) (getD (keyWords i (vidGood c)) 1 0)
-    go true e = record { copy = c; is = refl; mappable = e; volume = rw e; leb = rw e }
-    go false e = absurd (n (rw e))
+named i (vidGood c) n =
+    by-test (isMappable (c .header .volume))
+    (λ e. record { copy = c; is = refl; mappable = e; volume = rw e; leb = rw e })
+    (λ e. absurd (n (rw e)))
 
 -- and such a copy has its words there
 words-of : (i : ℕ) (x : VidView) (c : Copy) → goodVid x ≡ some c → isMappable (c .header .volume) ≡ true
@@ -59,7 +59,7 @@ pub record Held (g : Geometry) (image map : List ℕ) (i : ℕ) : Type 0 where
   pub is : copies (viewsOf g image) i ≡ some (copyAt g image i)
   pub mappable : isMappable (copyAt g image i .header .volume) ≡ true
   pub volume : copyAt g image i .header .volume ≡ volumeWord map i
-  pub leb : copyAt g image i .header .lnum ≡ lebWord map i
+  pub leb : copyAt g image i .header .lnum ≡ lnumWord map i
 
 module _ {g : Geometry} {image : List ℕ} {n : ℕ} {map : List ℕ} (d : Keyed g image n map) (i : ℕ) (h : i < n) where
   pub within : Within g image map i
@@ -77,13 +77,13 @@ module _ {g : Geometry} {image : List ℕ} {n : ℕ} {map : List ℕ} (d : Keyed
         is = w .is ∙ ap some e;
         mappable = rw e at (w .mappable);
         volume = rw e at (w .volume) ∙ sym (d .volumes i h);
-        leb = rw e at (w .leb) ∙ sym (d .lebs i h);
+        leb = rw e at (w .leb) ∙ sym (d .lnums i h);
       }
 
   -- the words of a copy of a user or layout LEB
   pub has-words : (c : Copy) → copies (viewsOf g image) i ≡ some c → isMappable (c .header .volume) ≡ true
-      → (volumeWord map i ≡ c .header .volume) × (lebWord map i ≡ c .header .lnum)
-  has-words c e m = let w = words-of i (viewsOf g image i .vid) c e m in (d .volumes i h ∙ w .0, d .lebs i h ∙ w .1)
+      → (volumeWord map i ≡ c .header .volume) × (lnumWord map i ≡ c .header .lnum)
+  has-words c e m = let w = words-of i (viewsOf g image i .vid) c e m in (d .volumes i h ∙ w .0, d .lnums i h ∙ w .1)
 
 -- ---- repeats
 
@@ -115,18 +115,14 @@ repeat-of (some c) (some d) e =
       leb = eqb-true (c .header .lnum) (d .header .lnum) (and-left l t (and-right v (l && t) r));
     }
 
-pub not-so : (b : Bool) → (b ≡ true → ⊥) → b ≡ false
-not-so true h = absurd (h refl)
-not-so false h = refl
-
-pub same-true : (map : List ℕ) (i j : ℕ) → sameLeb map i j ≡ true → (volumeWord map i ≡ volumeWord map j) × (lebWord map i ≡ lebWord map j)
+pub same-true : (map : List ℕ) (i j : ℕ) → sameLeb map i j ≡ true → (volumeWord map i ≡ volumeWord map j) × (lnumWord map i ≡ lnumWord map j)
 same-true map i j e =
     let v = eqb (volumeWord map i) (volumeWord map j) in
-    let l = eqb (lebWord map i) (lebWord map j) in
-    (eqb-true (volumeWord map i) (volumeWord map j) (and-left v l e), eqb-true (lebWord map i) (lebWord map j) (and-right v l e))
+    let l = eqb (lnumWord map i) (lnumWord map j) in
+    (eqb-true (volumeWord map i) (volumeWord map j) (and-left v l e), eqb-true (lnumWord map i) (lnumWord map j) (and-right v l e))
 
-pub true-same : (map : List ℕ) (i j : ℕ) → volumeWord map i ≡ volumeWord map j → lebWord map i ≡ lebWord map j → sameLeb map i j ≡ true
-true-same map i j p q = rw (eq-eqb (volumeWord map i) (volumeWord map j) p) (eq-eqb (lebWord map i) (lebWord map j) q)
+pub true-same : (map : List ℕ) (i j : ℕ) → volumeWord map i ≡ volumeWord map j → lnumWord map i ≡ lnumWord map j → sameLeb map i j ≡ true
+true-same map i j p q = rw (eq-eqb (volumeWord map i) (volumeWord map j) p) (eq-eqb (lnumWord map i) (lnumWord map j) q)
 
 module _ {g : Geometry} {image : List ℕ} {n : ℕ} {map : List ℕ} (d : Keyed g image n map) (i j : ℕ) (h : i < n) (k : j < n) where
   abbrev cs : ℕ → Option Copy
@@ -158,13 +154,12 @@ module _ {g : Geometry} {image : List ℕ} {n : ℕ} {map : List ℕ} (d : Keyed
 
   -- what is told from words and sequences is what the definition says of the copies
   repeats-at : repeatsAt g image map i j ≡ repeats (cs i) (cs j)
-  repeats-at = go (eqb (volumeWord map i) noWord) (sameLeb map i j) refl refl
-    where
-      go : (a b : Bool) → eqb (volumeWord map i) noWord ≡ a → sameLeb map i j ≡ b
-          → not a && (b && eqb (sequenceAt g image i) (sequenceAt g image j)) ≡ repeats (cs i) (cs j)
-      go true b p q = sym (not-so (repeats (cs i) (cs j)) (λ e. repeat-words e .0 (eqb-true (volumeWord map i) noWord p)))
-      go false false p q = sym (not-so (repeats (cs i) (cs j)) (λ e. true≢false (sym (repeat-words e .1) ∙ q)))
-      go false true p q = sym (repeat-sequence (eqb-false (volumeWord map i) noWord p) q)
+  repeats-at =
+      by-test (eqb (volumeWord map i) noWord)
+      (λ p. rw p (sym (not-so (repeats (cs i) (cs j)) (λ e. repeat-words e .0 (eqb-true (volumeWord map i) noWord p)))))
+      (λ p. by-test (sameLeb map i j)
+      (λ q. rw (p, q) (sym (repeat-sequence (eqb-false (volumeWord map i) noWord p) q)))
+      (λ q. rw (p, q) (sym (not-so (repeats (cs i) (cs j)) (λ e. true≢false (sym (repeat-words e .1) ∙ q))))))
 
   pub repeats-told : {t b : Bool} → t ≡ repeatsAt g image map i j → t ≡ b → repeats (cs i) (cs j) ≡ b
   repeats-told e q = sym repeats-at ∙ sym e ∙ q

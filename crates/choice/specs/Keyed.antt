@@ -6,29 +6,22 @@ use mathlib.Core.List.{List}
 use Prim.Native.Nat.{ℕ, _+_, _*_, _≤_, _<_}
 use lib.Dec.{eqb, ltb, leb}
 use lib.ListN.{length, getD}
+use Rattle.words.specs.Words.{noWord, mapWordsNeeded, HasEntry, volumeWord, lnumWord}
 use Rattle.geometry.specs.declared.Geometry.{Geometry}
 use Rattle.geometry.specs.Placed.{Placed}
 use Rattle.report.specs.View.{viewsOf, copies}
 use Rattle.report.specs.Choice.{refusal9}
 use Rattle.report.specs.Scan.{Refusal}
 use Rattle.report.specs.Scratch.{keyWords}
-use Rattle.report.specs.Report.{noWord}
 use Rattle.copies.specs.InPlace.{headerAt}
-
--- the volume and LEB in PEB i's words
-abbrev pub volumeWord : List ℕ → ℕ → ℕ
-volumeWord map i = getD map (i * 3) 0
-
-abbrev pub lebWord : List ℕ → ℕ → ℕ
-lebWord map i = getD map (i * 3 + 1) 0
 
 -- an image of n PEBs, and the lent words: the first two of each PEB's three hold its volume and LEB
 pub record Keyed (g : Geometry) (image : List ℕ) (n : ℕ) (map : List ℕ) : Type 0 where
   pub placed : Placed g
   pub whole : length image ≡ n * g .«peb_size»
-  pub long : n * 3 ≤ length map
+  pub long : mapWordsNeeded n ≤ length map
   pub volumes : (i : ℕ) → i < n → volumeWord map i ≡ getD (keyWords i (viewsOf g image i .vid)) 0 0
-  pub lebs : (i : ℕ) → i < n → lebWord map i ≡ getD (keyWords i (viewsOf g image i .vid)) 1 0
+  pub lnums : (i : ℕ) → i < n → lnumWord map i ≡ getD (keyWords i (viewsOf g image i .vid)) 1 0
 
 -- the sequence in PEB i's VID header
 abbrev pub sequenceAt : Geometry → List ℕ → ℕ → ℕ
@@ -38,11 +31,11 @@ sequenceAt g image i = headerAt g image i .sequence
 pub record Within (g : Geometry) (image map : List ℕ) (i : ℕ) : Type 0 where
   pub placed : Placed g
   pub bytes : (i + 1) * g .«peb_size» ≤ length image
-  pub words : i * 3 + 3 ≤ length map
+  pub words : HasEntry map i
 
 -- do the words of two PEBs name one volume and LEB?
 abbrev pub sameLeb : List ℕ → ℕ → ℕ → Bool
-sameLeb map i j = eqb (volumeWord map i) (volumeWord map j) && eqb (lebWord map i) (lebWord map j)
+sameLeb map i j = eqb (volumeWord map i) (volumeWord map j) && eqb (lnumWord map i) (lnumWord map j)
 
 -- does PEB i, which holds a user or layout LEB, repeat the volume, LEB and sequence of PEB j?
 abbrev pub repeatsAt : Geometry → List ℕ → List ℕ → ℕ → ℕ → Bool
@@ -60,13 +53,18 @@ pub record Choosing (g : Geometry) (image : List ℕ) (n : ℕ) (map : List ℕ)
   pub holds : volumeWord map i ≡ noWord → ⊥
   pub no-repeat : refusal9 n (copies (viewsOf g image)) ≡ none
 
--- the better of `best` (n for none) and PEB j: of the copies of PEB i's LEB with a sequence of at most `most`, the one with the higher
+-- the better of `best` (n for none) and PEB j: of the copies of PEB i's LEB with a sequence of at most `most`, the one
+-- with the higher
 abbrev pub higherOf : Geometry → List ℕ → ℕ → List ℕ → ℕ → ℕ → ℕ → ℕ → ℕ
 higherOf g image n map i most best j =
-    cond (sameLeb map i j && (leb (sequenceAt g image j) most && (eqb best n || ltb (sequenceAt g image best) (sequenceAt g image j)))) j best
+    cond
+    (sameLeb map i j
+    && (leb (sequenceAt g image j) most && (eqb best n || ltb (sequenceAt g image best) (sequenceAt g image j)))) j best
 
--- r is, of the copies of PEB i's LEB in the PEBs from k on with a sequence of at most `most`, one with the highest sequence; n if there is none
+-- r is, of the copies of PEB i's LEB in the PEBs from k on with a sequence of at most `most`, one with the highest
+-- sequence; n if there is none
 pub record Highest (g : Geometry) (image : List ℕ) (n : ℕ) (map : List ℕ) (i most k r : ℕ) : Type 0 where
   pub range : r ≤ n
   pub is : r < n → (sameLeb map i r ≡ true) × (sequenceAt g image r ≤ most)
-  pub leads : (j : ℕ) → k ≤ j → j < n → sameLeb map i j ≡ true → sequenceAt g image j ≤ most → (r < n) × (sequenceAt g image j ≤ sequenceAt g image r)
+  pub leads : (j : ℕ) → k ≤ j → j < n → sameLeb map i j ≡ true → sequenceAt g image j ≤ most
+      → (r < n) × (sequenceAt g image j ≤ sequenceAt g image r)

@@ -1,3 +1,4 @@
 -- The definitions that contracts here cite. Assumes nothing.
 pub mod Keyed
 pub mod Chain
+pub mod Marking

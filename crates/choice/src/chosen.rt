@@ -5,7 +5,8 @@ ghost use Prim.Native.Nat.{_≤_, _<_};
 ghost use Rattle.report.specs.View.{viewsOf, copies};
 ghost use Rattle.report.specs.Choice.{chosen};
 ghost use Rattle.copies.specs.InPlace.{copyAt};
-ghost use Rattle.choice.specs.Keyed.{Keyed, Choosing, volumeWord, lebWord, higherOf, Highest};
+ghost use Rattle.words.specs.Words.{volumeWord, lnumWord};
+ghost use Rattle.choice.specs.Keyed.{Keyed, Choosing, higherOf, Highest};
 ghost use Rattle.choice.specs.Chain.{bucketAt, Nearest, Linked, Chained};
 use crate::chain::head;
 use crate::chain::link;
@@ -14,8 +15,8 @@ use copies::header_field;
 use geometry::Geometry;
 use header::VID_SEQUENCE;
 
-// The PEB of the chosen copy of the LEB that PEB i holds. The copies are met from the highest sequence down; the lowest needs no
-// checksum, for it counts if no other does.
+// The PEB of the chosen copy of the LEB that PEB i holds. The copies are met from the highest sequence down; the lowest
+// needs no checksum, for it counts if no other does.
 pub fn chosen_peb(
     image: &[u8],
     g: Geometry,
@@ -25,7 +26,9 @@ pub fn chosen_peb(
     i: usize,
 ) -> usize
     requires { ⌜ (Choosing g (now image) n (now map) i) × Chained n n (now map) (now heads) ⌝ }
-    ensures { λ r. ⌜ (chosen n (copies (viewsOf g (now (image .entry)))) (volumeWord (now (map .entry)) i) (lebWord (now (map .entry)) i) ≡ some (r, copyAt g (now (image .entry)) r)) × (r < n) ⌝ }
+    ensures { λ r. ⌜ (chosen n (copies (viewsOf g (now (image .entry))))
+        (volumeWord (now (map .entry)) i) (lnumWord (now (map .entry)) i) ≡ some (r, copyAt g (now (image .entry)) r))
+        × (r < n) ⌝ }
 {
     let top = head(map, heads, i);
     let mut at = highest_up_to(image, g, n, map, i, top, 0xFFFFFFFFFFFFFFFF);
@@ -45,8 +48,8 @@ pub fn chosen_peb(
     }
 }
 
-// Of the copies of PEB i's LEB with a sequence of at most `most`, the PEB of the highest; n if there is none. The chain of its bucket
-// starts at `top`.
+// Of the copies of PEB i's LEB with a sequence of at most `most`, the PEB of the highest; n if there is none. The chain
+// of its bucket starts at `top`.
 fn highest_up_to(
     image: &[u8],
     g: Geometry,
@@ -56,7 +59,8 @@ fn highest_up_to(
     top: usize,
     most: u64,
 ) -> usize
-    requires { ⌜ (Choosing g (now image) n (now map) i) × ((Linked n (now map)) × Nearest (now map) (bucketAt (now map) i) n top) ⌝ }
+    requires { ⌜ (Choosing g (now image) n (now map) i)
+        × ((Linked n (now map)) × Nearest (now map) (bucketAt (now map) i) n top) ⌝ }
     ensures { λ r. ⌜ Highest g (now (image .entry)) n (now (map .entry)) i most 0 r ⌝ }
 {
     let mut best = n;

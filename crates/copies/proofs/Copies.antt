@@ -22,7 +22,7 @@ use Rattle.header.specs.Vid.{vidFields, vidRules, staticRule, readVid}
 use Rattle.header.proofs.Laws.{vid-good}
 use Rattle.header.proofs.RoundTrip.{vid-read-fits}
 use Rattle.report.specs.View.{allFF, Copy, vidBlank, copyOf, vidOf, vidPart, viewOf, pebAt, viewsOf, goodVid, copies}
-use Rattle.report.proofs.First.{none-some}
+use Rattle.base.proofs.Answers.{none-some}
 use Rattle.copies.specs.InPlace.{headerAt, copyAt, HasCopy}
 
 -- ---- a good copy is the one of the fields in its place

@@ -9,7 +9,8 @@ use lib.Bits.{bitXor, xor-zero-l, xor-zero-r, xor-shr, xor-mod, xor-block}
 use lib.Pow.{high, low, pow-add, pow-pos}
 use lib.ListN.{length, take, drop, getD, set, replicate, length-drop, replicate-append-replicate}
 use native.Mathlib.Numerals.{add-one}
-use lib.Seq.{drop-at, drop-drop, drop-append-le, drop-set-add, drop-set-lt, getD-drop, getD-take, take-suc, take-suc-set, take-set-le, take-nil}
+use lib.Seq.{drop-at, drop-drop, drop-append-le, drop-set-add, drop-set-lt, getD-drop, getD-take, take-suc}
+use lib.Seq.{take-suc-set, take-set-le, take-nil}
 use Rattle.base.specs.Lists.{part}
 use Rattle.crc32.specs.Fold.{wordsOf, exponents, pending, zeros}
 use Rattle.crc32.proofs.Xor.{xor-swap}

@@ -2,16 +2,22 @@
 use mathlib.Core.Path.{_≡_, refl, sym, ap, _∙_, subst}
 use Prim.Native.Nat.{ℕ, zero, suc, _+_, _*_, _/_, _%_, _^_, _-_, _≤_, _<_}
 use mathlib.Core.List.{List, [], _∷_, _++_, append-assoc, append-nil}
-use native.Mathlib.Nat.{pow-suc, pow-le-pow-right, one-le-pow, mod-one, mod-eq-of-lt, suc-add, not-suc-le-zero, add-suc, zero-add, add-zero, mul-comm, mul-assoc, one-mul}
+use native.Mathlib.Nat.{pow-suc, pow-le-pow-right, one-le-pow, mod-one, mod-eq-of-lt, suc-add, not-suc-le-zero, add-suc}
+use native.Mathlib.Nat.{zero-add, add-zero, mul-comm, mul-assoc, one-mul}
 use native.Mathlib.Numerals.{add-one, sub-one}
 use native.Mathlib.Omega.{arith}
-use lib.Dec.{lit<}
+use mathlib.Core.Bool.{Bool, true, _&&_}
+use borrow.Author.Tests.{leb-true, le-leb}
+use lib.Dec.{leb, lit<}
 use lib.Arith.{mod-mul, digits-div, digits-mod}
 use lib.ListN.{length, take, drop, getD, set, length-drop, length-set, take-append-drop}
 use lib.Seq.{take-suc, getD-drop, drop-cons, take-set-le, getD-set-same, drop-set-lt}
 use Rattle.base.specs.Lists.{part, put, Bytes}
-use Rattle.base.proofs.Lists.{part-put, bytes-part, length-part, EachByte}
+use Rattle.base.proofs.Answers.{and-left, and-right}
+use Rattle.base.proofs.Lists.{part-put, bytes-part, length-part, EachByte, every, every-entry}
+use Rattle.field.specs.declared.Field.{Field}
 use Rattle.field.specs.Be.{beFrom, beOf, toBeOn, toBe}
+use Rattle.field.specs.Fields.{field, row}
 
 pub beFrom-snoc : (acc : ℕ) (l : List ℕ) (b : ℕ) → beFrom acc (l ++ (b ∷ [])) ≡ beFrom acc l * 256 + b
 unfolding beFrom
@@ -127,3 +133,19 @@ beFrom-lt (x ∷ l) b acc most h =
 -- a field of bytes is as large as its width allows
 pub field-lt : (at n : ℕ) (s : List ℕ) → at + n ≤ length s → Bytes s → beOf (part at n s) < 256 ^ n
 field-lt at n s h b = rw (length-part at n s h, one-mul) at (beFrom-lt (part at n s) (bytes-part at n s b) 0 1 (lit< tt))
+
+-- ---- tables of fields
+
+-- the field ends within `size` bytes, and is `most` bytes wide at most
+abbrev pub fit : ℕ → ℕ → Field → Bool
+fit size most f = leb (f .at + f .width) size && leb (f .width) most
+
+pub rows-fit : (size most : ℕ) (fields : List Field) → every (fit size most) fields ≡ true
+    → (i : ℕ) → (row fields i .at + row fields i .width ≤ size) × (row fields i .width ≤ most)
+rows-fit size most fields e i =
+    let f = row fields i in
+    let z : fit size most (field 0 0) ≡ true = rw (le-leb 0 size (omega arith), le-leb 0 most (omega arith)) in
+    let t : fit size most f ≡ true = every-entry (fit size most) (field 0 0) z fields e i in (
+      leb-true _ _ (and-left (leb (f .at + f .width) size) (leb (f .width) most) t),
+      leb-true _ _ (and-right (leb (f .at + f .width) size) (leb (f .width) most) t),
+    )

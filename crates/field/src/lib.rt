@@ -5,6 +5,12 @@ ghost use lib.ListN.{length};
 ghost use Rattle.base.specs.Lists.{part, put};
 ghost use Rattle.field.specs.Be.{beOf, toBe};
 
+// A field of a run of bytes: where it starts, and how many bytes it has.
+pub struct Field {
+    pub at: usize,
+    pub width: usize,
+}
+
 // The number in the `width` bytes from `at` on.
 pub fn read(s: &[u8], at: usize, width: usize) -> u64
     requires { ⌜ (at + width ≤ length (now s)) × (width ≤ 8) ⌝ }

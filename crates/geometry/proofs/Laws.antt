@@ -1,9 +1,10 @@
 -- Laws of units and multiples. Assumes nothing.
 use mathlib.Core.Path.{_≡_, sym, _∙_, subst}
 use mathlib.Core.Logic.{⊎-elim}
-use mathlib.Core.Bool.{Bool, true, false, false≢true, and-true}
+use mathlib.Core.Bool.{Bool, true, false, false≢true, and-true, and-false}
 use Prim.Native.Nat.{ℕ, zero, suc, _+_, _-_, _*_, _/_, _%_, _^_, _≤_, _<_}
-use native.Mathlib.Nat.{pow-suc, one-le-pow, div-add-mod', mod-lt, mul-mod-left, mul-mod-right, mul-sub, mul-comm, mul-le-mul-right, div-lt-iff-lt-mul}
+use native.Mathlib.Nat.{pow-suc, one-le-pow, div-add-mod', mod-lt, mul-mod-left, mul-mod-right, mul-sub, mul-comm}
+use native.Mathlib.Nat.{mul-le-mul-right, div-lt-iff-lt-mul}
 use native.Mathlib.Numerals.{add-one}
 use native.Mathlib.Omega.{arith}
 use lib.Dec.{eqb, lit<}
@@ -15,9 +16,10 @@ use Rattle.base.specs.Answers.{Answer, given, refused, allOf}
 use Rattle.base.proofs.Answers.{or-true-cases, one-broken, each-holds, cond-yes}
 use Rattle.base.proofs.Below.{any-intro}
 use Rattle.geometry.specs.declared.Geometry.{Geometry}
-use Rattle.geometry.specs.Slip.{hasField, valueAt, slipRules, wellFormed, slipGeometry}
+use Rattle.geometry.specs.Slip.{hasField, valueAt, headRules, endsAt, wellFormed, slipGeometry, headRead}
 use Rattle.geometry.specs.Placed.{Placed}
-use Rattle.geometry.specs.Geometry.{goodUnit, roundUp, geometryRules, geometryOf, makeGeometry, vidStart, dataStart, lebSize}
+use Rattle.geometry.specs.Geometry.{goodUnit, roundUp, geometryRules, geometryOf, makeGeometry, vidStart}
+use Rattle.geometry.specs.Geometry.{dataStart, lebSize}
 
 -- ---- units
 
@@ -85,19 +87,28 @@ too-short peb unit sub vid dat v d z =
 
 -- ---- the slip
 
--- refusal 1: one test broken is enough
-pub malformed : (s : List ℕ) (k : ℕ) → getD (slipRules s) k true ≡ false → false ≡ wellFormed s
-unfolding wellFormed
-malformed s k e = sym (one-broken (slipRules s) k e)
+-- one field of the head that is not the next one is enough
+pub no-head : (s : List ℕ) (k : ℕ) → getD (headRules s) k true ≡ false → false ≡ allOf (headRules s)
+no-head s k e = sym (one-broken (headRules s) k e)
 
 -- with the other tests passed, the last field decides
-pub last-field : (s : List ℕ) {r : Bool} → length s ≡ 20 → hasField 0 1 4 s ≡ true → hasField 7 2 2 s ≡ true → hasField 12 3 2 s ≡ true → r ≡ hasField 17 0 0 s → r ≡ wellFormed s
-unfolding wellFormed slipRules
-last-field s l a b c e = e ∙ rw (a, b, c, eq-eqb _ _ l) (sym (and-true (hasField 17 0 0 s)))
+pub last-field : (s : List ℕ) {r : Bool} → 17 ≤ length s → hasField 0 1 4 s ≡ true → hasField 7 2 2 s ≡ true → r ≡ hasField 12 3 2 s
+    → r ≡ allOf (headRules s)
+unfolding headRules
+last-field s l a b e = e ∙ rw (le-leb _ _ l, a, b) (sym (and-true (hasField 12 3 2 s)))
 
-pub slip-length : (s : List ℕ) → wellFormed s ≡ true → length s ≡ 20
-unfolding wellFormed slipRules
-slip-length s e = eqb-true (length s) 20 (each-holds (slipRules s) e 4)
+pub head-length : (s : List ℕ) → allOf (headRules s) ≡ true → 17 ≤ length s
+unfolding headRules
+head-length s e = leb-true 17 (length s) (each-holds (headRules s) e 0)
+
+-- the tail decides, then the head
+pub no-tail : (s : List ℕ) → endsAt 17 s ≡ false → refused 1 0 ≡ slipGeometry s
+unfolding slipGeometry wellFormed
+no-tail s e = rw (e, and-false (allOf (headRules s)))
+
+pub head-decides : (s : List ℕ) → endsAt 17 s ≡ true → headRead s ≡ slipGeometry s
+unfolding slipGeometry wellFormed headRead
+head-decides s e = rw (e, and-true (allOf (headRules s)))
 
 -- ---- a geometry within the rules
 

@@ -1,3 +1,4 @@
 pub mod Slip
 pub mod Geometry
+pub mod Image
 pub mod Placed

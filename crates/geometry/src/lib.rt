@@ -1,7 +1,9 @@
-// The slip before an image, and the geometry of the flash chip that it gives.
+// The slip before an image, the geometry of the flash chip that it gives, and the size of the image.
+mod image;
 mod rules;
 mod slip;
 
+pub use image::image_fits;
 pub use rules::check_geometry;
 pub use slip::read_slip;
 

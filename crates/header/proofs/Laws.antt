@@ -9,27 +9,22 @@ use lib.ListN.{take, drop}
 use borrow.Author.Tests.{ne-eqb, leb-true}
 use Rattle.base.specs.Answers.{allOf}
 use Rattle.base.specs.Lists.{part, eqs}
-use Rattle.base.proofs.Answers.{and-left, and-right, each-holds}
-use Rattle.base.proofs.Lists.{table-from, every-entry}
-use Rattle.header.specs.declared.Field.{Field}
+use Rattle.base.proofs.Answers.{each-holds}
+use Rattle.base.proofs.Lists.{table-from}
+use Rattle.field.specs.declared.Field.{Field}
+use Rattle.field.specs.Fields.{row, numberIn}
+use Rattle.field.proofs.Laws.{rows-fit}
 use Rattle.header.specs.declared.EcHeader.{EcHeader}
 use Rattle.header.specs.declared.VidHeader.{VidHeader}
-use Rattle.header.specs.Fields.{fields, fieldOf, fieldAt, crcMatches, vidVersion, Verdict, good, bad, newer, byVersion, judged, isGood}
+use Rattle.header.specs.Fields.{fields, crcMatches, Verdict, good, bad, newer, byVersion, judged, isGood}
 use Rattle.header.specs.Ec.{ecMagic, ecFields, ecRules, judgeEc, readEc}
 use Rattle.header.specs.Vid.{vidMagic, vidFields, IsVidField, vidField, vidRules, judgeVid, readVid}
 
 -- ---- the table
 
-fit : Field → Bool
-fit f = leb (f .at + f .width) 64 && leb (f .width) 8
-
 -- each field lies within the 64 bytes, and is 8 bytes wide at most
-pub fits : (i : ℕ) → (fieldOf i .at + fieldOf i .width ≤ 64) × (fieldOf i .width ≤ 8)
-unfolding fieldOf fit
-fits i =
-    let f = fieldOf i in
-    let t : fit f ≡ true = every-entry fit (record { at = 0; width = 0 }) refl fields refl i in
-    (leb-true _ _ (and-left (leb (f .at + f .width) 64) (leb (f .width) 8) t), leb-true _ _ (and-right (leb (f .at + f .width) 64) (leb (f .width) 8) t))
+pub fits : (i : ℕ) → (row fields i .at + row fields i .width ≤ 64) × (row fields i .width ≤ 8)
+fits = rows-fit 64 8 fields refl
 
 -- each field starts where the one before it has ended, and the last ends within the 64 bytes
 abbrev apart : ℕ → List Field → Bool
@@ -44,11 +39,12 @@ pub vid-apart : apart 4 (drop 5 fields) ≡ true
 vid-apart = refl
 
 -- the VID header's fields, by their numbers in the table
-pub vid-field-at : (i : ℕ) (s : List ℕ) → IsVidField i → fieldAt i s ≡ vidField i (vidFields s)
+pub vid-field-at : (i : ℕ) (s : List ℕ) → IsVidField i → numberIn (row fields i) s ≡ vidField i (vidFields s)
 unfolding vidFields
 vid-field-at i s h =
-    let e : vidVersion + (i - vidVersion) ≡ i = omega arith in
-    sym (table-from (λ (j : ℕ). fieldAt j s) 0 vidVersion 11 (i - vidVersion) (omega arith) ∙ ap (λ (j : ℕ). fieldAt j s) e)
+    let f : ℕ → ℕ = λ (j : ℕ). numberIn (row fields j) s in
+    let e : 5 + (i - 5) ≡ i = omega arith in
+    sym (table-from f 0 5 11 (i - 5) (omega arith) ∙ ap f e)
 
 -- ---- versions
 
@@ -77,18 +73,21 @@ module _ {A : Type 0} (h : A) where
 
 -- ---- a header that is read as good has the fields in its place, and all rules hold
 
+pub bad-not : {A : Type 0} {h : A} → bad ≡ good h → ⊥
+bad-not e = let z : _≡_ {A = ℕ} 0 1 = cc in omega arith
+
 module _ {A : Type 0} {x h : A} where
   judged-good : (one zero b : Bool) → cond one (cond b (good x) bad) (cond zero bad newer) ≡ good h → (x ≡ h) × (b ≡ true)
   judged-good true zero true e = (cc, refl)
-  judged-good true zero false e = absurd (let z : _≡_ {A = ℕ} 0 1 = cc in omega arith)
-  judged-good false true b e = absurd (let z : _≡_ {A = ℕ} 0 1 = cc in omega arith)
+  judged-good true zero false e = absurd (bad-not e)
+  judged-good false true b e = absurd (bad-not e)
   judged-good false false b e = absurd (let z : _≡_ {A = ℕ} 0 1 = cc in omega arith)
 
   -- `test` says that magic and CRC are right
-  read-good : (test : Bool) (version : ℕ) (rules : List Bool) → cond test (judged version rules x) bad ≡ good h
+  pub read-good : (test : Bool) (version : ℕ) (rules : List Bool) → cond test (judged version rules x) bad ≡ good h
       → (x ≡ h) × (allOf rules ≡ true)
   read-good true version rules e = judged-good (eqb version 1) (eqb version 0) (allOf rules) e
-  read-good false version rules e = absurd (let z : _≡_ {A = ℕ} 0 1 = cc in omega arith)
+  read-good false version rules e = absurd (bad-not e)
 
 pub ec-good : (s : List ℕ) {h : EcHeader} → readEc s ≡ good h → (ecFields s ≡ h) × (h .counter ≤ 0x7FFFFFFF)
 unfolding readEc judgeEc ecRules

@@ -7,8 +7,8 @@ use lib.ListN.{length, drop, replicate}
 use borrow.Author.Tests.{le-ltb}
 use Rattle.base.specs.Lists.{put}
 use Rattle.field.specs.Be.{toBeOn}
-use Rattle.header.specs.Fields.{fieldOf, isGood}
-use Rattle.header.specs.Stores.{stored, blankHeader, withSum, ecStored, kindStored, placeStored, dataStored}
+use Rattle.header.specs.Fields.{isGood}
+use Rattle.header.specs.Stores.{blankHeader, withSum, ecStored, kindStored, placeStored, dataStored}
 use Rattle.header.specs.Ec.{ecMagic, ecHead, ecBytes, judgeEc, ecOut}
 use Rattle.header.specs.Vid.{vidMagic, vidHead, vidBytes, judgeVid, vidOut}
 use Rattle.header.specs.declared.EcHeader.{EcHeader}
@@ -16,19 +16,19 @@ use Rattle.header.specs.declared.VidHeader.{VidHeader}
 
 module _ (t : List ℕ) where
   ec-head : (h : EcHeader) → ecStored h (put 0 ecMagic (replicate 64 0 ++ t)) ≡ ecHead h ++ (replicate 4 0 ++ t)
-  unfolding ecStored stored fieldOf ecHead toBeOn
+  unfolding ecStored ecHead toBeOn
   ec-head h = refl
 
   ec-sum : (h : EcHeader) → withSum (ecHead h ++ (replicate 4 0 ++ t)) ≡ ecBytes h ++ t
-  unfolding withSum stored fieldOf ecHead ecBytes toBeOn
+  unfolding withSum ecHead ecBytes toBeOn
   ec-sum h = refl
 
   vid-head : (h : VidHeader) → dataStored h (placeStored h (kindStored h (put 0 vidMagic (replicate 64 0 ++ t)))) ≡ vidHead h ++ (replicate 4 0 ++ t)
-  unfolding dataStored placeStored kindStored stored fieldOf vidHead toBeOn
+  unfolding dataStored placeStored kindStored vidHead toBeOn
   vid-head h = refl
 
   vid-sum : (h : VidHeader) → withSum (vidHead h ++ (replicate 4 0 ++ t)) ≡ vidBytes h ++ t
-  unfolding withSum stored fieldOf vidHead vidBytes toBeOn
+  unfolding withSum vidHead vidBytes toBeOn
   vid-sum h = refl
 
 -- the steps of a write, one after the other

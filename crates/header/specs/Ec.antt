@@ -8,7 +8,9 @@ use lib.ListN.{replicate}
 use Rattle.base.specs.Answers.{Answer, given, refused}
 use Rattle.base.specs.Lists.{part}
 use Rattle.field.specs.Be.{toBe}
-use Rattle.header.specs.Fields.{ecVersion, ecCounter, ecVidStart, ecDataStart, ecImageSeq, fieldAt, Verdict, good, bad, judged, readHeader, lentHeader, headerBytes, headerWritten, headerOut}
+use Rattle.field.specs.Fields.{numberIn}
+use Rattle.header.specs.Fields.{ecVersion, ecCounter, ecVidStart, ecDataStart, ecImageSeq, Verdict, good, bad}
+use Rattle.header.specs.Fields.{judged, readHeader, lentHeader, headerBytes, headerWritten, headerOut}
 use Rattle.header.specs.declared.EcHeader.{EcHeader}
 use Rattle.header.specs.declared.EcRead.{EcRead}
 use Rattle.header.specs.declared.EcRead.the-variants.{Good, Lost, Newer, Short}
@@ -20,11 +22,11 @@ ecMagic = 0x55 ∷ 0x42 ∷ 0x49 ∷ 0x23 ∷ []
 -- "version 4, .. counter 8-15, VID start 16-19, data start 20-23, image sequence 24-27"
 unfoldable pub ecFields : List ℕ → EcHeader
 ecFields s = record {
-  version = fieldAt ecVersion s;
-  counter = fieldAt ecCounter s;
-  «vid_start» = fieldAt ecVidStart s;
-  «data_start» = fieldAt ecDataStart s;
-  «image_seq» = fieldAt ecImageSeq s;
+  version = numberIn ecVersion s;
+  counter = numberIn ecCounter s;
+  «vid_start» = numberIn ecVidStart s;
+  «data_start» = numberIn ecDataStart s;
+  «image_seq» = numberIn ecImageSeq s;
 }
 
 -- "lost if .. the counter exceeds 0x7FFFFFFF"

@@ -3,92 +3,81 @@ use Prim.Native.Nat.{ℕ}
 use mathlib.Core.Bool.{Bool, true, false, _&&_, cond}
 use mathlib.Core.List.{List, [], _∷_, _++_}
 use lib.Dec.{eqb, ltb}
-use lib.ListN.{length, take, drop, getD}
+use lib.ListN.{length, take, drop}
 use Rattle.base.specs.Answers.{Answer, given, refused, allOf}
 use Rattle.base.specs.Lists.{part, eqs}
-use Rattle.field.specs.Be.{beOf, toBe}
+use Rattle.field.specs.Be.{toBe}
+use Rattle.field.specs.Fields.{field, numberIn}
+use Rattle.field.specs.declared.Field.{Field}
 use Rattle.crc32.specs.Crc.{crcOf}
-use Rattle.header.specs.declared.Field.{Field}
 use Rattle.header.specs.declared.Written.{Written}
 use Rattle.header.specs.declared.Written.the-variants.{Done, Short, NotGood}
+
+-- EC header: "version 4, .. counter 8-15, VID start 16-19, data start 20-23, image sequence 24-27"
+abbrev pub ecVersion : Field
+ecVersion = field 4 1
+
+abbrev pub ecCounter : Field
+ecCounter = field 8 8
+
+abbrev pub ecVidStart : Field
+ecVidStart = field 16 4
+
+abbrev pub ecDataStart : Field
+ecDataStart = field 20 4
+
+abbrev pub ecImageSeq : Field
+ecImageSeq = field 24 4
+
+-- VID header: "version 4, type 5, copy flag 6, compatibility 7, volume 8-11, LEB 12-15, .. data size 20-23,
+-- used LEBs 24-27, data pad 28-31, data CRC 32-35, .. sequence 40-47"
+abbrev pub vidVersion : Field
+vidVersion = field 4 1
+
+abbrev pub vidType : Field
+vidType = field 5 1
+
+abbrev pub vidCopyFlag : Field
+vidCopyFlag = field 6 1
+
+abbrev pub vidCompat : Field
+vidCompat = field 7 1
+
+abbrev pub vidVolume : Field
+vidVolume = field 8 4
+
+abbrev pub vidLnum : Field
+vidLnum = field 12 4
+
+abbrev pub vidDataSize : Field
+vidDataSize = field 20 4
+
+abbrev pub vidUsedLebs : Field
+vidUsedLebs = field 24 4
+
+abbrev pub vidDataPad : Field
+vidDataPad = field 28 4
+
+abbrev pub vidDataCrc : Field
+vidDataCrc = field 32 4
+
+abbrev pub vidSequence : Field
+vidSequence = field 40 8
+
+-- both: "CRC of .. 0-59 at 60-63"
+abbrev pub headerCrc : Field
+headerCrc = field 60 4
 
 -- "One constant table of field offsets and widths serves reader and writer."
 abbrev pub fields : List Field
 fields =
-    -- EC header: "version 4, .. counter 8-15, VID start 16-19, data start 20-23, image sequence 24-27"
-    record { at = 4; width = 1 } ∷ record { at = 8; width = 8 } ∷ record { at = 16; width = 4 } ∷ record { at = 20; width = 4 }
-    ∷ record { at = 24; width = 4 }
-    -- VID header: "version 4, type 5, copy flag 6, compatibility 7, volume 8-11, LEB 12-15, .. data size 20-23,
-    -- used LEBs 24-27, data pad 28-31, data CRC 32-35, .. sequence 40-47"
-    ∷ record { at = 4; width = 1 } ∷ record { at = 5; width = 1 } ∷ record { at = 6; width = 1 } ∷ record { at = 7; width = 1 }
-    ∷ record { at = 8; width = 4 } ∷ record { at = 12; width = 4 } ∷ record { at = 20; width = 4 } ∷ record { at = 24; width = 4 }
-    ∷ record { at = 28; width = 4 } ∷ record { at = 32; width = 4 } ∷ record { at = 40; width = 8 }
-    -- both: "CRC of .. 0-59 at 60-63"
-    ∷ record { at = 60; width = 4 } ∷ []
-
--- the fields' numbers in the table
-abbrev pub ecVersion : ℕ
-ecVersion = 0
-
-abbrev pub ecCounter : ℕ
-ecCounter = 1
-
-abbrev pub ecVidStart : ℕ
-ecVidStart = 2
-
-abbrev pub ecDataStart : ℕ
-ecDataStart = 3
-
-abbrev pub ecImageSeq : ℕ
-ecImageSeq = 4
-
-abbrev pub vidVersion : ℕ
-vidVersion = 5
-
-abbrev pub vidType : ℕ
-vidType = 6
-
-abbrev pub vidCopyFlag : ℕ
-vidCopyFlag = 7
-
-abbrev pub vidCompat : ℕ
-vidCompat = 8
-
-abbrev pub vidVolume : ℕ
-vidVolume = 9
-
-abbrev pub vidLnum : ℕ
-vidLnum = 10
-
-abbrev pub vidDataSize : ℕ
-vidDataSize = 11
-
-abbrev pub vidUsedLebs : ℕ
-vidUsedLebs = 12
-
-abbrev pub vidDataPad : ℕ
-vidDataPad = 13
-
-abbrev pub vidDataCrc : ℕ
-vidDataCrc = 14
-
-abbrev pub vidSequence : ℕ
-vidSequence = 15
-
-abbrev pub headerCrc : ℕ
-headerCrc = 16
-
--- field i of the table
-unfoldable pub fieldOf : ℕ → Field
-fieldOf i = getD fields i (record { at = 0; width = 0 })
-
--- the number in field i of a header
-unfoldable pub fieldAt : ℕ → List ℕ → ℕ
-fieldAt i s = beOf (part (fieldOf i .at) (fieldOf i .width) s)
+    ecVersion ∷ ecCounter ∷ ecVidStart ∷ ecDataStart ∷ ecImageSeq
+    ∷ vidVersion ∷ vidType ∷ vidCopyFlag ∷ vidCompat ∷ vidVolume ∷ vidLnum ∷ vidDataSize ∷ vidUsedLebs ∷ vidDataPad ∷ vidDataCrc ∷ vidSequence
+    ∷ headerCrc ∷ []
 
 -- "CRC of bytes 0-59 at 60-63": does it match?
 unfoldable pub crcMatches : List ℕ → Bool
-crcMatches s = eqb (crcOf (take 60 s)) (fieldAt headerCrc s)
+crcMatches s = eqb (crcOf (take 60 s)) (numberIn headerCrc s)
 
 -- what a header is: good with its fields; bad, which is 01's "lost" of an EC header and "bad" of a VID header; newer, with magic and
 -- CRC right and "a version above 1"

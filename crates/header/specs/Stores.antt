@@ -4,15 +4,13 @@ use Prim.Native.Nat.{ℕ}
 use mathlib.Core.List.{List, _++_}
 use lib.ListN.{take, drop, replicate}
 use Rattle.base.specs.Lists.{put}
-use Rattle.field.specs.Be.{toBe}
+use Rattle.field.specs.Fields.{stored}
 use Rattle.crc32.specs.Crc.{crcOf}
-use Rattle.header.specs.Fields.{fieldOf, headerCrc, ecVersion, ecCounter, ecVidStart, ecDataStart, ecImageSeq, vidVersion, vidType, vidCopyFlag, vidCompat, vidVolume, vidLnum, vidDataSize, vidUsedLebs, vidDataPad, vidDataCrc, vidSequence}
+use Rattle.header.specs.Fields.{headerCrc, ecVersion, ecCounter, ecVidStart, ecDataStart, ecImageSeq, vidVersion}
+use Rattle.header.specs.Fields.{vidType, vidCopyFlag, vidCompat, vidVolume, vidLnum, vidDataSize, vidUsedLebs}
+use Rattle.header.specs.Fields.{vidDataPad, vidDataCrc, vidSequence}
 use Rattle.header.specs.declared.EcHeader.{EcHeader}
 use Rattle.header.specs.declared.VidHeader.{VidHeader}
-
--- the bytes s with v stored in field i
-unfoldable pub stored : ℕ → ℕ → List ℕ → List ℕ
-stored i v s = put (fieldOf i .at) (toBe (fieldOf i .width) v) s
 
 -- zeroes with the magic before them
 unfoldable pub blankHeader : List ℕ → List ℕ → List ℕ

@@ -8,30 +8,10 @@ use lib.ListN.{getD, replicate}
 use Rattle.base.specs.Answers.{Answer, given, refused}
 use Rattle.base.specs.Lists.{part}
 use Rattle.field.specs.Be.{toBe}
-use Rattle.header.specs.Fields.{
-  vidVersion,
-  vidType,
-  vidCopyFlag,
-  vidCompat,
-  vidVolume,
-  vidLnum,
-  vidDataSize,
-  vidUsedLebs,
-  vidDataPad,
-  vidDataCrc,
-  vidSequence,
-  headerCrc,
-  fieldAt,
-  Verdict,
-  good,
-  bad,
-  judged,
-  readHeader,
-  lentHeader,
-  headerBytes,
-  headerWritten,
-  headerOut,
-}
+use Rattle.field.specs.Fields.{numberIn}
+use Rattle.header.specs.Fields.{vidVersion, vidType, vidCopyFlag, vidCompat, vidVolume, vidLnum, vidDataSize}
+use Rattle.header.specs.Fields.{vidUsedLebs, vidDataPad, vidDataCrc, vidSequence, Verdict, good, bad, judged}
+use Rattle.header.specs.Fields.{readHeader, lentHeader, headerBytes, headerWritten, headerOut}
 use Rattle.header.specs.declared.VidHeader.{VidHeader}
 use Rattle.header.specs.declared.VidRead.{VidRead}
 use Rattle.header.specs.declared.VidRead.the-variants.{Good, Bad, Newer, Short}
@@ -44,22 +24,22 @@ vidMagic = 0x55 ∷ 0x42 ∷ 0x49 ∷ 0x21 ∷ []
 -- data CRC 32-35, .. sequence 40-47"
 unfoldable pub vidFields : List ℕ → VidHeader
 vidFields s = record {
-  version = fieldAt vidVersion s;
-  «vol_type» = fieldAt vidType s;
-  «copy_flag» = fieldAt vidCopyFlag s;
-  compat = fieldAt vidCompat s;
-  volume = fieldAt vidVolume s;
-  lnum = fieldAt vidLnum s;
-  «data_size» = fieldAt vidDataSize s;
-  «used_lebs» = fieldAt vidUsedLebs s;
-  «data_pad» = fieldAt vidDataPad s;
-  «data_crc» = fieldAt vidDataCrc s;
-  sequence = fieldAt vidSequence s;
+  version = numberIn vidVersion s;
+  «vol_type» = numberIn vidType s;
+  «copy_flag» = numberIn vidCopyFlag s;
+  compat = numberIn vidCompat s;
+  volume = numberIn vidVolume s;
+  lnum = numberIn vidLnum s;
+  «data_size» = numberIn vidDataSize s;
+  «used_lebs» = numberIn vidUsedLebs s;
+  «data_pad» = numberIn vidDataPad s;
+  «data_crc» = numberIn vidDataCrc s;
+  sequence = numberIn vidSequence s;
 }
 
--- i is the number of a VID field in the table: they stand there from the version on
+-- i is the number of a VID field in the table: they are its rows 5 to 15
 abbrev pub IsVidField : ℕ → Type 0
-IsVidField i = (vidVersion ≤ i) × (i < headerCrc)
+IsVidField i = (5 ≤ i) × (i < 16)
 
 -- the number in field i
 abbrev pub vidField : ℕ → VidHeader → ℕ
@@ -67,7 +47,7 @@ vidField i h =
     getD
     (h .version ∷ h .«vol_type» ∷ h .«copy_flag» ∷ h .compat ∷ h .volume ∷ h .lnum ∷ h .«data_size» ∷ h .«used_lebs»
     ∷ h .«data_pad» ∷ h .«data_crc» ∷ h .sequence ∷ [])
-    (i - vidVersion) 0
+    (i - 5) 0
 
 -- if the first, then the second
 abbrev pub implies : Bool → Bool → Bool

@@ -4,9 +4,10 @@ ghost use mathlib.Core.Bool.{_&&_};
 ghost use Prim.Native.Nat.{_+_, _^_, _≤_, _<_};
 ghost use lib.ListN.{length};
 ghost use Rattle.base.specs.Lists.{part, eqs};
-ghost use Rattle.header.specs.Fields.{fieldOf, fieldAt, crcMatches};
-ghost use Rattle.header.specs.Stores.{stored, blankHeader, withSum};
-use crate::Field;
+ghost use Rattle.field.specs.Fields.{row, numberIn, stored};
+ghost use Rattle.header.specs.Fields.{fields, crcMatches};
+ghost use Rattle.header.specs.Stores.{blankHeader, withSum};
+use field::Field;
 
 pub const EC_VERSION: usize = 0;
 
@@ -43,29 +44,29 @@ pub const VID_SEQUENCE: usize = 15;
 const HEADER_CRC: usize = 16;
 
 const FIELDS: [Field; 17] = [
-    Field { at: 4, width: 1 },
-    Field { at: 8, width: 8 },
-    Field { at: 16, width: 4 },
-    Field { at: 20, width: 4 },
-    Field { at: 24, width: 4 },
-    Field { at: 4, width: 1 },
-    Field { at: 5, width: 1 },
-    Field { at: 6, width: 1 },
-    Field { at: 7, width: 1 },
-    Field { at: 8, width: 4 },
-    Field { at: 12, width: 4 },
-    Field { at: 20, width: 4 },
-    Field { at: 24, width: 4 },
-    Field { at: 28, width: 4 },
-    Field { at: 32, width: 4 },
-    Field { at: 40, width: 8 },
-    Field { at: 60, width: 4 },
+    Field { at: 4, width: 1 }, // EC_VERSION
+    Field { at: 8, width: 8 }, // EC_COUNTER
+    Field { at: 16, width: 4 }, // EC_VID_START
+    Field { at: 20, width: 4 }, // EC_DATA_START
+    Field { at: 24, width: 4 }, // EC_IMAGE_SEQ
+    Field { at: 4, width: 1 }, // VID_VERSION
+    Field { at: 5, width: 1 }, // VID_TYPE
+    Field { at: 6, width: 1 }, // VID_COPY_FLAG
+    Field { at: 7, width: 1 }, // VID_COMPAT
+    Field { at: 8, width: 4 }, // VID_VOLUME
+    Field { at: 12, width: 4 }, // VID_LNUM
+    Field { at: 20, width: 4 }, // VID_DATA_SIZE
+    Field { at: 24, width: 4 }, // VID_USED_LEBS
+    Field { at: 28, width: 4 }, // VID_DATA_PAD
+    Field { at: 32, width: 4 }, // VID_DATA_CRC
+    Field { at: 40, width: 8 }, // VID_SEQUENCE
+    Field { at: 60, width: 4 }, // HEADER_CRC
 ];
 
 // Field i of the table.
 fn field_of(i: usize) -> Field
     requires { ⌜ i < 17 ⌝ }
-    ensures { λ r. ⌜ (r ≡ fieldOf i) × ((r .at + r .width ≤ 64) × (r .width ≤ 8)) ⌝ }
+    ensures { λ r. ⌜ (r ≡ row fields i) × ((r .at + r .width ≤ 64) × (r .width ≤ 8)) ⌝ }
 {
     FIELDS[i]
 }
@@ -73,7 +74,7 @@ fn field_of(i: usize) -> Field
 // The number in field i.
 pub fn get(s: &[u8], i: usize) -> u64
     requires { ⌜ (i < 17) × (64 ≤ length (now s)) ⌝ }
-    ensures { λ r. ⌜ (r ≡ fieldAt i (now (s .entry))) × (r < 256 ^ fieldOf i .width) ⌝ }
+    ensures { λ r. ⌜ (r ≡ numberIn (row fields i) (now (s .entry))) × (r < 256 ^ row fields i .width) ⌝ }
 {
     let f = field_of(i);
     field::read(s, f.at, f.width)
@@ -82,7 +83,7 @@ pub fn get(s: &[u8], i: usize) -> u64
 // Field i is given the number v.
 pub fn set(s: &mut [u8], i: usize, v: u64)
     requires { ⌜ (i < 17) × (64 ≤ length (now s)) ⌝ }
-    ensures { λ _. ⌜ now (s .exit) ≡ stored i v (now (s .entry)) ⌝ }
+    ensures { λ _. ⌜ now (s .exit) ≡ stored (row fields i) v (now (s .entry)) ⌝ }
 {
     let f = field_of(i);
     field::write(s, f.at, f.width, v)

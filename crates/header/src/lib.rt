@@ -38,12 +38,6 @@ pub const COMPAT_PRESERVE: u8 = 4;
 
 pub const COMPAT_REJECT: u8 = 5;
 
-// Where a field stands in a header, and how many bytes it has.
-struct Field {
-    at: usize,
-    width: usize,
-}
-
 pub struct EcHeader {
     pub version: u8,
     pub counter: u64,

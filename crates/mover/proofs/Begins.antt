@@ -31,7 +31,7 @@ use Rattle.plan.specs.Headers.{oldCounter, newEc}
 use Rattle.plan.specs.Begin.{isIn, refusal13, mapped, refusal15, refusal16, refusal17, makePlan, planFor, planOf}
 use Rattle.plan.specs.declared.Plan.{Plan}
 use Rattle.plan.proofs.Accepted.{class-free}
-use Rattle.plan.proofs.Blocks.{peb-length}
+use Rattle.job.proofs.Blocks.{peb-length}
 use Rattle.plan.proofs.Bounds.{copy-rules}
 use Rattle.moving.specs.Reported.{Fits, isDamaged, isNoTarget, examined, renewedAs, ecWith}
 use Rattle.moving.specs.declared.Examined.{Examined}

@@ -11,10 +11,9 @@ use borrow.Author.Tests.{eqb-true, eqb-false, ltb-true, lt-ltb, eq-eqb, not-fals
 use Rattle.base.specs.Answers.{Answer, given}
 use Rattle.base.proofs.Answers.{or-left, or-right, or-true-right}
 use Rattle.base.proofs.Highest.{max-at}
-use Rattle.geometry.specs.declared.Geometry.{Geometry}
 use Rattle.header.specs.Vid.{layoutVolume}
 use Rattle.header.specs.declared.EcHeader.{EcHeader}
-use Rattle.report.specs.View.{Copy, EcView, ecGood, ecNewer, ecBlank, ecLost, VidView, vidGood, vidNewer, vidBlank, vidBad, Views, copies, isMappable}
+use Rattle.report.specs.View.{Copy, EcView, ecGood, ecNewer, ecBlank, ecLost, VidView, vidGood, vidNewer, vidBlank, vidBad, Medium, copies, isMappable}
 use Rattle.report.specs.Choice.{sound, chosen}
 use Rattle.report.specs.Volumes.{Places, recordFor, reservedOf, mapOf}
 use Rattle.report.specs.Report.{isPlace, staysIn, classOf, highestOf, sequenceOr0, places, records, classAt, entries}
@@ -32,12 +31,12 @@ use Rattle.plan.proofs.Mapped.{in-list}
 abbrev pub InMap : List ℕ → ℕ → ℕ → Type 0
 InMap t v l = ((v < 128) × (l < reservedOf (recordFor t v))) ⊎ ((v ≡ layoutVolume) × (l < 2))
 
-pub in-map-is : (g : Geometry) (n : ℕ) (vs : Views) (v l : ℕ) → isIn v l (entries g n vs) ≡ true → InMap (records g n vs) v l
+pub in-map-is : (m : Medium) (v l : ℕ) → isIn v l (entries m) ≡ true → InMap (records m) v l
 unfolding entries mapOf
-in-map-is g n vs v l q =
-    let r = in-list v l (entries g n vs) q in
-    subst (λ x. InMap (records g n vs) v x) (r .3)
-    (subst (λ x. InMap (records g n vs) x (r .0 .lnum)) (r .2) (in-map 128 2 (records g n vs) (places g n vs) (r .0) (r .1) .key))
+in-map-is m v l q =
+    let r = in-list v l (entries m) q in
+    subst (λ x. InMap (records m) v x) (r .3)
+    (subst (λ x. InMap (records m) x (r .0 .lnum)) (r .2) (in-map 128 2 (records m) (places m) (r .0) (r .1) .key))
 
 pub in-map-mappable : (t : List ℕ) (v l : ℕ) → InMap t v l → isMappable v ≡ true
 in-map-mappable t v l (inl h) = rw (lt-ltb v 128 (h .0))
@@ -77,16 +76,16 @@ below-next n cs i c h e =
 -- ---- the accepted move
 
 -- of the copy c of the LEB, at PEB o
-pub record Accepted (g : Geometry) (n : ℕ) (vs : Views) (v l t o : ℕ) (c : Copy) : Type 0 where
-  pub is-chosen : chosen n (copies vs) v l ≡ some (o, c)
-  pub in-map : InMap (records g n vs) v l
+pub record Accepted (m : Medium) (v l t o : ℕ) (c : Copy) : Type 0 where
+  pub is-chosen : chosen (m .count) (copies (m .views)) v l ≡ some (o, c)
+  pub in-map : InMap (records m) v l
   pub is-sound : sound c ≡ true
   pub is-right : not (isStatic c) || c .matches ≡ true
-  pub target-there : t < n
-  pub target-free : Free (vs t .ec) (vs t .vid)
-  pub target-clean : vs t .clean ≡ true
-  pub sequence-left : highestOf n (copies vs) ≢ 2 ^ 64 - 1
-  pub counter-left : oldCounter n vs o ≢ 0x7FFFFFFF
+  pub target-there : t < m .count
+  pub target-free : Free (m .views t .ec) (m .views t .vid)
+  pub target-clean : m .views t .clean ≡ true
+  pub sequence-left : highestOf (m .count) (copies (m .views)) ≢ 2 ^ 64 - 1
+  pub counter-left : oldCounter m o ≢ 0x7FFFFFFF
 
 unless-given : (r : Option ℕ) (a : Answer Plan) (p : Plan) → unlessRefused r a ≡ given p → (r ≡ none) × (a ≡ given p)
 unless-given none a p e = (refl, e)
@@ -97,8 +96,8 @@ right-of true true e = refl
 right-of true false e = sym e
 right-of false m e = refl
 
-module _ (g : Geometry) (n : ℕ) (vs : Views) (v l t : ℕ) (p : Plan) where
-  none15 : (c : Copy) → refusal15 g n vs c ≡ none → (sound c ≡ true) × (not (isStatic c) || c .matches ≡ true)
+module _ (m : Medium) (v l t : ℕ) (p : Plan) where
+  none15 : (c : Copy) → refusal15 c ≡ none → (sound c ≡ true) × (not (isStatic c) || c .matches ≡ true)
   unfolding refusal15
   none15 c e =
       let q = when-none (not (sound c) || (isStatic c && not (c .matches))) 15 e in (
@@ -106,60 +105,60 @@ module _ (g : Geometry) (n : ℕ) (vs : Views) (v l t : ℕ) (p : Plan) where
         right-of (isStatic c) (c .matches) (or-right (not (sound c)) (isStatic c && not (c .matches)) q),
       )
 
-  none16 : refusal16 g n vs t ≡ none → (t < n) × Free (vs t .ec) (vs t .vid) × (vs t .clean ≡ true)
+  none16 : refusal16 m t ≡ none → (t < m .count) × Free (m .views t .ec) (m .views t .vid) × (m .views t .clean ≡ true)
   unfolding refusal16 classAt
   none16 e =
-      let a : Bool = not (ltb t n) in
-      let b : Bool = not (eqb (classAt g n vs t) 0) in
-      let c : Bool = not (vs t .clean) in
+      let a : Bool = not (ltb t (m .count)) in
+      let b : Bool = not (eqb (classAt m t) 0) in
+      let c : Bool = not (m .views t .clean) in
       let q = when-none (a || (b || c)) 16 e in
       let r = or-right a (b || c) q in (
-        ltb-true t n (not-false (ltb t n) (or-left a (b || c) q)),
-        class-free (records g n vs) (places g n vs) t (vs t .ec) (vs t .vid) (eqb-true (classAt g n vs t) 0 (not-false (eqb (classAt g n vs t) 0) (or-left b c r))),
-        not-false (vs t .clean) (or-right b c r),
+        ltb-true t (m .count) (not-false (ltb t (m .count)) (or-left a (b || c) q)),
+        class-free (records m) (places m) t (m .views t .ec) (m .views t .vid) (eqb-true (classAt m t) 0 (not-false (eqb (classAt m t) 0) (or-left b c r))),
+        not-false (m .views t .clean) (or-right b c r),
       )
 
-  none17 : (o : ℕ) → refusal17 g n vs o ≡ none → (highestOf n (copies vs) ≢ 2 ^ 64 - 1) × (oldCounter n vs o ≢ 0x7FFFFFFF)
+  none17 : (o : ℕ) → refusal17 m o ≡ none → (highestOf (m .count) (copies (m .views)) ≢ 2 ^ 64 - 1) × (oldCounter m o ≢ 0x7FFFFFFF)
   unfolding refusal17
   none17 o e =
-      let a : Bool = eqb (highestOf n (copies vs)) (2 ^ 64 - 1) in
-      let b : Bool = eqb (oldCounter n vs o) 0x7FFFFFFF in
+      let a : Bool = eqb (highestOf (m .count) (copies (m .views))) (2 ^ 64 - 1) in
+      let b : Bool = eqb (oldCounter m o) 0x7FFFFFFF in
       let q = when-none (a || b) 17 e in
-      (eqb-false (highestOf n (copies vs)) (2 ^ 64 - 1) (or-left a b q), eqb-false (oldCounter n vs o) 0x7FFFFFFF (or-right a b q))
+      (eqb-false (highestOf (m .count) (copies (m .views))) (2 ^ 64 - 1) (or-left a b q), eqb-false (oldCounter m o) 0x7FFFFFFF (or-right a b q))
 
-  found : (x : ℕ × Copy) → mapped g n vs v l ≡ some x → InMap (records g n vs) v l × (chosen n (copies vs) v l ≡ some x)
+  found : (x : ℕ × Copy) → mapped m v l ≡ some x → InMap (records m) v l × (chosen (m .count) (copies (m .views)) v l ≡ some x)
   unfolding mapped
-  found x e = go (isIn v l (entries g n vs)) refl e
+  found x e = go (isIn v l (entries m)) refl e
     where
-      go : (b : Bool) → isIn v l (entries g n vs) ≡ b → cond b (chosen n (copies vs) v l) none ≡ some x
-          → InMap (records g n vs) v l × (chosen n (copies vs) v l ≡ some x)
-      go true q e = (in-map-is g n vs v l q, e)
+      go : (b : Bool) → isIn v l (entries m) ≡ b → cond b (chosen (m .count) (copies (m .views)) v l) none ≡ some x
+          → InMap (records m) v l × (chosen (m .count) (copies (m .views)) v l ≡ some x)
+      go true q e = (in-map-is m v l q, e)
       go false q e = none-some e
 
   -- an answer that is a plan is that of an accepted move
   abbrev pub Planned : Type 0
-  Planned = (o : ℕ) × (c : Copy) × Accepted g n vs v l t o c × (p ≡ makePlan g n vs t o c)
+  Planned = (o : ℕ) × (c : Copy) × Accepted m v l t o c × (p ≡ makePlan m t o c)
 
-  pub accepted : planOf g n vs v l t ≡ given p → Planned
+  pub accepted : planOf m v l t ≡ given p → Planned
   unfolding planOf
-  accepted e = go (mapped g n vs v l) refl (unless-given (refusal13 g n vs) (planFor g n vs t (mapped g n vs v l)) p e .1)
+  accepted e = go (mapped m v l) refl (unless-given (refusal13 m) (planFor m t (mapped m v l)) p e .1)
     where
-      go : (y : Option (ℕ × Copy)) → mapped g n vs v l ≡ y → planFor g n vs t y ≡ given p → Planned
+      go : (y : Option (ℕ × Copy)) → mapped m v l ≡ y → planFor m t y ≡ given p → Planned
       go none q e = absurd (let z : _≡_ {A = ℕ} 0 1 = cc in omega arith)
       go (some x) q e =
-          let a = unless-given (refusal15 g n vs (x .1)) _ p e in
-          let b = unless-given (refusal16 g n vs t) _ p (a .1) in
-          let c = unless-given (refusal17 g n vs (x .0)) _ p (b .1) in
-          let m = found x q in
+          let a = unless-given (refusal15 (x .1)) _ p e in
+          let b = unless-given (refusal16 m t) _ p (a .1) in
+          let c = unless-given (refusal17 m (x .0)) _ p (b .1) in
+          let f = found x q in
           let r15 = none15 (x .1) (a .0) in
           let r16 = none16 (b .0) in
           let r17 = none17 (x .0) (c .0) in
-          let is : given (makePlan g n vs t (x .0) (x .1)) ≡ given p = c .1 in (
+          let is : given (makePlan m t (x .0) (x .1)) ≡ given p = c .1 in (
             x .0,
             x .1,
             record {
-              is-chosen = m .1;
-              in-map = m .0;
+              is-chosen = f .1;
+              in-map = f .0;
               is-sound = r15 .0;
               is-right = r15 .1;
               target-there = r16 .0;

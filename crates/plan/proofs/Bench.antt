@@ -10,7 +10,7 @@ use Rattle.base.specs.Lists.{table, eqs}
 use Rattle.field.specs.Be.{beFrom, toBeOn, toBe}
 use Rattle.crc32.specs.Crc.{tap, crcBit, crcBits, crcByte, crcFrom, crcOf}
 use Rattle.geometry.specs.Geometry.{goodUnit, roundUp, vidStart, dataStart, lebSize, geometryRules, makeGeometry, geometryOf}
-use Rattle.geometry.specs.Slip.{hasField, valueAt, slipRules, wellFormed, slipGeometry}
+use Rattle.geometry.specs.Slip.{hasField, valueAt, headRules, endsAt, wellFormed, slipGeometry}
 use Rattle.geometry.specs.declared.Geometry.{Geometry}
 use Rattle.header.specs.Fields.{fieldOf, fieldAt, crcMatches}
 use Rattle.header.specs.Ec.{ecFields, ecRules, judgeEc, readEc, ecHead, ecBytes}
@@ -19,15 +19,18 @@ use Rattle.header.specs.declared.EcHeader.{EcHeader}
 use Rattle.header.specs.declared.VidHeader.{VidHeader}
 use Rattle.volume_table.specs.Record.{recordOf, recordCrcMatches, emptyRecord, isEmpty, nameEnds, recordRules, recordGood}
 use Rattle.volume_table.specs.Table.{recordCount, recordsPart, emptyOrGood, nameOf, sameNames, autoresizes, tableRules, tableTests, tableGood, takenLeb, takenRecords}
-use Rattle.report.specs.View.{Copy, Views, ecGood, vidBlank, allFF, copyOf, viewOf}
+use Rattle.report.specs.View.{Copy, Views, Medium, ecGood, vidBlank, allFF, copyOf, viewOf}
 use Rattle.report.specs.Scan.{imageSeq, viewRefusal, refusal5678, refusal10}
 use Rattle.report.specs.Choice.{refusal9, pick, chosen}
 use Rattle.report.specs.Volumes.{faceOf, facesOf, placesOf, tableLeb, tableRecords, recordFor, mapUpTo, mapOf, usedOf, misfitIn, misfitAt}
 use Rattle.report.specs.Report.{meanOf, highestOf, readOnlyOf, classAt, entries, refusal}
-use Rattle.report.specs.Attach.{imageRules, longEnough, attaching}
+use Rattle.geometry.specs.Image.{imageRules}
+use Rattle.report.specs.Attach.{lent, longEnough, request, attaching}
 use Rattle.plan.specs.Headers.{dataEnd, newSize, newFlag, newCrc, newVid, oldCounter, newEc}
 use Rattle.plan.specs.Begin.{refusal13, mapped, refusal15, refusal16, refusal17, makePlan, planOf, beginning}
-use Rattle.plan.specs.Write.{Write, store, erase, nothing, appliedWhole, appliedCut, dataSteps, stepCount, unitBytes, writeAfter}
+use Rattle.job.specs.Write.{Write, store, erase, nothing, appliedWhole, appliedCut}
+use Rattle.job.specs.Relocation.{relocating}
+use Rattle.plan.specs.Write.{planGeometry, dataSteps, stepCount, unitBytes, writeAfter}
 use Rattle.plan.specs.declared.Plan.{Plan}
 
 -- ---- the bench image
@@ -115,10 +118,11 @@ unfolding plan stepCount dataSteps
 six-steps = refl
 
 -- the beginning, with tables of the words that four PEBs need
-pub move-accepted : beginning slip image (replicate 8 0) (replicate 12 0) (replicate 128 0) 0 0 3 ≡ given plan
+pub move-accepted :
+    beginning (request slip) image (longEnough (lent (replicate 8 0) (replicate 12 0) (replicate 128 0))) 0 0 3 ≡ given plan
 unfolding slip ec vid recordHead layout abc pebOf image plan eqs beFrom toBeOn tap crcBit crcBits crcByte
     crcFrom goodUnit roundUp vidStart dataStart lebSize geometryRules makeGeometry geometryOf hasField valueAt
-    slipRules wellFormed slipGeometry fieldOf fieldAt crcMatches ecFields ecRules judgeEc readEc ecHead ecBytes
+    headRules endsAt wellFormed slipGeometry fieldOf fieldAt crcMatches ecFields ecRules judgeEc readEc ecHead ecBytes
     vidFields volumeRule staticRule dynamicRule layoutRule vidRules judgeVid readVid vidHead vidBytes recordOf
     recordCrcMatches emptyRecord isEmpty nameEnds recordRules recordGood recordCount recordsPart emptyOrGood
     nameOf sameNames autoresizes tableRules tableTests tableGood takenLeb takenRecords allFF copyOf viewOf
@@ -148,6 +152,9 @@ views i = record {
   clean = true;
 }
 
+medium : Medium
+medium = record { geometry = chip; count = 4; views = views }
+
 -- kind, place and number of bytes of a write
 shown : Write → List ℕ
 shown (store at bs) = 1 ∷ at ∷ length bs ∷ []
@@ -160,19 +167,19 @@ bench-headers :
     (newSize chip (copy chip abc) ∷ newFlag chip (copy chip abc) ∷ newCrc chip (copy chip abc) ∷ newVid chip 3 (copy chip abc) .sequence
     ∷ newSize chip128 (copy chip128 abc) ∷ newFlag chip128 (copy chip128 abc)
     ∷ newSize chip (copy chip []) ∷ newFlag chip (copy chip []) ∷ newCrc chip (copy chip [])
-    ∷ newEc chip 4 views 2 .counter ∷ newEc chip 4 views 2 .«image_seq» ∷ stepCount plan ∷ [])
+    ∷ newEc medium 2 .counter ∷ newEc medium 2 .«image_seq» ∷ stepCount plan ∷ [])
     (3 ∷ 1 ∷ crcOf abc ∷ 4 ∷ 128 ∷ 1 ∷ 0 ∷ 0 ∷ 0 ∷ 10 ∷ 7 ∷ 6 ∷ [])
-unfolding copy peb abc vid chip chip128 views plan tap crcBit crcBits crcByte crcFrom roundUp vidStart dataStart lebSize makeGeometry
+unfolding copy peb abc vid chip chip128 views medium plan tap crcBit crcBits crcByte crcFrom roundUp vidStart dataStart lebSize makeGeometry
     copyOf allFF dataEnd newSize newFlag newCrc newVid oldCounter newEc imageSeq dataSteps stepCount
 bench-headers = refl
 
 -- the writes of the six steps, and of a further one; the data that are stored
 bench-writes :
     _≡_ {A = List (List ℕ)}
-    (table (λ k. shown (writeAfter chip plan image k)) 0 7 ++ table (unitBytes chip plan image) 0 3)
+    (table (λ k. shown (writeAfter plan image k)) 0 7 ++ table (unitBytes plan image) 0 3)
     ((1 ∷ 3136 ∷ 64 ∷ []) ∷ (1 ∷ 3200 ∷ 1 ∷ []) ∷ (1 ∷ 3201 ∷ 1 ∷ []) ∷ (1 ∷ 3202 ∷ 1 ∷ []) ∷ (2 ∷ 2048 ∷ 1024 ∷ []) ∷ (1 ∷ 2048 ∷ 64 ∷ []) ∷ []
     ∷ (0x61 ∷ []) ∷ (0x62 ∷ []) ∷ (0x63 ∷ []) ∷ [])
-unfolding shown plan image pebOf layout recordHead emptyRecord ec vid abc chip roundUp vidStart dataStart lebSize makeGeometry dataSteps unitBytes writeAfter
+unfolding shown plan image pebOf layout recordHead emptyRecord ec vid abc chip roundUp vidStart dataStart lebSize makeGeometry planGeometry dataSteps unitBytes relocating writeAfter
     ecHead ecBytes vidHead vidBytes toBeOn
 bench-writes = refl
 

@@ -29,7 +29,7 @@ use Rattle.header.proofs.RoundTrip.{ec-read-fits, vid-read-fits}
 use Rattle.volume_table.specs.Table.{recordAt}
 use Rattle.volume_table.specs.declared.VolumeRecord.{VolumeRecord}
 use Rattle.volume_table.proofs.Good.{good-pads}
-use Rattle.report.specs.View.{Copy, copyOf, vidPart, pebAt, Views, viewsOf, ecs, copies}
+use Rattle.report.specs.View.{Copy, copyOf, vidPart, pebAt, Views, Medium, mediumOf, ecs, copies}
 use Rattle.report.specs.Scan.{imageSeq}
 use Rattle.report.specs.Choice.{chosen}
 use Rattle.report.specs.Volumes.{faceOf, facesOf, tableLeb, recordFor, reservedOf, orZero}
@@ -39,16 +39,19 @@ use Rattle.report.proofs.Facts.{parts}
 use Rattle.report.proofs.Mean.{mean-between}
 use Rattle.report.proofs.Tables.{no-misfit, entry-fits, record-good, table-good}
 use Rattle.plan.specs.Headers.{isStatic, dataEnd, newSize, oldCounter}
-use Rattle.plan.proofs.Blocks.{peb-length}
+use Rattle.job.proofs.Blocks.{peb-length}
 use Rattle.plan.proofs.Data.{end-within, round-within}
-use Rattle.plan.proofs.Seen.{Read, copy-read, ec-seen}
+use Rattle.job.proofs.Seen.{Read, copy-read, ec-seen}
 use Rattle.plan.proofs.Accepted.{InMap}
 
 -- ---- the numbers in an image
 
 module _ (g : Geometry) (P : Placed g) (n : ℕ) (image : List ℕ) (bytes : Bytes image) (len : length image ≡ n * g .«peb_size») where
+  abbrev m : Medium
+  m = mediumOf g n image
+
   abbrev vs : Views
-  vs = viewsOf g image
+  vs = m .views
 
   abbrev peb : ℕ → List ℕ
   peb i = pebAt g image i
@@ -118,17 +121,17 @@ module _ (g : Geometry) (P : Placed g) (n : ℕ) (image : List ℕ) (bytes : Byt
 
   -- where one EC header is good: the old PEB's counter, and the image sequence
   module _ (t : ℕ) (t<n : t < n) (s : EcHeader) (is : ecs vs t ≡ some s) where
-    mean-most : meanOf n vs ≤ 0x7FFFFFFF
+    mean-most : meanOf m ≤ 0x7FFFFFFF
     mean-most =
-        let r = mean-between n vs t s t<n is in
+        let r = mean-between m t s t<n is in
         let b = r .1 in
         omega (arith, r .3, counter-most (b .at) (b .below) (b .value) (b .is))
 
-    pub old-counter-most : (o : ℕ) → o < n → oldCounter n vs o ≤ 0x7FFFFFFF
+    pub old-counter-most : (o : ℕ) → o < n → oldCounter m o ≤ 0x7FFFFFFF
     unfolding oldCounter
     old-counter-most o h = go (ecs vs o) refl
       where
-        go : (x : Option EcHeader) → ecs vs o ≡ x → counterOr (meanOf n vs) x ≤ 0x7FFFFFFF
+        go : (x : Option EcHeader) → ecs vs o ≡ x → counterOr (meanOf m) x ≤ 0x7FFFFFFF
         go none e = mean-most
         go (some x) e = counter-most o h x e
 
@@ -142,7 +145,7 @@ module _ (g : Geometry) (P : Placed g) (n : ℕ) (image : List ℕ) (bytes : Byt
 
   -- ---- the rounded data size fits the LEB: by the table's rule on pads and refusal 12
 
-  module _ (ok : refusal g n vs ≡ none) (v l o : ℕ) (c : Copy) (is : chosen n (copies vs) v l ≡ some (o, c)) where
+  module _ (ok : refusal m ≡ none) (v l o : ℕ) (c : Copy) (is : chosen n (copies vs) v l ≡ some (o, c)) where
     at-o : (o < n) × (copies vs o ≡ some c) × (c .header .volume ≡ v) × (c .header .lnum ≡ l)
     at-o = chosen-at n (copies vs) v l o c is
 
@@ -163,12 +166,12 @@ module _ (g : Geometry) (P : Placed g) (n : ℕ) (image : List ℕ) (bytes : Byt
             (and-right (eqb (c .header .«vol_type») 1) (eqb (c .header .compat) 5 && (eqb (c .header .«data_pad») 0 && leb (c .header .lnum) 1)) h)))
         go false q h = clash refl q
 
-    is-face : faces g n vs v l ≡ some (faceOf g c)
+    is-face : faces m v l ≡ some (faceOf g c)
     unfolding facesOf
     is-face = rw is
 
     abbrev t : List ℕ
-    t = records g n vs
+    t = records m
 
     pad-units : InMap t v l → (g .«leb_size» - c .header .«data_pad») % g .unit ≡ 0
     unfolding faceOf
@@ -178,14 +181,14 @@ module _ (g : Geometry) (P : Placed g) (n : ℕ) (image : List ℕ) (bytes : Byt
         go : (y : Option VolumeRecord) → recordFor t v ≡ y → l < reservedOf y → (g .«leb_size» - c .header .«data_pad») % g .unit ≡ 0
         go none e k = absurd (omega arith)
         go (some r) e k =
-            let none12 = no-misfit (tableLeb g n (faces g n vs)) t (faces g n vs) (places g n vs) (parts g n vs ok .none1112) in
-            let p : c .header .«data_pad» ≡ r .«data_pad» = entry-fits t (faces g n vs) none12 v l r (faceOf g c) (h .0) e k is-face .same-pad in
-            let q = record-good _ _ _ _ _ t (table-good g n vs ok) v r e in
+            let none12 = no-misfit (tableLeb m (faces m)) t (faces m) (places m) (parts m ok .none1112) in
+            let p : c .header .«data_pad» ≡ r .«data_pad» = entry-fits t (faces m) none12 v l r (faceOf g c) (h .0) e k is-face .same-pad in
+            let q = record-good _ _ _ _ _ t (table-good m ok) v r e in
             rw (p, q .2) (good-pads (g .«leb_size») (g .unit) (recordAt t v) (q .1) (P .unit-divides))
 
     pub size-fits : InMap t v l → newSize g c ≤ g .«leb_size» - c .header .«data_pad»
     unfolding newSize vidRules
-    size-fits m = go (isStatic c)
+    size-fits k = go (isStatic c)
       where
         top : ℕ
         top = g .«leb_size» - c .header .«data_pad»
@@ -195,4 +198,4 @@ module _ (g : Geometry) (P : Placed g) (n : ℕ) (image : List ℕ) (bytes : Byt
         go false =
             let q = end-within (take top (c .body)) in
             let r = length-take top (c .body) in
-            round-within (g .unit) (dataEnd (take top (c .body))) top (P .unit-above) (pad-units m) (omega arith)
+            round-within (g .unit) (dataEnd (take top (c .body))) top (P .unit-above) (pad-units k) (omega arith)

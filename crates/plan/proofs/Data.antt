@@ -4,7 +4,7 @@ use mathlib.Core.Logic.{_≢_}
 use mathlib.Core.Bool.{Bool, true, false, _&&_, cond, and-true, and-assoc}
 use mathlib.Core.List.{List, [], _∷_, _++_}
 use Prim.Native.Nat.{ℕ, zero, suc, _+_, _-_, _*_, _/_, _%_, _≤_, _<_}
-use native.Mathlib.Nat.{div-add-mod', mul-le-mul-right}
+use native.Mathlib.Nat.{div-add-mod', mod-lt, mul-le-mul-right}
 use native.Mathlib.Omega.{arith}
 use lib.Dec.{eqb}
 use borrow.Author.Tests.{eqb-true, eq-eqb}
@@ -116,6 +116,9 @@ round-within u x m h e l =
     let k : m ≡ m / u * u = omega (arith, div-add-mod' m u) in
     rw (← k) at (round-least u x (m / u) h (rw (← k) l))
 
--- the units that are not past the last one start within the data
+-- the units that are not past the last one start within the data, and cover it
 pub unit-starts : (j d u : ℕ) → 0 < u → j < (d + (u - 1)) / u → j * u < d
 unit-starts j d u h k = omega (arith, div-add-mod' (d + (u - 1)) u, mul-le-mul-right u k)
+
+pub units-cover : (d u : ℕ) → 0 < u → d ≤ (d + (u - 1)) / u * u
+units-cover d u h = omega (arith, div-add-mod' (d + (u - 1)) u, mod-lt (d + (u - 1)) h)

@@ -24,7 +24,7 @@ use Rattle.header.specs.Ec.{ecRules, judgeEc, EcFits}
 use Rattle.header.specs.Vid.{implies, volumeRule, staticRule, dynamicRule, layoutRule, vidRules, judgeVid, VidFits}
 use Rattle.header.specs.declared.EcHeader.{EcHeader}
 use Rattle.header.specs.declared.VidHeader.{VidHeader}
-use Rattle.report.specs.View.{Copy, ecGood, Views}
+use Rattle.report.specs.View.{Copy, ecGood, Views, Medium}
 use Rattle.report.specs.Scan.{when, differs, imageSeq, ecRefusal}
 use Rattle.report.specs.Choice.{sound}
 use Rattle.report.specs.Volumes.{contentOf, orZero}
@@ -236,13 +236,17 @@ module _ (g : Geometry) (P : Placed g) (c : Copy) (m : Moves g c) (highest : ℕ
 
   -- ---- with the EC header
 
-  module _ (n : ℕ) (vs : Views) (o : ℕ) (counts : oldCounter n vs o + 1 ≤ 0x7FFFFFFF) (image : orZero (imageSeq n vs) < 256 ^ 4) where
+  abbrev medium : ℕ → Views → Medium
+  medium n vs = record { geometry = g; count = n; views = vs }
+
+  module _ (n : ℕ) (vs : Views) (o : ℕ) (counts : oldCounter (medium n vs) o + 1 ≤ 0x7FFFFFFF)
+      (image : orZero (imageSeq n vs) < 256 ^ 4) where
     abbrev e : EcHeader
-    e = newEc g n vs o
+    e = newEc (medium n vs) o
 
     ec-is-good : judgeEc e ≡ good e
     unfolding judgeEc ecRules newEc
-    ec-is-good = rw (le-leb (oldCounter n vs o + 1) 0x7FFFFFFF counts)
+    ec-is-good = rw (le-leb (oldCounter (medium n vs) o + 1) 0x7FFFFFFF counts)
 
     ec-widths : EcFits e
     unfolding newEc

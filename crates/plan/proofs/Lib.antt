@@ -1,10 +1,8 @@
-pub mod Blocks
 pub mod Data
-pub mod Seen
 pub mod Mapped
 pub mod Accepted
 pub mod Good
 pub mod Bounds
 pub mod Bench
+pub mod Rules
 pub mod Steps
-pub mod Finish

@@ -9,8 +9,7 @@ use lib.Dec.{eqb}
 use borrow.Author.Tests.{eqb-true, eq-eqb}
 use Rattle.base.specs.Answers.{mapO}
 use Rattle.base.proofs.Answers.{and-left, and-right, or-true-cases, or-true-right}
-use Rattle.geometry.specs.declared.Geometry.{Geometry}
-use Rattle.report.specs.View.{Copy, Views, copies}
+use Rattle.report.specs.View.{Copy, Medium, copies}
 use Rattle.report.specs.Choice.{chosen}
 use Rattle.report.specs.Volumes.{placesOf, Entry, mapOf}
 use Rattle.report.specs.Report.{places, records, entries}
@@ -41,26 +40,30 @@ entry-in e (x ∷ es) m = go (List·Memᴰ·cases-cons m) (entry-in e es)
     go (inl q) f = rw (← q, eq-eqb (e .volume) (e .volume) refl, eq-eqb (e .lnum) (e .lnum) refl)
     go (inr k) f = or-true-right (eqb (x .volume) (e .volume) && eqb (x .lnum) (e .lnum)) (isIn (e .volume) (e .lnum) es) (f k)
 
-module _ (g : Geometry) (n : ℕ) (vs : Views) where
+module _ (m : Medium) where
+  abbrev picked : ℕ → ℕ → Option (ℕ × Copy)
+  picked = chosen (m .count) (copies (m .views))
+
   -- the copy of an entry's PEB is the one that is moved
-  pub mapped-at : (e : Entry) → List·Memᴰ e (entries g n vs) → (c : Copy) → copies vs (e .peb) ≡ some c → mapped g n vs (e .volume) (e .lnum) ≡ some (e .peb, c)
+  pub mapped-at : (e : Entry) → List·Memᴰ e (entries m) → (c : Copy) → copies (m .views) (e .peb) ≡ some c
+      → mapped m (e .volume) (e .lnum) ≡ some (e .peb, c)
   unfolding mapped entries mapOf placesOf
-  mapped-at e m c q = rw (entry-in e (entries g n vs) m) (go (chosen n (copies vs) (e .volume) (e .lnum)) refl (in-map 128 2 (records g n vs) (places g n vs) e m .place))
+  mapped-at e k c q = rw (entry-in e (entries m) k) (go (picked (e .volume) (e .lnum)) refl (in-map 128 2 (records m) (places m) e k .place))
     where
-      go : (x : Option (ℕ × Copy)) → chosen n (copies vs) (e .volume) (e .lnum) ≡ x → mapO (λ (y : ℕ × Copy). y .0) x ≡ some (e .peb) → x ≡ some (e .peb, c)
+      go : (x : Option (ℕ × Copy)) → picked (e .volume) (e .lnum) ≡ x → mapO (λ (y : ℕ × Copy). y .0) x ≡ some (e .peb) → x ≡ some (e .peb, c)
       go none p r = none-some r
       go (some x) p r =
           let z : x .0 ≡ e .peb = cc in
-          let h = chosen-at n (copies vs) (e .volume) (e .lnum) (x .0) (x .1) p in
-          let w : some (x .1) ≡ some c = sym (h .1) ∙ ap (copies vs) z ∙ q in
+          let h = chosen-at (m .count) (copies (m .views)) (e .volume) (e .lnum) (x .0) (x .1) p in
+          let w : some (x .1) ≡ some c = sym (h .1) ∙ ap (copies (m .views)) z ∙ q in
           let y : x .1 ≡ c = cc in
           rw (← z, ← y)
 
   -- a LEB that no entry has is refusal 14
-  pub mapped-none : (v l : ℕ) → ((e : Entry) → List·Memᴰ e (entries g n vs) → e .volume ≡ v → e .lnum ≡ l → ⊥) → mapped g n vs v l ≡ none
+  pub mapped-none : (v l : ℕ) → ((e : Entry) → List·Memᴰ e (entries m) → e .volume ≡ v → e .lnum ≡ l → ⊥) → mapped m v l ≡ none
   unfolding mapped
-  mapped-none v l h = go (isIn v l (entries g n vs)) refl
+  mapped-none v l h = go (isIn v l (entries m)) refl
     where
-      go : (b : Bool) → isIn v l (entries g n vs) ≡ b → cond b (chosen n (copies vs) v l) none ≡ none
-      go true q = let r = in-list v l (entries g n vs) q in absurd (h (r .0) (r .1) (r .2) (r .3))
+      go : (b : Bool) → isIn v l (entries m) ≡ b → cond b (picked v l) none ≡ none
+      go true q = let r = in-list v l (entries m) q in absurd (h (r .0) (r .1) (r .2) (r .3))
       go false q = refl

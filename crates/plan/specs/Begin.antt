@@ -6,13 +6,12 @@ use mathlib.Core.List.{List, [], _∷_}
 use lib.Dec.{eqb, ltb}
 use Rattle.base.specs.Answers.{Answer, given, refused}
 use Rattle.base.specs.Below.{anyBelow}
-use Rattle.geometry.specs.declared.Geometry.{Geometry}
-use Rattle.report.specs.View.{Copy, Views, copies}
+use Rattle.report.specs.View.{Copy, Medium, copies}
 use Rattle.report.specs.Scan.{when}
 use Rattle.report.specs.Choice.{sound, chosen}
 use Rattle.report.specs.Volumes.{Entry}
 use Rattle.report.specs.Report.{highestOf, isInternal, readOnlyOf, classAt, entries}
-use Rattle.report.specs.Attach.{Outcome, early, late, whole, attaching}
+use Rattle.report.specs.Attach.{AttachRequest, Outcome, early, late, whole, attaching}
 use Rattle.plan.specs.Headers.{isStatic, newVid, oldCounter, newEc}
 use Rattle.plan.specs.declared.Plan.{Plan}
 use Rattle.plan.specs.declared.Begun.{Begun}
@@ -28,37 +27,38 @@ abbrev pub unlessRefused : Option ℕ → Answer Plan → Answer Plan
 unlessRefused (some k) a = refused k 0
 unlessRefused none a = a
 
-module _ (g : Geometry) (n : ℕ) (vs : Views) where
+-- 15 "chosen copy unsound, or static with wrong data CRC"
+unfoldable pub refusal15 : Copy → Option ℕ
+refusal15 c = when (not (sound c) || (isStatic c && not (c .matches))) 15
+
+module _ (m : Medium) where
   -- 13 "read-only mark, or a compatibility 1 block stands"
   unfoldable pub refusal13 : Option ℕ
-  refusal13 = when (readOnlyOf n (copies vs) || anyBelow n (λ (i : ℕ). isInternal 1 (copies vs i))) 13
+  refusal13 =
+      when (readOnlyOf (m .count) (copies (m .views)) || anyBelow (m .count) (λ (i : ℕ). isInternal 1 (copies (m .views) i))) 13
 
   -- PEB and copy of a LEB that is in the map
   unfoldable pub mapped : ℕ → ℕ → Option (ℕ × Copy)
-  mapped v l = cond (isIn v l (entries g n vs)) (chosen n (copies vs) v l) none
-
-  -- 15 "chosen copy unsound, or static with wrong data CRC"
-  unfoldable pub refusal15 : Copy → Option ℕ
-  refusal15 c = when (not (sound c) || (isStatic c && not (c .matches))) 15
+  mapped v l = cond (isIn v l (entries m)) (chosen (m .count) (copies (m .views)) v l) none
 
   -- 16 "target absent, not class 0, or a byte past its EC header is not 0xFF"
   unfoldable pub refusal16 : ℕ → Option ℕ
-  refusal16 t = when (not (ltb t n) || (not (eqb (classAt g n vs t) 0) || not (vs t .clean))) 16
+  refusal16 t = when (not (ltb t (m .count)) || (not (eqb (classAt m t) 0) || not (m .views t .clean))) 16
 
   -- 17 "highest sequence 2^64-1, or the old PEB's counter (mean if lost) 0x7FFFFFFF"
   unfoldable pub refusal17 : ℕ → Option ℕ
-  refusal17 old = when (eqb (highestOf n (copies vs)) (2 ^ 64 - 1) || eqb (oldCounter n vs old) 0x7FFFFFFF) 17
+  refusal17 old = when (eqb (highestOf (m .count) (copies (m .views))) (2 ^ 64 - 1) || eqb (oldCounter m old) 0x7FFFFFFF) 17
 
   -- the plan of a move of this copy
   unfoldable pub makePlan : ℕ → ℕ → Copy → Plan
   makePlan t old c = record {
-    «peb_size» = g .«peb_size»;
-    unit = g .unit;
-    «sub_unit» = g .«sub_unit»;
+    «peb_size» = m .geometry .«peb_size»;
+    unit = m .geometry .unit;
+    «sub_unit» = m .geometry .«sub_unit»;
     old = old;
     target = t;
-    vid = newVid g (highestOf n (copies vs)) c;
-    ec = newEc g n vs old;
+    vid = newVid (m .geometry) (highestOf (m .count) (copies (m .views))) c;
+    ec = newEc m old;
     steps = 0;
   }
 
@@ -66,7 +66,8 @@ module _ (g : Geometry) (n : ℕ) (vs : Views) where
   abbrev pub planFor : ℕ → Option (ℕ × Copy) → Answer Plan
   planFor t none = refused 14 0
   planFor t (some x) =
-      unlessRefused (refusal15 (x .1)) (unlessRefused (refusal16 t) (unlessRefused (refusal17 (x .0)) (given (makePlan t (x .0) (x .1)))))
+      unlessRefused (refusal15 (x .1))
+      (unlessRefused (refusal16 t) (unlessRefused (refusal17 (x .0)) (given (makePlan t (x .0) (x .1)))))
 
   -- a move of a LEB of an image that attached: 13 to 17, "in order of checking", or its plan
   unfoldable pub planOf : ℕ → ℕ → ℕ → Answer Plan
@@ -76,12 +77,13 @@ module _ (g : Geometry) (n : ℕ) (vs : Views) where
 abbrev pub beginOn : Outcome → ℕ → ℕ → ℕ → Answer Plan
 beginOn (early k) v l t = refused k 0
 beginOn (late n r) v l t = refused (r .number) (r .place)
-beginOn (whole g n vs) v l t = planOf g n vs v l t
+beginOn (whole m) v l t = planOf m v l t
 
 -- "Beginning a move first attaches into the lent tables ..; after 13 to 17, or its success, they hold that report": the lent tables
--- afterwards are those after attaching in every case, `pebsAfter`, `mapAfter` and `statesAfter` of report's specs/Attach.antt
-unfoldable pub beginning : List ℕ → List ℕ → List ℕ → List ℕ → List ℕ → ℕ → ℕ → ℕ → Answer Plan
-beginning slip image pebs map states v l t = beginOn (attaching slip image pebs map states) v l t
+-- afterwards are those after attaching in every case, `tablesAfter` of report's specs/Attach.antt. `room` says of a PEB count
+-- whether they are long enough for it
+unfoldable pub beginning : AttachRequest → List ℕ → (ℕ → Bool) → ℕ → ℕ → ℕ → Answer Plan
+beginning req image room v l t = beginOn (attaching req image room) v l t
 
 -- what each case of the answer is in 01
 abbrev pub begunAnswer : Begun → Answer Plan

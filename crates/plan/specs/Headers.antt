@@ -9,7 +9,7 @@ use Rattle.geometry.specs.Geometry.{roundUp}
 use Rattle.geometry.specs.declared.Geometry.{Geometry}
 use Rattle.header.specs.declared.EcHeader.{EcHeader}
 use Rattle.header.specs.declared.VidHeader.{VidHeader}
-use Rattle.report.specs.View.{Copy, Views, ecs, allFF}
+use Rattle.report.specs.View.{Copy, Medium, ecs, allFF}
 use Rattle.report.specs.Scan.{imageSeq}
 use Rattle.report.specs.Volumes.{contentOf, orZero}
 use Rattle.report.specs.Report.{counterOr, meanOf}
@@ -53,16 +53,16 @@ newVid g highest c = record {
 }
 
 -- "the old PEB's counter (mean if lost)"
-unfoldable pub oldCounter : ℕ → Views → ℕ → ℕ
-oldCounter n vs old = counterOr (meanOf n vs) (ecs vs old)
+unfoldable pub oldCounter : Medium → ℕ → ℕ
+oldCounter m old = counterOr (meanOf m) (ecs (m .views) old)
 
 -- "the EC header has the geometry's starts and the image sequence that refusal 7 compares with"; "with counter (mean if lost) plus 1".
 -- Where a move is accepted there is such a sequence: the target has a good EC header
-unfoldable pub newEc : Geometry → ℕ → Views → ℕ → EcHeader
-newEc g n vs old = record {
+unfoldable pub newEc : Medium → ℕ → EcHeader
+newEc m old = record {
   version = 1;
-  counter = oldCounter n vs old + 1;
-  «vid_start» = g .«vid_start»;
-  «data_start» = g .«data_start»;
-  «image_seq» = orZero (imageSeq n vs);
+  counter = oldCounter m old + 1;
+  «vid_start» = m .geometry .«vid_start»;
+  «data_start» = m .geometry .«data_start»;
+  «image_seq» = orZero (imageSeq (m .count) (m .views));
 }

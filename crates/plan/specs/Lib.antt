@@ -2,4 +2,4 @@ pub mod Headers
 pub mod Begin
 pub mod Write
 pub mod Step
-pub mod Finish
+pub mod Running

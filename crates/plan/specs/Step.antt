@@ -1,6 +1,6 @@
--- 01 'The mover's steps' and refusal 18: what a step answers, and the image after it. Assumes nothing.
+-- 01 'The mover's steps' and refusal 18: a move as a job. Assumes nothing.
 use Prim.Native.Nat.{ℕ, _+_}
-use mathlib.Core.Bool.{Bool, not, cond}
+use mathlib.Core.Bool.{Bool, not}
 use mathlib.Core.List.{List, [], _∷_}
 use lib.Dec.{eqb, ltb}
 use Rattle.base.specs.Answers.{Answer, given, refused, allOf}
@@ -8,8 +8,9 @@ use Rattle.geometry.specs.Geometry.{geometryRules}
 use Rattle.header.specs.Fields.{isGood}
 use Rattle.header.specs.Ec.{judgeEc}
 use Rattle.header.specs.Vid.{judgeVid}
-use Rattle.report.specs.Attach.{pebCount, imageRules}
-use Rattle.plan.specs.Write.{Write, nothing, appliedWhole, appliedCut, planGeometry, stepCount, writeAfter}
+use Rattle.geometry.specs.Image.{pebCount, imageRules}
+use Rattle.job.specs.Job.{Job, Progress, on, done}
+use Rattle.plan.specs.Write.{planGeometry, stepCount, writeAfter}
 use Rattle.plan.specs.declared.Plan.{Plan}
 use Rattle.plan.specs.declared.Stepped.{Stepped}
 use Rattle.plan.specs.declared.Stepped.the-variants.{On, Done, Refused}
@@ -27,10 +28,6 @@ stepRules p image =
 unfoldable pub runnable : Plan → List ℕ → Bool
 runnable p image = allOf (stepRules p image)
 
--- the write of the plan's next step
-unfoldable pub stepWrite : Plan → List ℕ → Write
-stepWrite p image = cond (runnable p image) (writeAfter (planGeometry p) p image (p .steps)) nothing
-
 -- a plan with one step more run
 unfoldable pub oneOn : Plan → Plan
 oneOn p = record {
@@ -44,29 +41,12 @@ oneOn p = record {
   steps = p .steps + 1;
 }
 
--- what a step that is not refused answers: the plan as it goes on, or done
-pub data Progress : Type 0 where
-  on : Plan → Progress
-  done : Progress
-
--- "Further steps answer done and change nothing."
-unfoldable pub stepAnswer : Plan → List ℕ → Answer Progress
-stepAnswer p image = cond (runnable p image) (given (cond (ltb (p .steps) (stepCount p)) (on (oneOn p)) done)) (refused 18 0)
-
--- the answer of a step, and the image after it
-pub record Stepping : Type 0 where
-  pub answer : Answer Progress
-  pub image : List ℕ
-
-unfoldable pub stepping : Plan → List ℕ → Stepping
-stepping p image = record { answer = stepAnswer p image; image = appliedWhole (stepWrite p image) image }
-
--- the image after a step that was cut
-unfoldable pub stepCut : ℕ → (ℕ → Bool) → Plan → List ℕ → List ℕ
-stepCut stored erased p image = appliedCut stored erased (stepWrite p image) image
+-- the job whose steps are a move
+abbrev pub moverJob : Job Plan
+moverJob = record { runnable = runnable; count = λ p image. stepCount p; ran = λ p. p .steps; next = oneOn; write = writeAfter }
 
 -- what each case of the answer is in 01
-abbrev pub steppedAnswer : Stepped → Answer Progress
+abbrev pub steppedAnswer : Stepped → Answer (Progress Plan)
 steppedAnswer (On p) = given (on p)
 steppedAnswer Done = given done
 steppedAnswer Refused = refused 18 0

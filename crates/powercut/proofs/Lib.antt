@@ -1,10 +1,4 @@
-pub mod Outcomes
-pub mod Pebs
-pub mod Images
-pub mod Runs
-pub mod Octets
 pub mod Stage
 pub mod Stops
 pub mod Move
 pub mod Theorem
-pub mod Finish

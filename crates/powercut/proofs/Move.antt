@@ -4,7 +4,7 @@ use mathlib.Core.Logic.{_≢_, _⊎_, inl, inr, ⊎-elim}
 use mathlib.Core.Bool.{Bool, true, false, _&&_, cond}
 use mathlib.Core.Option.{none, some}
 use mathlib.Core.List.{List}
-use Prim.Native.Nat.{ℕ, _+_, _-_, _*_, _<_}
+use Prim.Native.Nat.{ℕ, _+_, _-_, _*_, _/_, _≤_, _<_, min}
 use native.Mathlib.Omega.{arith}
 use borrow.Author.Tests.{lt-ltb, ne-eqb}
 use lib.ListN.{length, take, drop, getD, replicate, length-take, length-drop, length-replicate}
@@ -12,6 +12,7 @@ use lib.Seq.{take-at, take-all, drop-drop}
 use Rattle.base.specs.Answers.{given, allOf}
 use Rattle.base.specs.Lists.{part, put, Bytes}
 use Rattle.base.proofs.Answers.{each-holds}
+use Rattle.base.proofs.Lists.{length-part, part-part}
 use Rattle.base.proofs.Stores.{put-behind, drop-replicate, take-replicate}
 use Rattle.geometry.specs.Geometry.{geometryRules}
 use Rattle.geometry.specs.Placed.{Placed}
@@ -19,11 +20,12 @@ use Rattle.geometry.specs.declared.Geometry.{Geometry}
 use Rattle.header.specs.Fields.{good}
 use Rattle.header.specs.Ec.{judgeEc, ecBytes}
 use Rattle.header.specs.Vid.{judgeVid, vidBytes}
-use Rattle.report.specs.View.{allFF, Copy, ecGood, vidBlank, Views, vidPart, viewOf, viewsOf, pebAt, ecs, copies}
+use Rattle.report.specs.View.{allFF, Copy, ecGood, vidBlank, Views, vidPart, viewOf, viewsOf, pebAt, ecs, copies, Medium, mediumOf}
 use Rattle.report.specs.Scan.{imageSeq, ecRefusal}
 use Rattle.report.specs.Volumes.{placesOf, tableRecords, mapOf}
 use Rattle.report.specs.Report.{highestOf, faces, places, records, classAt, entries, refusal}
-use Rattle.report.specs.Attach.{pebCount, imageRules, whole}
+use Rattle.geometry.specs.Image.{pebCount, imageRules}
+use Rattle.report.specs.Attach.{AttachRequest, whole}
 use Rattle.report.proofs.Choice.{chosen-at}
 use Rattle.report.proofs.Facts.{parts, none5678-at}
 use Rattle.report.proofs.First.{none-some}
@@ -32,24 +34,26 @@ use Rattle.report.proofs.Map.{placesWith, map-moved}
 use Rattle.plan.specs.declared.Plan.{Plan}
 use Rattle.plan.specs.Headers.{newVid}
 use Rattle.plan.specs.Begin.{makePlan}
-use Rattle.plan.specs.Write.{planGeometry, dataSteps, stepCount}
-use Rattle.plan.specs.Step.{stepRules, runnable}
-use Rattle.plan.proofs.Blocks.{peb-length}
-use Rattle.plan.proofs.Data.{all-ff}
-use Rattle.plan.proofs.Seen.{Read, ec-written, vid-erased}
+use Rattle.plan.specs.Write.{planGeometry, dataSteps, stepCount, unitBytes, relocation, writeAfter}
+use Rattle.plan.specs.Step.{stepRules, runnable, moverJob}
+use Rattle.job.specs.Course.{Stop, Course, toEnd, toStop, imageLeft}
+use Rattle.job.specs.Relocation.{relocating}
+use Rattle.job.specs.Write.{Write, appliedCut}
+use Rattle.job.specs.Outcomes.{outcomeOf}
+use Rattle.job.proofs.Blocks.{peb-length, same-byte}
+use Rattle.job.proofs.Seen.{Read, ec-written, vid-erased}
+use Rattle.job.proofs.Outcomes.{Ruled, slip-ruled, Chip, chip-placed, peb-above, count-is, image-ruled, attached}
+use Rattle.job.proofs.Runs.{written, steps, left-is, left-octets}
+use Rattle.job.proofs.Relocated.{Sited, Near, Stored, Halt, cut-halts, Whole, whole-end}
+use Rattle.plan.proofs.Data.{all-ff, unit-starts, units-cover}
 use Rattle.plan.proofs.Accepted.{Accepted, in-map-mappable, below-next}
 use Rattle.plan.proofs.Good.{Good, Moves, good-headers}
 use Rattle.plan.proofs.Bounds.{read, copy-widths, copy-rules, body-long, body-bytes, matches-is, highest-most, old-counter-most, image-small, size-fits}
-use Rattle.powercut.specs.Calls.{Stop, Course, toEnd, toStop, imageLeft}
-use Rattle.powercut.specs.Book.{ecAt, vidAt, runAt, headerWhole, runWhole, isWritten}
+use Rattle.plan.proofs.Steps.{mover-lawful}
+use Rattle.powercut.specs.Book.{headerWhole, runWhole, isWritten}
 use Rattle.powercut.specs.Premise.{premiseRules, premiseOf}
-use Rattle.powercut.specs.Outcomes.{outcomeOf}
 use Rattle.powercut.specs.Claim.{Freed, Moved}
-use Rattle.powercut.proofs.Outcomes.{Ruled, slip-ruled, Chip, chip-placed, peb-above, count-is, image-ruled, attached}
-use Rattle.header.proofs.Writes.{ec-64}
-use Rattle.powercut.proofs.Pebs.{Pair, Fits, step, steps, Stored, Halt, cut-halts, further, whole-target, whole-old}
-use Rattle.powercut.proofs.Runs.{Runs, pair, Lands, ran, cut-ran, all-go-on, all-done, same-byte}
-use Rattle.powercut.proofs.Octets.{left-octets}
+use Rattle.header.proofs.Writes.{ec-64, vid-64}
 use Rattle.powercut.proofs.Stage.{Ready, Stopped, isWhole, Keeps, keeps}
 use Rattle.powercut.proofs.Stops.{stopped, finished}
 
@@ -63,21 +67,24 @@ runnable-by p g image n r geo i c o t ne v e = rw (r, geo, i, c, lt-ltb (p .old)
 pub record Fine (g : Geometry) (n : ℕ) (image : List ℕ) : Type 0 where
   pub long : length image ≡ n * g .«peb_size»
   pub bytes : Bytes image
-  pub unrefused : refusal g n (viewsOf g image) ≡ none
+  pub unrefused : refusal (mediumOf g n image) ≡ none
 
-module _ (slip : List ℕ) (g : Geometry) (n : ℕ) (chip : Chip slip g n) (image : List ℕ) (f : Fine g n image)
-    (v l t o : ℕ) (c : Copy) (a : Accepted g n (viewsOf g image) v l t o c) where
+module _ (req : AttachRequest) (g : Geometry) (n : ℕ) (chip : Chip req g n) (image : List ℕ) (f : Fine g n image)
+    (v l t o : ℕ) (c : Copy) (a : Accepted (mediumOf g n image) v l t o c) where
   P : Placed g
-  P = chip-placed slip g n chip
+  P = chip-placed req g n chip
 
   R : Ruled g
-  R = slip-ruled slip g (chip .geometry)
+  R = slip-ruled (req .slip) g (chip .geometry)
 
   abbrev vs : Views
   vs = viewsOf g image
 
+  abbrev m : Medium
+  m = mediumOf g n image
+
   abbrev p : Plan
-  p = makePlan g n vs t o c
+  p = makePlan m t o c
 
   -- ---- the copy that is moved, and the plan's headers
 
@@ -109,11 +116,11 @@ module _ (slip : List ℕ) (g : Geometry) (n : ℕ) (chip : Chip slip g n) (imag
       let more = a .counter-left in
       good-headers g P c moves (highestOf n (copies vs)) (omega arith) n vs o (omega arith) (image-small g P n image (f .bytes) (f .long))
 
-  ready : Ready n vs v l (p .old) (p .target) c (p .vid)
+  ready : Ready m v l (p .old) (p .target) c (p .vid)
   unfolding makePlan newVid
   ready = record {
     is-chosen = a .is-chosen;
-    is-mappable = in-map-mappable (records g n vs) v l (a .in-map);
+    is-mappable = in-map-mappable (records m) v l (a .in-map);
     is-sound = a .is-sound;
     t<n = a .target-there;
     free-vid = a .target-free .0;
@@ -135,26 +142,30 @@ module _ (slip : List ℕ) (g : Geometry) (n : ℕ) (chip : Chip slip g n) (imag
   unfolding makePlan
   rules = R .rules
 
-  runs : Runs g n p
+  may-run : runnable p image ≡ true
   unfolding makePlan
-  runs = record {
-    sited = record {
-      fits = record { placed = P; same-unit = refl; data-fits = goods .data-fits };
-      old-there = at-o .0;
-      target-there = a .target-there;
-      apart = apart;
-    };
-    geometry = geometry-is;
-    unstarted = refl;
-    is-runnable = λ i len.
-        runnable-by p g i n rules geometry-is (image-ruled slip g n chip i len) (count-is slip g n chip i len) (at-o .0) (a .target-there) apart
-        (goods .vid-good) (goods .ec-good);
+  may-run =
+      runnable-by p g image n rules geometry-is (image-ruled req g n chip image (f .long)) (count-is req g n chip image (f .long)) (at-o .0)
+      (a .target-there) apart (goods .vid-good) (goods .ec-good)
+
+  abbrev d : ℕ
+  d = p .vid .«data_size»
+
+  sited : Sited g n d (relocation p image)
+  unfolding makePlan dataSteps
+  sited = record {
+    placed = P;
+    old-there = at-o .0;
+    target-there = a .target-there;
+    apart = apart;
+    vid-64 = vid-64 (p .vid);
+    ec-64 = ec-64 (p .ec);
+    data-fits = goods .data-fits;
+    unit-starts = λ j h. unit-starts j d (g .unit) (P .unit-above) h;
+    units-cover = units-cover d (g .unit) (P .unit-above);
   }
 
   -- ---- the two PEBs at first
-
-  abbrev fits : Fits g p
-  fits = runs .sited .fits
 
   abbrev T : List ℕ
   T = pebAt g image (p .target)
@@ -163,20 +174,17 @@ module _ (slip : List ℕ) (g : Geometry) (n : ℕ) (chip : Chip slip g n) (imag
   O = pebAt g image (p .old)
 
   lenT : length T ≡ g .«peb_size»
-  lenT = peb-length g n image (f .long) (p .target) (runs .sited .target-there)
+  lenT = peb-length g n image (f .long) (p .target) (sited .target-there)
 
   lenO : length O ≡ g .«peb_size»
-  lenO = peb-length g n image (f .long) (p .old) (runs .sited .old-there)
-
-  abbrev d : ℕ
-  d = p .vid .«data_size»
+  lenO = peb-length g n image (f .long) (p .old) (sited .old-there)
 
   read-O : Read g O c
   unfolding makePlan
   read-O = read g P n image (f .bytes) (f .long) o (at-o .0) c (at-o .1)
 
   o-before : ecRefusal g (imageSeq n vs) (viewOf g O .ec) ≡ none
-  o-before = none5678-at g n vs (parts g n vs (f .unrefused) .none5678) (p .old) (runs .sited .old-there) .0
+  o-before = none5678-at m (parts m (f .unrefused) .none5678) (p .old) (sited .old-there) .0
 
   clean-T : allFF (drop 64 T) ≡ true
   unfolding makePlan viewOf
@@ -186,84 +194,103 @@ module _ (slip : List ℕ) (g : Geometry) (n : ℕ) (chip : Chip slip g n) (imag
   blank-T =
       let s = goods .data-fits in
       let e : g .«data_start» + d ≡ 64 + (g .«data_start» + d - 64) = omega (arith, P .vid-after-ec, P .data-after-vid) in
-      let m : length (drop 64 T) - (g .«data_start» + d - 64) ≡ g .«leb_size» - d =
+      let k : length (drop 64 T) - (g .«data_start» + d - 64) ≡ g .«leb_size» - d =
       rw length-drop (omega (arith, lenT, P .vid-after-ec, P .data-after-vid, P .leb-fills)) in
       ap (λ i. drop i T) e ∙ sym (drop-drop (g .«data_start» + d - 64) 64 T)
       ∙ ap (drop (g .«data_start» + d - 64)) (all-ff (drop 64 T) clean-T)
-      ∙ drop-replicate 0xFF (g .«data_start» + d - 64) (length (drop 64 T)) ∙ ap (λ i. replicate i 0xFF) m
+      ∙ drop-replicate 0xFF (g .«data_start» + d - 64) (length (drop 64 T)) ∙ ap (λ i. replicate i 0xFF) k
 
-  -- the bytes that the place book and the premise look at
-  module _ (im : List ℕ) (i : ℕ) where
-    vid-at : vidAt p im i ≡ vidPart g (pebAt g im i)
-    unfolding vidAt
-    vid-at = rw geometry-is
+  -- ---- what its steps write
 
-    ec-at : ecAt p im i ≡ take 64 (pebAt g im i)
-    unfolding ecAt
-    ec-at = rw geometry-is
+  D : List ℕ
+  D = part (g .«data_start») d O
 
-    run-at : runAt p im i ≡ part (g .«data_start») d (pebAt g im i)
-    unfolding runAt
-    run-at = rw geometry-is
+  long-D : length D ≡ d
+  unfolding D
+  long-D = length-part (g .«data_start») d O (omega (arith, lenO, goods .data-fits, P .leb-fills))
 
-  -- ---- an image in which the two PEBs are x, and all else as it was
+  -- the units are those of the data run, as long as the old PEB is as it was
+  unit-is : (y : List ℕ) → length y ≡ length image → pebAt g y (p .old) ≡ O → (j : ℕ) → j < dataSteps p
+      → unitBytes p y j ≡ part (j * g .unit) (min (g .unit) (d - j * g .unit)) D
+  unfolding unitBytes D
+  unit-is y l e j h =
+      let w = sited .unit-starts j h in
+      let z : ℕ = min (g .unit) (d - j * g .unit) in
+      rw geometry-is
+      (sym (part-part (g .«data_start» + j * g .unit) z (p .old * g .«peb_size») (g .«peb_size») y (omega (arith, goods .data-fits, P .leb-fills)))
+      ∙ ap (part (g .«data_start» + j * g .unit) z) e ∙ sym (part-part (j * g .unit) z (g .«data_start») d O (omega arith)))
 
-  abbrev HaltsAt : Pair → Type 0
-  HaltsAt x = Halt g p fits T O lenT lenO x
+  -- the writes, in the geometry of the chip
+  abbrev write : List ℕ → ℕ → Write
+  write y k = relocating g (relocation p y) k
 
-  module _ (image′ : List ℕ) (x : Pair) (la : Lands g n p runs image x image′) (ha : HaltsAt x) where
+  writes-are : writeAfter p ≡ write
+  unfolding writeAfter
+  writes-are = λ i y k. relocating (geometry-is i) (relocation p y) k
+
+  abbrev left : Course → List ℕ
+  left course = imageLeft moverJob p image course
+
+  abbrev HaltsAt : List ℕ → Type 0
+  HaltsAt y = Halt g n d (relocation p image) sited image (f .long) D long-D (unitBytes p) unit-is y
+
+  abbrev WholeAt : List ℕ → Type 0
+  WholeAt y = Whole g n d (relocation p image) sited image (f .long) D long-D (unitBytes p) unit-is y
+
+  halts : (s : Stop) → HaltsAt (left (toStop s))
+  unfolding makePlan
+  halts s =
+      rw (left-is moverJob mover-lawful p image may-run refl (toStop s), writes-are)
+      (cut-halts g n d (relocation p image) sited image (f .long) D long-D (unitBytes p) unit-is (s .stored) (s .erased) (s .before))
+
+  wholes : (k : ℕ) → WholeAt (left (toEnd k))
+  unfolding makePlan stepCount
+  wholes k =
+      rw (left-is moverJob mover-lawful p image may-run refl (toEnd k), writes-are)
+      (whole-end g n d (relocation p image) sited image (f .long) D long-D (unitBytes p) unit-is (3 + dataSteps p + k) (omega arith))
+
+  -- ---- an image that a course of it leaves
+
+  module _ (image′ : List ℕ) (ha : HaltsAt image′) where
     abbrev vs′ : Views
     vs′ = viewsOf g image′
 
     abbrev X : List ℕ
-    X = x .target
+    X = pebAt g image′ (p .target)
 
     abbrev Y : List ℕ
-    Y = x .old
-
-    peb-t : pebAt g image′ (p .target) ≡ X
-    peb-t = ap (λ (z : Pair). z .target) (la .pair)
-
-    peb-o : pebAt g image′ (p .old) ≡ Y
-    peb-o = ap (λ (z : Pair). z .old) (la .pair)
+    Y = pebAt g image′ (p .old)
 
     same-ec : vs′ (p .target) .ec ≡ vs (p .target) .ec
     unfolding viewOf
-    same-ec = rw (peb-t, ha .within .same-ec)
+    same-ec = rw (ha .near .same-ec)
 
-    keep : (st : Stopped g n vs vs′ (p .old) (p .target) c (p .vid)) → Keeps g n vs vs′ v l (p .target) (isWhole st)
+    keep : (st : Stopped m vs′ (p .old) (p .target) c (p .vid)) → Keeps m vs′ v l (p .target) (isWhole st)
     keep st =
-        keeps g n vs vs′ v l (p .old) (p .target) c (p .vid) (f .unrefused) ready (λ i k nt nq. ap (viewOf g) (la .elsewhere i nq nt)) same-ec st
+        keeps m vs′ v l (p .old) (p .target) c (p .vid) (f .unrefused) ready (λ i k nt nq. ap (viewOf g) (ha .near .elsewhere i nq nt)) same-ec st
 
-    all-run : Stored g p fits T O lenT lenO d X → part (g .«data_start») d X ≡ part (g .«data_start») d O
-    all-run s = s .run ∙ take-all d (part (g .«data_start») d O) (rw length-take (omega arith))
+    abbrev StoredAt : Type 0
+    StoredAt = Stored g n d (relocation p image) sited image (f .long) D long-D (unitBytes p) unit-is d image′
+
+    all-run : StoredAt → part (g .«data_start») d X ≡ part (g .«data_start») d O
+    unfolding D
+    all-run s = s .run ∙ take-all d D (omega (arith, long-D))
 
     order : (Y ≡ O) ⊎ ((vidPart g X ≡ vidBytes (p .vid)) × (part (g .«data_start») d X ≡ part (g .«data_start») d O))
     order = ⊎-elim (λ e. inl e) (λ s. inr (s .header, all-run s)) (ha .order)
 
     -- a stopped move
-    kept-cut : allOf (premiseRules p image image′) ≡ true → Keeps g n vs vs′ v l (p .target) (headerWhole p image′ && runWhole p image image′)
+    kept-cut : allOf (premiseRules p image image′) ≡ true → Keeps m vs′ v l (p .target) (headerWhole p image′ && runWhole p image image′)
     unfolding premiseRules headerWhole runWhole
     kept-cut pr =
         let r : (k : ℕ) → getD (premiseRules p image image′) k true ≡ true = each-holds (premiseRules p image image′) pr in
         let st =
-        stopped g n vs vs′ v l (p .old) (p .target) c p ready goods T O X Y blank-T read-O refl (ap (viewOf g) peb-t) (ap (viewOf g) peb-o)
-        (ha .within .same-tail) o-before order
-        (rw (vid-at image′ (p .target), peb-t) at (r 0))
-        (rw (vid-at image′ (p .target), run-at image′ (p .target), run-at image (p .old), peb-t) at (r 1))
-        (rw (ec-at image′ (p .old), ec-at image (p .old), peb-o) at (r 2))
-        (rw (vid-at image′ (p .old), vid-at image (p .old), peb-o) at (r 3)) in
-        rw (vid-at image′ (p .target), run-at image′ (p .target), run-at image (p .old), peb-t, ← (st .1)) (keep (st .0))
+        stopped g n image image′ v l (p .old) (p .target) c p ready goods read-O (ha .near .same-tail ∙ blank-T) o-before order
+        (rw geometry-is at (r 0)) (rw geometry-is at (r 1)) (rw geometry-is at (r 2)) (rw geometry-is at (r 3)) in
+        rw (geometry-is, ← (st .1)) (keep (st .0))
 
     -- a move that is not cut
-    module _ (s : Stored g p fits T O lenT lenO d X)
-        (y : Y ≡ put 0 (take (g .«peb_size») (ecBytes (p .ec))) (replicate (g .«peb_size») 0xFF)) where
-      ec-all : take (g .«peb_size») (ecBytes (p .ec)) ≡ ecBytes (p .ec)
-      ec-all = take-all (g .«peb_size») (ecBytes (p .ec)) (omega (arith, ec-64 (p .ec), P .vid-after-ec, P .data-after-vid, P .leb-fills))
-
-      Y-is : Y ≡ put 0 (ecBytes (p .ec)) (replicate (g .«peb_size») 0xFF)
-      Y-is = y ∙ ap (λ (b : List ℕ). put 0 b (replicate (g .«peb_size») 0xFF)) ec-all
-
+    module _ (s : StoredAt) (Y-is : Y ≡ put 0 (ecBytes (p .ec)) (replicate (g .«peb_size») 0xFF)) where
       end-ec : take 64 Y ≡ ecBytes (p .ec)
       end-ec = ap (take 64) Y-is ∙ take-at (ecBytes (p .ec)) _ 64 (ec-64 (p .ec))
 
@@ -277,98 +304,83 @@ module _ (slip : List ℕ) (g : Geometry) (n : ℕ) (chip : Chip slip g n) (imag
           ∙ drop-replicate 0xFF (g .«vid_start») (g .«peb_size»))
           ∙ take-replicate 0xFF 64 (g .«peb_size» - g .«vid_start») (omega (arith, P .data-after-vid, P .leb-fills))
 
-      kept-end : Keeps g n vs vs′ v l (p .target) true
+      kept-end : Keeps m vs′ v l (p .target) true
       kept-end =
           let st =
-          finished g n vs vs′ v l (p .old) (p .target) c p ready goods T O X Y blank-T read-O refl (ap (viewOf g) peb-t) (ap (viewOf g) peb-o)
-          (ha .within .same-tail) o-before (s .header) (all-run s) end-ec end-vid in
-          subst (Keeps g n vs vs′ v l (p .target)) (st .1) (keep (st .0))
+          finished g n image image′ v l (p .old) (p .target) c p ready goods read-O (ha .near .same-tail ∙ blank-T) o-before (s .header) (all-run s) end-ec end-vid in
+          subst (Keeps m vs′ v l (p .target)) (st .1) (keep (st .0))
 
-      end-free : classAt g n vs′ (p .old) ≡ 0
+      end-free : classAt (mediumOf g n image′) (p .old) ≡ 0
       unfolding classAt
       end-free =
-          let e : vs′ (p .old) .ec ≡ ecGood (p .ec) = rw peb-o (ec-written g Y (p .ec) (goods .ec-fits) (goods .ec-good) end-ec) in
-          let w : vs′ (p .old) .vid ≡ vidBlank = rw peb-o (vid-erased g Y end-vid) in
+          let e : vs′ (p .old) .ec ≡ ecGood (p .ec) = ec-written g Y (p .ec) (goods .ec-fits) (goods .ec-good) end-ec in
+          let w : vs′ (p .old) .vid ≡ vidBlank = vid-erased g Y end-vid in
           rw (e, w)
 
     -- the map with the place written
-    map-after : (w : Bool) → Keeps g n vs vs′ v l (p .target) w
-        → entries g n vs′ ≡ cond w (placeWritten v l (p .target) (entries g n vs)) (entries g n vs)
-    unfolding entries placesOf
-    map-after w k = ap₂ mapOf (ap (tableRecords g n) (k .same-faces)) (k .new-places) ∙ go w
+    map-after : (w : Bool) → Keeps m vs′ v l (p .target) w
+        → entries (mediumOf g n image′) ≡ cond w (placeWritten v l (p .target) (entries m)) (entries m)
+    unfolding entries placesOf tableRecords
+    map-after w k = ap₂ mapOf (ap (tableRecords m) (k .same-faces)) (k .new-places) ∙ go w
       where
         go : (w : Bool)
-            → mapOf (records g n vs) (cond w (placesWith v l (p .target) (places g n vs)) (places g n vs))
-            ≡ cond w (placeWritten v l (p .target) (mapOf (records g n vs) (places g n vs))) (mapOf (records g n vs) (places g n vs))
-        go true = map-moved v l (p .target) (places g n vs) (p .old) (rw (ready .is-chosen)) (records g n vs)
+            → mapOf (records m) (cond w (placesWith v l (p .target) (places m)) (places m))
+            ≡ cond w (placeWritten v l (p .target) (mapOf (records m) (places m))) (mapOf (records m) (places m))
+        go true = map-moved v l (p .target) (places m) (p .old) (rw (ready .is-chosen)) (records m)
         go false = refl
 
   -- ---- what a course leaves
 
-  abbrev left : Course → List ℕ
-  left course = imageLeft p image course
-
-  abbrev Ends : Course → Views → Type 0
-  Ends (toEnd k) vs′ = classAt g n vs′ (p .old) ≡ 0
-  Ends (toStop s) vs′ = Unit {0}
+  abbrev Ends : Course → List ℕ → Type 0
+  Ends (toEnd k) y = classAt (mediumOf g n y) (p .old) ≡ 0
+  Ends (toStop s) y = Unit {0}
 
   record Result (course : Course) : Type 0 where
-    x : Pair
-    lands : Lands g n p runs image x (left course)
-    kept : Keeps g n vs (viewsOf g (left course)) v l (p .target) (isWritten p image course)
-    new-map : entries g n (viewsOf g (left course)) ≡ cond (isWritten p image course) (placeWritten v l (p .target) (entries g n vs)) (entries g n vs)
-    ends : Ends course (viewsOf g (left course))
-
-  abbrev start : Pair
-  start = pair g n p runs image
-
-  at-end : (k : ℕ) → Result (toEnd k)
-  unfolding imageLeft isWritten stepCount
-  at-end k =
-      let x : Pair = steps g p start (3 + dataSteps p) in
-      let la : Lands g n p runs image x (left (toEnd k)) =
-      rw (further g p fits T O lenT lenO k) at (ran g n p runs image (f .long) (3 + dataSteps p + k) .lands) in
-      let w = whole-target g p fits T O lenT lenO in
-      let ha : HaltsAt x = record { within = w .0; order = inr (w .1) } in
-      let y = whole-old g p fits T O lenT lenO in
-      let kp = kept-end (left (toEnd k)) x la ha (w .1) y in
-      record {
-        x = x;
-        lands = la;
-        kept = kp;
-        new-map = map-after (left (toEnd k)) x la ha true kp;
-        ends = end-free (left (toEnd k)) x la ha (w .1) y;
-      }
-
-  at-stop : (s : Stop) → allOf (premiseRules p image (left (toStop s))) ≡ true → Result (toStop s)
-  unfolding imageLeft isWritten
-  at-stop s pr =
-      let image′ : List ℕ = left (toStop s) in
-      let x : Pair = step g p (s .before) (s .stored) (s .erased) (steps g p start (s .before)) in
-      let la : Lands g n p runs image x image′ = cut-ran g n p runs image (f .long) (s .before) (s .stored) (s .erased) in
-      let ha : HaltsAt x = cut-halts g p fits T O lenT lenO (s .before) (s .stored) (s .erased) in
-      let kp = kept-cut image′ x la ha pr in
-      record { x = x; lands = la; kept = kp; new-map = map-after image′ x la ha (headerWhole p image′ && runWhole p image image′) kp; ends = tt }
+    near : Near g n d (relocation p image) sited image (f .long) D long-D (unitBytes p) unit-is (left course)
+    kept : Keeps m (viewsOf g (left course)) v l (p .target) (isWritten p image course (left course))
+    new-map : entries (mediumOf g n (left course))
+        ≡ cond (isWritten p image course (left course)) (placeWritten v l (p .target) (entries m)) (entries m)
+    ends : Ends course (left course)
 
   result : (course : Course) → premiseOf image course (left course) (given p) ≡ true → Result course
-  result (toEnd k) pr = at-end k
-  result (toStop s) pr = at-stop s pr
+  unfolding isWritten
+  result (toEnd k) pr =
+      let w = wholes k in
+      let ha : HaltsAt (left (toEnd k)) = record { near = w .near; order = inr (w .stored) } in
+      let kp = kept-end (left (toEnd k)) ha (w .stored) (w .old-erased) in
+      record {
+        near = w .near;
+        kept = kp;
+        new-map = map-after (left (toEnd k)) ha true kp;
+        ends = end-free (left (toEnd k)) ha (w .stored) (w .old-erased);
+      }
+  result (toStop s) pr =
+      let y : List ℕ = left (toStop s) in
+      let ha = halts s in
+      let kp = kept-cut y ha pr in
+      record { near = ha .near; kept = kp; new-map = map-after y ha (headerWhole p y && runWhole p image y) kp; ends = tt }
 
   pub record After (course : Course) : Type 0 where
-    pub fine : Fine g n (imageLeft p image course)
-    pub same-faces : faces g n (viewsOf g (imageLeft p image course)) ≡ faces g n (viewsOf g image)
-    pub new-map : entries g n (viewsOf g (imageLeft p image course))
-        ≡ cond (isWritten p image course) (placeWritten v l t (entries g n (viewsOf g image))) (entries g n (viewsOf g image))
-    pub moved : Moved slip p course image (imageLeft p image course)
+    pub fine : Fine g n (imageLeft moverJob p image course)
+    pub same-faces : faces (mediumOf g n (imageLeft moverJob p image course)) ≡ faces (mediumOf g n image)
+    pub new-map : entries (mediumOf g n (imageLeft moverJob p image course))
+        ≡ cond (isWritten p image course (imageLeft moverJob p image course)) (placeWritten v l t (entries (mediumOf g n image)))
+        (entries (mediumOf g n image))
+    pub moved : Moved req p course image (imageLeft moverJob p image course)
 
   module _ (course : Course) (r : Result course) where
     fine-left : Fine g n (left course)
-    fine-left = record { long = r .lands .long ∙ f .long; bytes = left-octets p image (f .bytes) course; unrefused = r .kept .attaches }
+    unfolding makePlan
+    fine-left = record {
+      long = r .near .long ∙ f .long;
+      bytes = left-octets moverJob mover-lawful p image may-run refl (f .bytes) course;
+      unrefused = r .kept .attaches;
+    }
 
-    freed : Freed slip p course (left course)
-    freed = go course (r .ends) (attached slip g n chip (left course) (fine-left .long) (fine-left .unrefused))
+    freed : Freed req p course (left course)
+    freed = go course (r .ends) (attached req g n chip (left course) (fine-left .long) (fine-left .unrefused))
       where
-        go : (k : Course) → Ends k (viewsOf g (left course)) → outcomeOf slip (left course) ≡ whole g n (viewsOf g (left course)) → Freed slip p k (left course)
+        go : (k : Course) → Ends k (left course) → outcomeOf req (left course) ≡ whole (mediumOf g n (left course)) → Freed req p k (left course)
         go (toEnd k) e q = rw (q, e)
         go (toStop s) e q = tt
 
@@ -379,13 +391,13 @@ module _ (slip : List ℕ) (g : Geometry) (n : ℕ) (chip : Chip slip g n) (imag
       same-faces = r .kept .same-faces;
       new-map = r .new-map;
       moved = record {
-        same-length = r .lands .long;
-        elsewhere = same-byte g n p runs image (left course) (r .x) (f .long) (peb-above slip g n chip) (r .lands);
-        steps = record { go-on = all-go-on g n p runs image (f .long); are-done = all-done g n p runs image (f .long) };
+        same-length = r .near .long;
+        elsewhere = λ k no nt. same-byte g (left course) image k (peb-above req g n chip) (r .near .elsewhere (k / g .«peb_size») no nt);
+        steps = steps moverJob mover-lawful p image may-run refl;
         freed = freed;
       };
     }
 
   -- any course, with the premise if it was stopped
-  pub after : (course : Course) → premiseOf image course (imageLeft p image course) (given p) ≡ true → After course
+  pub after : (course : Course) → premiseOf image course (imageLeft moverJob p image course) (given p) ≡ true → After course
   after course pr = after-of course (result course pr)

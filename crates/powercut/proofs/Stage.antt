@@ -8,17 +8,16 @@ use native.Mathlib.Omega.{arith}
 use lib.Dec.{eqb}
 use borrow.Author.Tests.{eqb-true, eq-eqb, ne-eqb}
 use Rattle.base.proofs.Below.{eq-or-ne}
-use Rattle.geometry.specs.declared.Geometry.{Geometry}
 use Rattle.header.specs.declared.EcHeader.{EcHeader}
 use Rattle.header.specs.declared.VidHeader.{VidHeader}
-use Rattle.report.specs.View.{Copy, ecGood, vidGood, vidBlank, Views, ecs, copies, isMappable}
+use Rattle.report.specs.View.{Copy, ecGood, vidGood, vidBlank, Views, Medium, ecs, copies, isMappable}
 use Rattle.report.specs.Scan.{imageSeq, ecRefusal, vidRefusal, refusal5678}
 use Rattle.report.specs.Choice.{sound, repeats, refusal9, chosen}
-use Rattle.report.specs.Volumes.{faceOf, facesOf, placesOf, tableLeb}
+use Rattle.report.specs.Volumes.{faceOf, facesOf, placesOf, tableLeb, tableRecords}
 use Rattle.report.specs.Report.{faces, places, records, refusal}
 use Rattle.report.proofs.Choice.{Moving, chosen-at, chosen-cong, chosen-unsound, chosen-moved, chosen-other, key-or}
 use Rattle.report.proofs.Map.{placesWith}
-use Rattle.report.proofs.Facts.{Parts, parts, of-parts, first-some, none5678-at, no-5678, none9-at, no-9, no-10}
+use Rattle.report.proofs.Facts.{seqIn, Parts, parts, of-parts, first-some, none5678-at, no-5678, none9-at, no-9, no-10}
 use Rattle.report.proofs.Tables.{no-1112}
 
 -- ---- refusal 9
@@ -85,37 +84,41 @@ module _ (n : ℕ) (cs cs′ : ℕ → Option Copy) (v l o t : ℕ) (old new : C
 -- ---- a move that was begun, and how it can have stopped
 
 -- what an accepted move starts from; h is the new VID header
-pub record Ready (n : ℕ) (vs : Views) (v l o t : ℕ) (old : Copy) (h : VidHeader) : Type 0 where
-  pub is-chosen : chosen n (copies vs) v l ≡ some (o, old)
+pub record Ready (m : Medium) (v l o t : ℕ) (old : Copy) (h : VidHeader) : Type 0 where
+  pub is-chosen : chosen (m .count) (copies (m .views)) v l ≡ some (o, old)
   pub is-mappable : isMappable v ≡ true
   pub is-sound : sound old ≡ true
-  pub t<n : t < n
-  pub free-vid : vs t .vid ≡ vidBlank
+  pub t<n : t < m .count
+  pub free-vid : m .views t .vid ≡ vidBlank
   pub spare : EcHeader
-  pub free-ec : vs t .ec ≡ ecGood spare
+  pub free-ec : m .views t .ec ≡ ecGood spare
   pub volume : h .volume ≡ v
   pub lnum : h .lnum ≡ l
-  pub above : (i : ℕ) → i < n → (c : Copy) → copies vs i ≡ some c → c .header .sequence < h .sequence
+  pub above : (i : ℕ) → i < m .count → (c : Copy) → copies (m .views) i ≡ some c → c .header .sequence < h .sequence
+
+-- an image in which the PEBs have other views
+abbrev pub withViews : Medium → Views → Medium
+withViews m vs′ = record { geometry = m .geometry; count = m .count; views = vs′ }
 
 -- the new VID header is not there yet; it is, with data that do not match; the new copy is whole, and of the old one nothing is left
 -- but its header, if that
-pub data Stopped (g : Geometry) (n : ℕ) (vs vs′ : Views) (o t : ℕ) (old : Copy) (h : VidHeader) : Type 0 where
-  torn : vs′ o ≡ vs o → copies vs′ t ≡ none → vidRefusal (vs′ t .vid) ≡ none → Stopped g n vs vs′ o t old h
-  half : (new : Copy) → vs′ o ≡ vs o → vs′ t .vid ≡ vidGood new → new .header ≡ h → sound new ≡ false → Stopped g n vs vs′ o t old h
-  whole : (new : Copy) → vs′ t .vid ≡ vidGood new → new .header ≡ h → sound new ≡ true → faceOf g new ≡ faceOf g old
-      → ecRefusal g (imageSeq n vs) (vs′ o .ec) ≡ none → vidRefusal (vs′ o .vid) ≡ none
-      → ((c : Copy) → copies vs′ o ≡ some c → c .header ≡ old .header) → Stopped g n vs vs′ o t old h
+pub data Stopped (m : Medium) (vs′ : Views) (o t : ℕ) (old : Copy) (h : VidHeader) : Type 0 where
+  torn : vs′ o ≡ m .views o → copies vs′ t ≡ none → vidRefusal (vs′ t .vid) ≡ none → Stopped m vs′ o t old h
+  half : (new : Copy) → vs′ o ≡ m .views o → vs′ t .vid ≡ vidGood new → new .header ≡ h → sound new ≡ false → Stopped m vs′ o t old h
+  whole : (new : Copy) → vs′ t .vid ≡ vidGood new → new .header ≡ h → sound new ≡ true → faceOf (m .geometry) new ≡ faceOf (m .geometry) old
+      → ecRefusal (m .geometry) (seqIn m) (vs′ o .ec) ≡ none → vidRefusal (vs′ o .vid) ≡ none
+      → ((c : Copy) → copies vs′ o ≡ some c → c .header ≡ old .header) → Stopped m vs′ o t old h
 
-abbrev pub isWhole : {g : Geometry} {n : ℕ} {vs vs′ : Views} {o t : ℕ} {old : Copy} {h : VidHeader} → Stopped g n vs vs′ o t old h → Bool
+abbrev pub isWhole : {m : Medium} {vs′ : Views} {o t : ℕ} {old : Copy} {h : VidHeader} → Stopped m vs′ o t old h → Bool
 isWhole (torn a b c) = false
 isWhole (half new a b c d) = false
 isWhole (whole new a b c d e f k) = true
 
 -- what a stopped image keeps; w: is the new copy whole?
-pub record Keeps (g : Geometry) (n : ℕ) (vs vs′ : Views) (v l t : ℕ) (w : Bool) : Type 0 where
-  pub attaches : refusal g n vs′ ≡ none
-  pub same-faces : faces g n vs′ ≡ faces g n vs
-  pub new-places : places g n vs′ ≡ cond w (placesWith v l t (places g n vs)) (places g n vs)
+pub record Keeps (m : Medium) (vs′ : Views) (v l t : ℕ) (w : Bool) : Type 0 where
+  pub attaches : refusal (withViews m vs′) ≡ none
+  pub same-faces : faces (withViews m vs′) ≡ faces m
+  pub new-places : places (withViews m vs′) ≡ cond w (placesWith v l t (places m)) (places m)
 
 key-miss : {A : Type 0} (v l v′ l′ : ℕ) → ((v ≡ v′) → (l ≡ l′) → ⊥) → (x y : A) → cond (eqb v v′ && eqb l l′) x y ≡ y
 key-miss {A} v l v′ l′ ne x y = go (eqb v v′) refl (eqb l l′) refl
@@ -125,55 +128,65 @@ key-miss {A} v l v′ l′ ne x y = go (eqb v v′) refl (eqb l l′) refl
     go true e false f = refl
     go false e q f = refl
 
-module _ (g : Geometry) (n : ℕ) (vs vs′ : Views) (v l o t : ℕ) (old : Copy) (h : VidHeader)
-    (ok : refusal g n vs ≡ none) (b : Ready n vs v l o t old h)
-    (rest : (i : ℕ) → i < n → i ≢ t → i ≢ o → vs′ i ≡ vs i) (t-ec : vs′ t .ec ≡ vs t .ec) where
-  P : Parts g n vs
-  P = parts g n vs ok
+module _ (m : Medium) (vs′ : Views) (v l o t : ℕ) (old : Copy) (h : VidHeader)
+    (ok : refusal m ≡ none) (b : Ready m v l o t old h)
+    (rest : (i : ℕ) → i < m .count → i ≢ t → i ≢ o → vs′ i ≡ m .views i) (t-ec : vs′ t .ec ≡ m .views t .ec) where
+  abbrev n : ℕ
+  n = m .count
+
+  abbrev vs : Views
+  vs = m .views
+
+  abbrev m′ : Medium
+  m′ = withViews m vs′
+
+  P : Parts m
+  P = parts m ok
 
   at-o : (o < n) × (copies vs o ≡ some old) × (old .header .volume ≡ v) × (old .header .lnum ≡ l)
   at-o = chosen-at n (copies vs) v l o old (b .is-chosen)
 
   -- the image sequence that refusal 7 compares with
-  seq : (s : ℕ) × (imageSeq n vs ≡ some s)
+  seq : (s : ℕ) × (seqIn m ≡ some s)
   unfolding imageSeq
   seq = let r = first-some n (ecs vs) t (b .spare) (b .t<n) (rw (b .free-ec)) in (r .0 .1 .«image_seq», rw (r .1))
 
   -- refusals 5 to 8, from the two PEBs that changed
-  after58 : ecRefusal g (imageSeq n vs) (vs′ o .ec) ≡ none → vidRefusal (vs′ o .vid) ≡ none → vidRefusal (vs′ t .vid) ≡ none
-      → refusal5678 g n vs′ ≡ none
-  after58 eo vo vt = no-5678 g n vs′ (seq .0) t (b .spare) (b .t<n) (rw (t-ec, b .free-ec)) (λ i k. go i k (eq-or-ne i t) (eq-or-ne i o)) .1
+  after58 : ecRefusal (m .geometry) (seqIn m) (vs′ o .ec) ≡ none → vidRefusal (vs′ o .vid) ≡ none → vidRefusal (vs′ t .vid) ≡ none
+      → refusal5678 m′ ≡ none
+  after58 eo vo vt = no-5678 m′ (seq .0) t (b .spare) (b .t<n) (rw (t-ec, b .free-ec)) (λ i k. go i k (eq-or-ne i t) (eq-or-ne i o)) .1
     where
-      before : (i : ℕ) → i < n → (ecRefusal g (some (seq .0)) (vs i .ec) ≡ none) × (vidRefusal (vs i .vid) ≡ none)
-      before i k = rw (seq .1) at (none5678-at g n vs (P .none5678) i k)
+      before : (i : ℕ) → i < n → (ecRefusal (m .geometry) (some (seq .0)) (vs i .ec) ≡ none) × (vidRefusal (vs i .vid) ≡ none)
+      before i k = rw (seq .1) at (none5678-at m (P .none5678) i k)
 
       go : (i : ℕ) → i < n → (i ≡ t) ⊎ (i ≢ t) → (i ≡ o) ⊎ (i ≢ o)
-          → (ecRefusal g (some (seq .0)) (vs′ i .ec) ≡ none) × (vidRefusal (vs′ i .vid) ≡ none)
+          → (ecRefusal (m .geometry) (some (seq .0)) (vs′ i .ec) ≡ none) × (vidRefusal (vs′ i .vid) ≡ none)
       go i k (inl e) d = (rw (e, t-ec) (before t (b .t<n) .0), rw e vt)
       go i k (inr ni) (inl e) = (rw (e, ← (seq .1)) eo, rw e vo)
       go i k (inr ni) (inr nq) = rw (rest i k ni nq) (before i k)
 
   -- what is left: no refusal 9, the same faces, the places
-  finish : (w : Bool) (i : ℕ) (c : Copy) → i < n → copies vs′ i ≡ some c → refusal5678 g n vs′ ≡ none → refusal9 n (copies vs′) ≡ none
-      → faces g n vs′ ≡ faces g n vs → places g n vs′ ≡ cond w (placesWith v l t (places g n vs)) (places g n vs) → Keeps g n vs vs′ v l t w
+  finish : (w : Bool) (i : ℕ) (c : Copy) → i < n → copies vs′ i ≡ some c → refusal5678 m′ ≡ none → refusal9 n (copies vs′) ≡ none
+      → faces m′ ≡ faces m → places m′ ≡ cond w (placesWith v l t (places m)) (places m) → Keeps m vs′ v l t w
+  unfolding tableLeb tableRecords
   finish w i c k q r58 r9 fe pe = record {
-    attaches = of-parts g n vs′ (record {
+    attaches = of-parts m′ (record {
       none5678 = r58;
       none9 = r9;
-      none10 = no-10 n vs′ i c k q;
-      none1112 = rw fe (no-1112 (tableLeb g n (faces g n vs)) (records g n vs) (faces g n vs) (places g n vs) (P .none1112) (places g n vs′));
+      none10 = no-10 m′ i c k q;
+      none1112 = rw fe (no-1112 (tableLeb m (faces m)) (records m) (faces m) (places m) (P .none1112) (places m′));
     });
     same-faces = fe;
     new-places = pe;
   }
 
   by-chosen : ((v′ l′ : ℕ) → chosen n (copies vs′) v′ l′ ≡ chosen n (copies vs) v′ l′)
-      → (faces g n vs′ ≡ faces g n vs) × (places g n vs′ ≡ places g n vs)
+      → (faces m′ ≡ faces m) × (places m′ ≡ places m)
   unfolding facesOf placesOf
   by-chosen e = (fun-ext (λ v′. fun-ext (λ l′. rw (e v′ l′))), fun-ext (λ v′. fun-ext (λ l′. rw (e v′ l′))))
 
-  o-before : (ecRefusal g (imageSeq n vs) (vs o .ec) ≡ none) × (vidRefusal (vs o .vid) ≡ none)
-  o-before = none5678-at g n vs (P .none5678) o (at-o .0)
+  o-before : (ecRefusal (m .geometry) (seqIn m) (vs o .ec) ≡ none) × (vidRefusal (vs o .vid) ≡ none)
+  o-before = none5678-at m (P .none5678) o (at-o .0)
 
   new-unrefused : (new : Copy) → vs′ t .vid ≡ vidGood new → new .header ≡ h → vidRefusal (vs′ t .vid) ≡ none
   new-unrefused new et en = rw (et, en, b .volume, b .is-mappable)
@@ -190,7 +203,7 @@ module _ (g : Geometry) (n : ℕ) (vs vs′ : Views) (v l o t : ℕ) (old : Copy
     above = λ i k c q. rw en (b .above i k c q);
   }
 
-  keeps-torn : vs′ o ≡ vs o → copies vs′ t ≡ none → vidRefusal (vs′ t .vid) ≡ none → Keeps g n vs vs′ v l t false
+  keeps-torn : vs′ o ≡ vs o → copies vs′ t ≡ none → vidRefusal (vs′ t .vid) ≡ none → Keeps m vs′ v l t false
   keeps-torn eo nc vt =
       let e = by-chosen (chosen-cong n (copies vs) (copies vs′) same) in
       finish false o old (at-o .0) (rw eo (at-o .1)) (after58 (rw eo (o-before .0)) (rw eo (o-before .1)) vt)
@@ -203,42 +216,42 @@ module _ (g : Geometry) (n : ℕ) (vs vs′ : Views) (v l o t : ℕ) (old : Copy
           (λ (ni : i ≢ t). ⊎-elim (λ (e : i ≡ o). rw (e, eo)) (λ (nq : i ≢ o). rw (rest i k ni nq)) (eq-or-ne i o))
           (eq-or-ne i t)
 
-  keeps-half : (new : Copy) → vs′ o ≡ vs o → vs′ t .vid ≡ vidGood new → new .header ≡ h → sound new ≡ false → Keeps g n vs vs′ v l t false
+  keeps-half : (new : Copy) → vs′ o ≡ vs o → vs′ t .vid ≡ vidGood new → new .header ≡ h → sound new ≡ false → Keeps m vs′ v l t false
   keeps-half new eo et en u =
-      let m = moving new et en in
-      let e = by-chosen (chosen-unsound n (copies vs) (copies vs′) v l o t old new m u (b .is-sound) (rw eo)) in
+      let mv = moving new et en in
+      let e = by-chosen (chosen-unsound n (copies vs) (copies vs′) v l o t old new mv u (b .is-sound) (rw eo)) in
       finish false o old (at-o .0) (rw eo (at-o .1)) (after58 (rw eo (o-before .0)) (rw eo (o-before .1)) (new-unrefused new et en))
-      (none9-moved n (copies vs) (copies vs′) v l o t old new m (λ c q. left c (rw eo at q)) (P .none9))
+      (none9-moved n (copies vs) (copies vs′) v l o t old new mv (λ c q. left c (rw eo at q)) (P .none9))
       (e .0) (e .1)
     where
       left : (c : Copy) → copies vs o ≡ some c → c .header ≡ old .header
       left c q = let p : some c ≡ some old = sym q ∙ at-o .1 in let r : c ≡ old = cc in rw r
 
-  keeps-whole : (new : Copy) → vs′ t .vid ≡ vidGood new → new .header ≡ h → sound new ≡ true → faceOf g new ≡ faceOf g old
-      → ecRefusal g (imageSeq n vs) (vs′ o .ec) ≡ none → vidRefusal (vs′ o .vid) ≡ none
-      → ((c : Copy) → copies vs′ o ≡ some c → c .header ≡ old .header) → Keeps g n vs vs′ v l t true
+  keeps-whole : (new : Copy) → vs′ t .vid ≡ vidGood new → new .header ≡ h → sound new ≡ true → faceOf (m .geometry) new ≡ faceOf (m .geometry) old
+      → ecRefusal (m .geometry) (seqIn m) (vs′ o .ec) ≡ none → vidRefusal (vs′ o .vid) ≡ none
+      → ((c : Copy) → copies vs′ o ≡ some c → c .header ≡ old .header) → Keeps m vs′ v l t true
   unfolding facesOf placesOf
   keeps-whole new et en s fe ro rv left =
       finish true t new (b .t<n) (rw et) (after58 ro rv (new-unrefused new et en))
-      (none9-moved n (copies vs) (copies vs′) v l o t old new m left (P .none9))
+      (none9-moved n (copies vs) (copies vs′) v l o t old new mv left (P .none9))
       (fun-ext (λ v′. fun-ext (λ l′. face-at v′ l′ (key-or v′ l′ v l))))
       (fun-ext (λ v′. fun-ext (λ l′. place-at v′ l′ (key-or v′ l′ v l))))
     where
-      m : Moving n (copies vs) (copies vs′) v l o t old new
-      m = moving new et en
+      mv : Moving n (copies vs) (copies vs′) v l o t old new
+      mv = moving new et en
 
-      face-at : (v′ l′ : ℕ) → ((v ≡ v′) × (l ≡ l′)) ⊎ ((v ≡ v′) → (l ≡ l′) → ⊥) → faces g n vs′ v′ l′ ≡ faces g n vs v′ l′
-      face-at v′ l′ (inl e) = rw (← (e .0), ← (e .1), chosen-moved n (copies vs) (copies vs′) v l o t old new m s left, b .is-chosen, fe)
-      face-at v′ l′ (inr ne) = rw (chosen-other n (copies vs) (copies vs′) v l o t old new m s left v′ l′ ne)
+      face-at : (v′ l′ : ℕ) → ((v ≡ v′) × (l ≡ l′)) ⊎ ((v ≡ v′) → (l ≡ l′) → ⊥) → faces m′ v′ l′ ≡ faces m v′ l′
+      face-at v′ l′ (inl e) = rw (← (e .0), ← (e .1), chosen-moved n (copies vs) (copies vs′) v l o t old new mv s left, b .is-chosen, fe)
+      face-at v′ l′ (inr ne) = rw (chosen-other n (copies vs) (copies vs′) v l o t old new mv s left v′ l′ ne)
 
-      place-at : (v′ l′ : ℕ) → ((v ≡ v′) × (l ≡ l′)) ⊎ ((v ≡ v′) → (l ≡ l′) → ⊥) → places g n vs′ v′ l′ ≡ placesWith v l t (places g n vs) v′ l′
+      place-at : (v′ l′ : ℕ) → ((v ≡ v′) × (l ≡ l′)) ⊎ ((v ≡ v′) → (l ≡ l′) → ⊥) → places m′ v′ l′ ≡ placesWith v l t (places m) v′ l′
       place-at v′ l′ (inl e) =
-          rw (← (e .0), ← (e .1), chosen-moved n (copies vs) (copies vs′) v l o t old new m s left, eq-eqb v v refl, eq-eqb l l refl)
+          rw (← (e .0), ← (e .1), chosen-moved n (copies vs) (copies vs′) v l o t old new mv s left, eq-eqb v v refl, eq-eqb l l refl)
       place-at v′ l′ (inr ne) =
-          rw (chosen-other n (copies vs) (copies vs′) v l o t old new m s left v′ l′ ne)
-          (sym (key-miss v l v′ l′ ne (some t) (places g n vs v′ l′)))
+          rw (chosen-other n (copies vs) (copies vs′) v l o t old new mv s left v′ l′ ne)
+          (sym (key-miss v l v′ l′ ne (some t) (places m v′ l′)))
 
-  pub keeps : (st : Stopped g n vs vs′ o t old h) → Keeps g n vs vs′ v l t (isWhole st)
+  pub keeps : (st : Stopped m vs′ o t old h) → Keeps m vs′ v l t (isWhole st)
   keeps (torn eo nc vt) = keeps-torn eo nc vt
   keeps (half new eo et en u) = keeps-half new eo et en u
   keeps (whole new et en s fe ro rv left) = keeps-whole new et en s fe ro rv left

@@ -18,7 +18,7 @@ use Rattle.geometry.specs.declared.Geometry.{Geometry}
 use Rattle.header.specs.Fields.{crcMatches, good}
 use Rattle.header.specs.Ec.{ecBytes}
 use Rattle.header.specs.Vid.{implies, vidBytes}
-use Rattle.report.specs.View.{allFF, Copy, ecBlank, ecLost, vidGood, vidBlank, vidBad, Views, copyOf, vidPart, viewOf, copies, isMappable}
+use Rattle.report.specs.View.{allFF, Copy, ecBlank, ecLost, vidGood, vidBlank, vidBad, Views, copyOf, vidPart, pebAt, viewOf, viewsOf, mediumOf, copies, isMappable}
 use Rattle.report.specs.Scan.{imageSeq, ecRefusal, vidRefusal}
 use Rattle.report.specs.Choice.{sound}
 use Rattle.report.specs.Volumes.{contentOf, faceOf}
@@ -26,17 +26,30 @@ use Rattle.report.proofs.Choice.{chosen-at}
 use Rattle.report.proofs.First.{none-some}
 use Rattle.plan.specs.declared.Plan.{Plan}
 use Rattle.plan.proofs.Good.{Good}
-use Rattle.powercut.specs.Premise.{unlike}
+use Rattle.job.specs.Torn.{unlike}
 use Rattle.powercut.proofs.Stage.{Ready, Stopped, torn, half, whole, isWhole}
-use Rattle.plan.proofs.Seen.{ec-written, ec-torn, vid-written, vid-torn, vid-erased, Read, same-header}
+use Rattle.job.proofs.Seen.{ec-written, ec-torn, vid-written, vid-torn, vid-erased, Read, same-header}
 
--- T and O are the bytes of the two PEBs at first, X and Y those in the stopped image
-module _ (g : Geometry) (n : ℕ) (vs vs′ : Views) (v l o t : ℕ) (old : Copy) (p : Plan)
-    (b : Ready n vs v l o t old (p .vid)) (good : Good g (imageSeq n vs) old (p .vid) (p .ec)) (T O X Y : List ℕ)
-    (blank-T : drop (g .«data_start» + p .vid .«data_size») T ≡ replicate (g .«leb_size» - p .vid .«data_size») 0xFF)
-    (read-O : Read g O old) (is-o : vs o ≡ viewOf g O) (is-t′ : vs′ t ≡ viewOf g X) (is-o′ : vs′ o ≡ viewOf g Y)
-    (tail-X : drop (g .«data_start» + p .vid .«data_size») X ≡ drop (g .«data_start» + p .vid .«data_size») T)
-    (o-before : ecRefusal g (imageSeq n vs) (viewOf g O .ec) ≡ none) where
+-- O is the old PEB at first, X and Y the target and the old PEB in the stopped image
+module _ (g : Geometry) (n : ℕ) (image image′ : List ℕ) (v l o t : ℕ) (old : Copy) (p : Plan) (b : Ready (mediumOf g n image) v l o t old (p .vid))
+    (good : Good g (imageSeq n (viewsOf g image)) old (p .vid) (p .ec)) (read-O : Read g (pebAt g image o) old)
+    (tail-X : drop (g .«data_start» + p .vid .«data_size») (pebAt g image′ t) ≡ replicate (g .«leb_size» - p .vid .«data_size») 0xFF)
+    (o-before : ecRefusal g (imageSeq n (viewsOf g image)) (viewOf g (pebAt g image o) .ec) ≡ none) where
+  abbrev vs : Views
+  vs = viewsOf g image
+
+  abbrev vs′ : Views
+  vs′ = viewsOf g image′
+
+  abbrev O : List ℕ
+  O = pebAt g image o
+
+  abbrev X : List ℕ
+  X = pebAt g image′ t
+
+  abbrev Y : List ℕ
+  Y = pebAt g image′ o
+
   abbrev run : List ℕ
   run = part (g .«data_start») (p .vid .«data_size») X
 
@@ -55,7 +68,7 @@ module _ (g : Geometry) (n : ℕ) (vs vs′ : Views) (v l o t : ℕ) (old : Copy
   new = copyOf g X (p .vid)
 
   new-seen : vidPart g X ≡ vidBytes (p .vid) → vs′ t .vid ≡ vidGood new
-  new-seen e = rw is-t′ (vid-written g X (p .vid) (good .vid-fits) (good .vid-good) e)
+  new-seen e = vid-written g X (p .vid) (good .vid-fits) (good .vid-good) e
 
   new-header : new .header ≡ p .vid
   unfolding copyOf
@@ -86,7 +99,7 @@ module _ (g : Geometry) (n : ℕ) (vs vs′ : Views) (v l o t : ℕ) (old : Copy
       let q : not (eqb (p .vid .«vol_type») 2) || eqb (crcOf run) (p .vid .«data_crc») ≡ not (eqb (old .header .«vol_type») 2) || old .matches =
       rw r (good .new-right) ∙ sym (good .old-right) in
       let c : contentOf g new ≡ contentOf g old =
-      good .content (drop (g .«data_start») X) r (drop-drop (p .vid .«data_size») (g .«data_start») X ∙ tail-X ∙ blank-T) in
+      good .content (drop (g .«data_start») X) r (drop-drop (p .vid .«data_size») (g .«data_start») X ∙ tail-X) in
       λ i. record { vol-type = good .same-type i; pad = good .same-pad i; used = good .same-used i; sound = s i; right = q i; content = c i }
 
   -- ---- the old PEB, whatever is left of it
@@ -95,15 +108,14 @@ module _ (g : Geometry) (n : ℕ) (vs vs′ : Views) (v l o t : ℕ) (old : Copy
       → ecRefusal g (imageSeq n vs) (vs′ o .ec) ≡ none
   unfolding viewOf
   old-ec c =
-      rw is-o′
-      (⊎-elim
+      ⊎-elim
       (λ w. ⊎-elim
       (λ (e : eqs (take 64 Y) (take 64 O) ≡ true). rw (eqs-true (take 64 Y) (take 64 O) e) o-before)
       (λ (e : eqs (take 64 Y) (ecBytes (p .ec)) ≡ true).
       rw (ec-written g Y (p .ec) (good .ec-fits) (good .ec-good) (eqs-true (take 64 Y) (ecBytes (p .ec)) e)) (good .ec-stands))
       (or-true-cases (eqs (take 64 Y) (take 64 O)) (eqs (take 64 Y) (ecBytes (p .ec))) w))
       (λ w. ⊎-elim (λ (q : viewOf g Y .ec ≡ ecBlank). rw q) (λ (q : viewOf g Y .ec ≡ ecLost). rw q) (ec-torn g Y w))
-      (or-true-cases (eqs (take 64 Y) (take 64 O) || eqs (take 64 Y) (ecBytes (p .ec))) (allFF (take 64 Y) || not (crcMatches (take 64 Y))) c))
+      (or-true-cases (eqs (take 64 Y) (take 64 O) || eqs (take 64 Y) (ecBytes (p .ec))) (allFF (take 64 Y) || not (crcMatches (take 64 Y))) c)
 
   -- its VID header is the old one, or none
   abbrev OldVid : Type 0
@@ -113,12 +125,12 @@ module _ (g : Geometry) (n : ℕ) (vs vs′ : Views) (v l o t : ℕ) (old : Copy
   old-mappable = rw (chosen-at n (copies vs) v l o old (b .is-chosen) .2) (b .is-mappable)
 
   vid-none : (viewOf g Y .vid ≡ vidBlank) ⊎ (viewOf g Y .vid ≡ vidBad) → OldVid
-  vid-none (inl q) = (rw (is-o′, q), λ c e. none-some (rw (is-o′, q) at e))
-  vid-none (inr q) = (rw (is-o′, q), λ c e. none-some (rw (is-o′, q) at e))
+  vid-none (inl q) = (rw q, λ c e. none-some (rw q at e))
+  vid-none (inr q) = (rw q, λ c e. none-some (rw q at e))
 
   vid-old : viewOf g Y .vid ≡ vidGood (copyOf g Y (old .header)) → OldVid
   unfolding copyOf
-  vid-old q = (rw (is-o′, q, old-mappable), λ c e. same c (rw (is-o′, q) at e))
+  vid-old q = (rw (q, old-mappable), λ c e. same c (rw q at e))
     where
       same : (c : Copy) → some (copyOf g Y (old .header)) ≡ some c → c .header ≡ old .header
       same c e = let z : copyOf g Y (old .header) ≡ c = cc in sym (ap (λ (y : Copy). y .header) z)
@@ -133,15 +145,15 @@ module _ (g : Geometry) (n : ℕ) (vs vs′ : Views) (v l o t : ℕ) (old : Copy
   -- ---- the stages
 
   whole-now : vidPart g X ≡ vidBytes (p .vid) → run ≡ dataRun → ecRefusal g (imageSeq n vs) (vs′ o .ec) ≡ none → OldVid
-      → Stopped g n vs vs′ o t old (p .vid)
+      → Stopped (mediumOf g n image) vs′ o t old (p .vid)
   whole-now eh ed ec ov = whole new (new-seen eh) new-header (whole-sound ed) (same-face ed) ec (ov .0) (ov .1)
 
   o-same : Y ≡ O → vs′ o ≡ vs o
-  o-same e = is-o′ ∙ ap (viewOf g) e ∙ sym is-o
+  o-same e = ap (viewOf g) e
 
-  torn-now : Y ≡ O → (viewOf g X .vid ≡ vidBlank) ⊎ (viewOf g X .vid ≡ vidBad) → Stopped g n vs vs′ o t old (p .vid)
-  torn-now eo (inl q) = torn (o-same eo) (rw (is-t′, q)) (rw (is-t′, q))
-  torn-now eo (inr q) = torn (o-same eo) (rw (is-t′, q)) (rw (is-t′, q))
+  torn-now : Y ≡ O → (viewOf g X .vid ≡ vidBlank) ⊎ (viewOf g X .vid ≡ vidBad) → Stopped (mediumOf g n image) vs′ o t old (p .vid)
+  torn-now eo (inl q) = torn (o-same eo) (rw q) (rw q)
+  torn-now eo (inr q) = torn (o-same eo) (rw q) (rw q)
 
   abbrev header-whole : Bool
   header-whole = eqs (vidPart g X) (vidBytes (p .vid))
@@ -155,7 +167,7 @@ module _ (g : Geometry) (n : ℕ) (vs vs′ : Views) (v l o t : ℕ) (old : Copy
       → implies header-whole (run-whole || not (eqb (crcOf run) (p .vid .«data_crc»))) ≡ true
       → unlike (eqs (take 64 Y) (take 64 O) || eqs (take 64 Y) (ecBytes (p .ec))) (take 64 Y) ≡ true
       → unlike (eqs (vidPart g Y) (vidPart g O)) (vidPart g Y) ≡ true
-      → (st : Stopped g n vs vs′ o t old (p .vid)) × (isWhole st ≡ header-whole && run-whole)
+      → (st : Stopped (mediumOf g n image) vs′ o t old (p .vid)) × (isWhole st ≡ header-whole && run-whole)
   unfolding torn-now whole-now
   stopped order c1 c2 c3 c4 = go header-whole refl run-whole refl c1 c2
     where
@@ -169,7 +181,7 @@ module _ (g : Geometry) (n : ℕ) (vs vs′ : Views) (v l o t : ℕ) (old : Copy
       torn-false e (inr q) = refl
 
       go : (h : Bool) → header-whole ≡ h → (d : Bool) → run-whole ≡ d → unlike h (vidPart g X) ≡ true
-          → implies h (d || not (eqb (crcOf run) (p .vid .«data_crc»))) ≡ true → (st : Stopped g n vs vs′ o t old (p .vid)) × (isWhole st ≡ h && d)
+          → implies h (d || not (eqb (crcOf run) (p .vid .«data_crc»))) ≡ true → (st : Stopped (mediumOf g n image) vs′ o t old (p .vid)) × (isWhole st ≡ h && d)
       go false eh d ed c1 c2 =
           let eo = untouched (rw eh) in
           let q = vid-torn g X c1 in
@@ -184,9 +196,9 @@ module _ (g : Geometry) (n : ℕ) (vs vs′ : Views) (v l o t : ℕ) (old : Copy
 
   -- a move that is not cut
   pub finished : vidPart g X ≡ vidBytes (p .vid) → run ≡ dataRun → take 64 Y ≡ ecBytes (p .ec) → vidPart g Y ≡ replicate 64 0xFF
-      → (st : Stopped g n vs vs′ o t old (p .vid)) × (isWhole st ≡ true)
+      → (st : Stopped (mediumOf g n image) vs′ o t old (p .vid)) × (isWhole st ≡ true)
   unfolding whole-now
   finished eh ed ee ev = (
-    whole-now eh ed (rw (is-o′, ec-written g Y (p .ec) (good .ec-fits) (good .ec-good) ee) (good .ec-stands)) (vid-none (inl (vid-erased g Y ev))),
+    whole-now eh ed (rw (ec-written g Y (p .ec) (good .ec-fits) (good .ec-good) ee) (good .ec-stands)) (vid-none (inl (vid-erased g Y ev))),
     refl,
   )

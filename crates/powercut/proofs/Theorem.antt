@@ -6,132 +6,128 @@ use mathlib.Core.List.{List, [], _∷_}
 use Prim.Native.Nat.{ℕ}
 use Rattle.base.specs.Answers.{Answer, given, refused, mapO}
 use Rattle.base.specs.Lists.{table, Bytes}
-use Rattle.geometry.specs.Slip.{slipGeometry}
 use Rattle.geometry.specs.declared.Geometry.{Geometry}
-use Rattle.report.specs.View.{Copy, Views, viewsOf}
+use Rattle.report.specs.View.{Copy, Medium, mediumOf}
 use Rattle.report.specs.Volumes.{Face, Faces, tableLeb, tableRecords, tableMark, stateOf}
 use Rattle.report.specs.Report.{faces, stateAt, entries}
-use Rattle.report.specs.Attach.{pebCount, longEnough, Outcome, whole, stateWords}
+use Rattle.report.specs.Attach.{AttachRequest, Outcome, whole, stateWords}
 use Rattle.plan.specs.declared.Plan.{Plan}
 use Rattle.plan.specs.Begin.{makePlan, planOf, beginOn, beginning}
 use Rattle.plan.proofs.Accepted.{Accepted, accepted}
-use Rattle.powercut.specs.Outcomes.{outcomeOf, attaches, Table, tableIn, statesIn, mapIn, contentIn}
-use Rattle.powercut.specs.Calls.{Call, imageLeft}
-use Rattle.powercut.specs.Book.{Booked, callLeft, begun, afterCall, atFirst, afterCalls, Each}
+use Rattle.job.specs.Course.{imageLeft}
+use Rattle.job.specs.Outcomes.{outcomeOf, attaches, Table, tableIn, statesIn, mapIn, contentIn}
+use Rattle.job.proofs.Calls.{all-calls}
+use Rattle.job.proofs.Outcomes.{Chip, attached, has-attached}
+use Rattle.plan.specs.Step.{moverJob}
+use Rattle.powercut.specs.Calls.{Call}
+use Rattle.powercut.specs.Book.{WithBook, callLeft, begun, afterCall, atFirst, afterCalls, Each}
 use Rattle.powercut.specs.Premise.{premiseOf, Premise}
 use Rattle.powercut.specs.Claim.{Moved, CallDone, Done, Claim}
-use Rattle.powercut.proofs.Outcomes.{any-tables, Chip, attached, has-attached}
 use Rattle.powercut.proofs.Move.{Fine, after}
 
-module _ (slip : List ℕ) (g : Geometry) (n : ℕ) (chip : Chip slip g n) where
-  outcome-is : (image : List ℕ) → Fine g n image → outcomeOf slip image ≡ whole g n (viewsOf g image)
-  outcome-is image f = attached slip g n chip image (f .long) (f .unrefused)
+module _ (req : AttachRequest) (g : Geometry) (n : ℕ) (chip : Chip req g n) where
+  outcome-is : (image : List ℕ) → Fine g n image → outcomeOf req image ≡ whole (mediumOf g n image)
+  outcome-is image f = attached req g n chip image (f .long) (f .unrefused)
 
-  -- the map is the place book
-  abbrev InBook : Booked → Type 0
-  InBook x = entries g n (viewsOf g (x .image)) ≡ x .book
+  -- an image that attaches, whose map is the place book
+  record Held (x : WithBook) : Type 0 where
+    fine : Fine g n (x .image)
+    map-is-book : entries (mediumOf g n (x .image)) ≡ x .book
 
-  -- from one image and book to another
-  record Goes (x x′ : Booked) : Type 0 where
-    fine : Fine g n (x′ .image)
-    same-faces : faces g n (viewsOf g (x′ .image)) ≡ faces g n (viewsOf g (x .image))
-    in-book : InBook x′
+  SameFaces : WithBook → WithBook → Type 0
+  SameFaces x y = faces (mediumOf g n (y .image)) ≡ faces (mediumOf g n (x .image))
 
   -- ---- one call
 
-  begun-is : (image : List ℕ) (f : Fine g n image) (c : Call) → begun slip image c ≡ planOf g n (viewsOf g image) (c .volume) (c .lnum) (c .target)
+  begun-is : (image : List ℕ) (f : Fine g n image) (c : Call) → begun req image c ≡ planOf (mediumOf g n image) (c .volume) (c .lnum) (c .target)
   unfolding begun beginning outcomeOf
   begun-is image f c = ap (λ (y : Outcome). beginOn y (c .volume) (c .lnum) (c .target)) (outcome-is image f)
 
-  accepted-call : (x : Booked) (c : Call) (f : Fine g n (x .image)) → InBook x → (o : ℕ) (cp : Copy)
-      (a : Accepted g n (viewsOf g (x .image)) (c .volume) (c .lnum) (c .target) o cp)
-      → let p : Plan = makePlan g n (viewsOf g (x .image)) (c .target) o cp in
-      premiseOf (x .image) (c .course) (imageLeft p (x .image) (c .course)) (given p) ≡ true
-      → Goes x (callLeft x c (given p)) × Moved slip p (c .course) (x .image) (imageLeft p (x .image) (c .course))
-  unfolding callLeft
-  accepted-call x c f bk o cp a pr =
-      let r = after slip g n chip (x .image) f (c .volume) (c .lnum) (c .target) o cp a (c .course) pr in
-      (record { fine = r .fine; same-faces = r .same-faces; in-book = rw (← bk) (r .new-map) }, r .moved)
+  -- what a call leaves: all that is held, the same faces, and what the claim says of it
+  abbrev Leaves : WithBook → WithBook → Type 0 → Type 0
+  Leaves x y D = Held y × SameFaces x y × D
 
-  one-call : (x : Booked) (c : Call) → Fine g n (x .image) → InBook x → Premise slip (x .image) c (afterCall slip x c .image)
-      → Goes x (afterCall slip x c) × Done slip (x .image) c (afterCall slip x c .image)
-  unfolding afterCall Premise Done callLeft
-  one-call x c f bk pr = by (begun slip (x .image) c) refl pr
+  accepted-call : (x : WithBook) (c : Call) → Held x → (o : ℕ) (cp : Copy)
+      (a : Accepted (mediumOf g n (x .image)) (c .volume) (c .lnum) (c .target) o cp)
+      → let p : Plan = makePlan (mediumOf g n (x .image)) (c .target) o cp in
+      premiseOf (x .image) (c .course) (imageLeft moverJob p (x .image) (c .course)) (given p) ≡ true
+      → Leaves x (callLeft x c (given p)) (Moved req p (c .course) (x .image) (imageLeft moverJob p (x .image) (c .course)))
+  unfolding callLeft SameFaces
+  accepted-call x c h o cp a pr =
+      let r = after req g n chip (x .image) (h .fine) (c .volume) (c .lnum) (c .target) o cp a (c .course) pr in
+      (record { fine = r .fine; map-is-book = rw (← (h .map-is-book)) (r .new-map) }, r .same-faces, r .moved)
+
+  one-call : (x : WithBook) (c : Call) → Held x → Premise req (x .image) c (afterCall req x c .image)
+      → Leaves x (afterCall req x c) (Done req (x .image) c (afterCall req x c .image))
+  unfolding afterCall Premise Done callLeft SameFaces
+  one-call x c h pr = by (begun req (x .image) c) refl pr
     where
-      vs : Views
-      vs = viewsOf g (x .image)
-
-      by : (y : Answer Plan) → begun slip (x .image) c ≡ y → premiseOf (x .image) (c .course) (callLeft x c y .image) y ≡ true
-          → Goes x (callLeft x c y) × CallDone slip (x .image) (c .course) (callLeft x c y .image) y
-      by (refused k q) e pr = (record { fine = f; same-faces = refl; in-book = bk }, refl)
+      by : (y : Answer Plan) → begun req (x .image) c ≡ y → premiseOf (x .image) (c .course) (callLeft x c y .image) y ≡ true
+          → Leaves x (callLeft x c y) (CallDone req (x .image) (c .course) (callLeft x c y .image) y)
+      by (refused k q) e pr = (h, refl, refl)
       by (given p) e pr =
-          let a = accepted g n vs (c .volume) (c .lnum) (c .target) p (sym (begun-is (x .image) f c) ∙ e) in
+          let a = accepted (mediumOf g n (x .image)) (c .volume) (c .lnum) (c .target) p (sym (begun-is (x .image) (h .fine) c) ∙ e) in
           subst
-          (λ (q : Plan). premiseOf (x .image) (c .course) (imageLeft q (x .image) (c .course)) (given q) ≡ true
-          → Goes x (callLeft x c (given q)) × Moved slip q (c .course) (x .image) (imageLeft q (x .image) (c .course)))
-          (sym (a .3)) (accepted-call x c f bk (a .0) (a .1) (a .2)) pr
+          (λ (q : Plan). premiseOf (x .image) (c .course) (imageLeft moverJob q (x .image) (c .course)) (given q) ≡ true
+          → Leaves x (callLeft x c (given q)) (Moved req q (c .course) (x .image) (imageLeft moverJob q (x .image) (c .course))))
+          (sym (a .3)) (accepted-call x c h (a .0) (a .1) (a .2)) pr
 
   -- ---- the list
 
-  all-calls : (calls : List Call) (x : Booked) → Fine g n (x .image) → InBook x → Each slip (Premise slip) x calls
-      → Goes x (afterCalls slip x calls) × Each slip (Done slip) x calls
-  all-calls [] x f bk pr = (record { fine = f; same-faces = refl; in-book = bk }, tt)
-  all-calls (c ∷ calls) x f bk pr =
-      let a = one-call x c f bk (pr .0) in
-      let b = all-calls calls (afterCall slip x c) (a .0 .fine) (a .0 .in-book) (pr .1) in
-      (record { fine = b .0 .fine; same-faces = b .0 .same-faces ∙ a .0 .same-faces; in-book = b .0 .in-book }, (a .1, b .1))
+  whole-list : (calls : List Call) (x : WithBook) → Held x → Each req (Premise req) x calls
+      → Held (afterCalls req x calls) × SameFaces x (afterCalls req x calls) × Each req (Done req) x calls
+  unfolding SameFaces
+  whole-list calls x h pr =
+      all-calls (afterCall req) Held SameFaces (λ x c y. Premise req (x .image) c (y .image)) (λ x c y. Done req (x .image) c (y .image))
+      (λ x. refl) (λ x y z e f. f ∙ e) one-call calls x h pr
 
   -- what the faces fix
-  module _ (vs vs′ : Views) (e : faces g n vs′ ≡ faces g n vs) where
-    table-same : tableIn (whole g n vs′) ≡ tableIn (whole g n vs)
+  module _ (a b : List ℕ) (e : faces (mediumOf g n b) ≡ faces (mediumOf g n a)) where
+    abbrev m : Medium
+    m = mediumOf g n a
+
+    table-same : tableIn (whole (mediumOf g n b)) ≡ tableIn (whole m)
+    unfolding tableLeb tableRecords tableMark
     table-same = ap (λ (fs : Faces). some (tableFrom fs)) e
       where
         tableFrom : Faces → Table
-        tableFrom fs = record { leb = tableLeb g n fs; records = tableRecords g n fs; mark = tableMark g n fs }
+        tableFrom fs = record { leb = tableLeb m fs; records = tableRecords m fs; mark = tableMark m fs }
 
-    states-same : statesIn (whole g n vs′) ≡ statesIn (whole g n vs)
-    unfolding stateWords stateAt
-    states-same = ap (λ (fs : Faces). table (stateOf (tableRecords g n fs) fs) 0 128) e
+    states-same : statesIn (whole (mediumOf g n b)) ≡ statesIn (whole m)
+    unfolding stateWords stateAt tableRecords
+    states-same = ap (λ (fs : Faces). table (stateOf (tableRecords m fs) fs) 0 128) e
 
-    content-same : (v l : ℕ) → contentIn (whole g n vs′) v l ≡ contentIn (whole g n vs) v l
+    content-same : (v l : ℕ) → contentIn (whole (mediumOf g n b)) v l ≡ contentIn (whole m) v l
     content-same v l = ap (λ (fs : Faces). mapO (λ (f : Face). f .content) (fs v l)) e
 
 -- ---- the theorem
 
--- for every slip, every image that attaches under it and every list of calls, if the premise holds of each stopped image by itself:
+-- for every request, every image that attaches under it and every list of calls, if the premise holds of each stopped image by itself:
 -- after the list the image attaches, with the table, the states and the contents that it had at first; its map is the place book; each
 -- accepted move changed nothing outside its two blocks and, if it was not cut, ended with its old block free; a refused one changed nothing
-pub no-cut-loses-a-block : (slip image : List ℕ) (calls : List Call) → Bytes image → attaches (outcomeOf slip image) ≡ true
-    → Each slip (Premise slip) (atFirst slip image) calls → Claim slip image calls
-unfolding atFirst
-no-cut-loses-a-block slip image calls bytes at pr =
-    let A = has-attached slip image at in
+pub no-cut-loses-a-block : (req : AttachRequest) (image : List ℕ) (calls : List Call) → Bytes image → attaches (outcomeOf req image) ≡ true
+    → Each req (Premise req) (atFirst req image) calls → Claim req image calls
+unfolding atFirst SameFaces
+no-cut-loses-a-block req image calls bytes at pr =
+    let A = has-attached req image at in
     let g = A .g in
     let n = A .n in
     let f : Fine g n image = record { long = A .long; bytes = bytes; unrefused = A .unrefused } in
-    let first = outcome-is slip g n (A .chip) image f in
-    let x : Booked = record { image = image; book = mapIn (outcomeOf slip image) } in
-    let r = all-calls slip g n (A .chip) calls x f (sym (ap mapIn first)) pr in
-    let end = afterCalls slip x calls in
-    let last = outcome-is slip g n (A .chip) (end .image) (r .0 .fine) in
-    let e = r .0 .same-faces in
+    let first = outcome-is req g n (A .chip) image f in
+    let x : WithBook = record { image = image; book = mapIn (outcomeOf req image) } in
+    let r = whole-list req g n (A .chip) calls x (record { fine = f; map-is-book = sym (ap mapIn first) }) pr in
+    let end = afterCalls req x calls in
+    let last = outcome-is req g n (A .chip) (end .image) (r .0 .fine) in
+    let e = r .1 in
     record {
       kept = record {
         still-attaches = ap attaches last;
-        same-table = ap tableIn last ∙ table-same slip g n (A .chip) (viewsOf g image) (viewsOf g (end .image)) e ∙ sym (ap tableIn first);
-        same-states = ap statesIn last ∙ states-same slip g n (A .chip) (viewsOf g image) (viewsOf g (end .image)) e ∙ sym (ap statesIn first);
-        map-is-book = ap mapIn last ∙ r .0 .in-book;
+        same-table = ap tableIn last ∙ table-same req g n (A .chip) image (end .image) e ∙ sym (ap tableIn first);
+        same-states = ap statesIn last ∙ states-same req g n (A .chip) image (end .image) e ∙ sym (ap statesIn first);
+        map-is-book = ap mapIn last ∙ r .0 .map-is-book;
         same-content = λ v l.
-            ap (λ (y : Outcome). contentIn y v l) last ∙ content-same slip g n (A .chip) (viewsOf g image) (viewsOf g (end .image)) e v l
+            ap (λ (y : Outcome). contentIn y v l) last ∙ content-same req g n (A .chip) image (end .image) e v l
             ∙ sym (ap (λ (y : Outcome). contentIn y v l) first);
       };
-      each = r .1;
+      each = r .2;
     }
-
--- a call's beginning, with any lent tables that are long enough (`any-tables` of Outcomes says the same of attaching)
-pub any-beginning : (slip image pebs map states : List ℕ) (g : Geometry) → slipGeometry slip ≡ given g
-    → longEnough (pebCount g image) pebs map states ≡ true → (c : Call)
-    → beginning slip image pebs map states (c .volume) (c .lnum) (c .target) ≡ begun slip image c
-unfolding beginning begun outcomeOf
-any-beginning slip image pebs map states g e h c =
-    ap (λ (y : Outcome). beginOn y (c .volume) (c .lnum) (c .target)) (any-tables slip image pebs map states g e h)

@@ -4,34 +4,28 @@ use mathlib.Core.Logic.{_≢_}
 use mathlib.Core.Bool.{true}
 use mathlib.Core.Option.{some}
 use mathlib.Core.List.{List}
-use Prim.Native.Nat.{ℕ, suc, _/_, _≤_, _<_}
+use Prim.Native.Nat.{ℕ, _/_}
 use lib.ListN.{length, getD}
 use Rattle.base.specs.Answers.{Answer, given, refused}
+use Rattle.report.specs.Attach.{AttachRequest}
+use Rattle.job.specs.Course.{Course, toEnd, toStop, Steps}
+use Rattle.job.specs.Outcomes.{outcomeOf, attaches, tableIn, statesIn, mapIn, contentIn, classIn}
 use Rattle.plan.specs.declared.Plan.{Plan}
-use Rattle.plan.specs.Write.{stepCount}
-use Rattle.plan.specs.Step.{on, done}
-use Rattle.powercut.specs.Outcomes.{outcomeOf, attaches, tableIn, statesIn, mapIn, contentIn, classIn}
-use Rattle.powercut.specs.Calls.{Course, toEnd, toStop, Call, afterSteps, nextStep}
-use Rattle.powercut.specs.Book.{Booked, begun, atFirst, afterCalls, Each}
+use Rattle.plan.specs.Step.{moverJob}
+use Rattle.powercut.specs.Calls.{Call}
+use Rattle.powercut.specs.Book.{WithBook, begun, atFirst, afterCalls, Each}
 
--- the steps of an accepted move, called one by one: none is refused; the first go on, as many as 01 gives; "Further steps answer done
--- and change nothing."
-pub record Steps (p : Plan) (image : List ℕ) : Type 0 where
-  pub go-on : (k : ℕ) → k < stepCount p → nextStep (afterSteps p image k) .answer ≡ given (on (afterSteps p image (suc k) .plan))
-  pub are-done : (k : ℕ) → stepCount p ≤ k
-      → (nextStep (afterSteps p image k) .answer ≡ given done) × (nextStep (afterSteps p image k) .image ≡ afterSteps p image k .image)
-
-module _ (slip : List ℕ) where
+module _ (req : AttachRequest) where
   -- an accepted move that was not cut ended with its old block in class 0
   abbrev pub Freed : Plan → Course → List ℕ → Type 0
-  Freed p (toEnd further) last = classIn (outcomeOf slip last) (p .old) ≡ some 0
+  Freed p (toEnd further) last = classIn (outcomeOf req last) (p .old) ≡ some 0
   Freed p (toStop s) last = Unit {0}
 
   -- an accepted move: no byte outside its two blocks changed
   pub record Moved (p : Plan) (course : Course) (image last : List ℕ) : Type 0 where
     pub same-length : length last ≡ length image
     pub elsewhere : (k : ℕ) → k / p .«peb_size» ≢ p .old → k / p .«peb_size» ≢ p .target → getD last k 0 ≡ getD image k 0
-    pub steps : Steps p image
+    pub steps : Steps moverJob p image
     pub freed : Freed p course last
 
   -- a call: a refused one changed nothing
@@ -40,16 +34,16 @@ module _ (slip : List ℕ) where
   CallDone image course last (given p) = Moved p course image last
 
   unfoldable pub Done : List ℕ → Call → List ℕ → Type 0
-  Done image c last = CallDone image (c .course) last (begun slip image c)
+  Done image c last = CallDone image (c .course) last (begun req image c)
 
   -- the end of a list, beside the first image
-  pub record Kept (image : List ℕ) (end : Booked) : Type 0 where
-    pub still-attaches : attaches (outcomeOf slip (end .image)) ≡ true
-    pub same-table : tableIn (outcomeOf slip (end .image)) ≡ tableIn (outcomeOf slip image)
-    pub same-states : statesIn (outcomeOf slip (end .image)) ≡ statesIn (outcomeOf slip image)
-    pub map-is-book : mapIn (outcomeOf slip (end .image)) ≡ end .book
-    pub same-content : (v l : ℕ) → contentIn (outcomeOf slip (end .image)) v l ≡ contentIn (outcomeOf slip image) v l
+  pub record Kept (image : List ℕ) (end : WithBook) : Type 0 where
+    pub still-attaches : attaches (outcomeOf req (end .image)) ≡ true
+    pub same-table : tableIn (outcomeOf req (end .image)) ≡ tableIn (outcomeOf req image)
+    pub same-states : statesIn (outcomeOf req (end .image)) ≡ statesIn (outcomeOf req image)
+    pub map-is-book : mapIn (outcomeOf req (end .image)) ≡ end .book
+    pub same-content : (v l : ℕ) → contentIn (outcomeOf req (end .image)) v l ≡ contentIn (outcomeOf req image) v l
 
   pub record Claim (image : List ℕ) (calls : List Call) : Type 0 where
-    pub kept : Kept image (afterCalls slip (atFirst slip image) calls)
-    pub each : Each slip Done (atFirst slip image) calls
+    pub kept : Kept image (afterCalls req (atFirst req image) calls)
+    pub each : Each req Done (atFirst req image) calls

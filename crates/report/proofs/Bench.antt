@@ -92,7 +92,7 @@ benchTable =
     -- "LEB 896 holds 5 records; 172 holds 1; 129,024 holds 128."
     ∷ (recordCount 896, 5) ∷ (recordCount 172, 1) ∷ (recordCount 129024, 128)
     -- "Counters 3, 5, 9: mean 5."
-    ∷ (meanOf 3 (λ i. freePeb (getD (3 ∷ 5 ∷ 9 ∷ []) i 0)), 5)
+    ∷ (meanOf (record { geometry = chip; count = 3; views = λ i. freePeb (getD (3 ∷ 5 ∷ 9 ∷ []) i 0) }), 5)
     -- "sequences 7 (flag 0) and 8 (flag 1, CRC wrong): 7. Both unsound: 7. 8 sound: 8."
     ∷ (chosenOf (plain 7 ∷ wrong 8 ∷ []), 7) ∷ (chosenOf (wrong 7 ∷ wrong 8 ∷ []), 7) ∷ (chosenOf (plain 7 ∷ right 8 ∷ []), 8)
     -- "One unsound copy alone: chosen, state 3."

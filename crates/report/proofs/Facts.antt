@@ -1,16 +1,17 @@
 -- What is known of an image that attaches, refusal by refusal, and what is enough for it to attach. Assumes nothing.
 use mathlib.Core.Path.{_≡_, refl, sym, _∙_, ap}
-use mathlib.Core.Logic.{_≢_, _⊎_, ⊎-elim}
+use mathlib.Core.Logic.{_≢_, ⊎-elim}
 use mathlib.Core.Bool.{Bool, true, false, not, _&&_}
 use mathlib.Core.Option.{Option, none, some}
-use Prim.Native.Nat.{ℕ, _<_}
+use Prim.Native.Nat.{ℕ, _≤_, _<_}
 use native.Mathlib.Omega.{arith}
-use lib.Dec.{eqb, ltb}
-use borrow.Author.Tests.{eqb-true, eq-eqb, ltb-true, ltb-false, not-false}
-use Rattle.base.specs.Answers.{mapO}
-use Rattle.base.specs.Below.{allBelow, anyBelow, firstBelow}
-use Rattle.base.proofs.Answers.{clash, and-left, and-right, orElse-none}
-use Rattle.base.proofs.Below.{eq-or-ne, all-at, none-at, none-intro, first-none-at, first-none, first-hit}
+use lib.Dec.{eqb}
+use borrow.Author.Tests.{eqb-true, eq-eqb, not-false}
+use Rattle.base.specs.Below.{allBelow, anyBelow}
+use Rattle.base.proofs.Answers.{clash, by-test, none-some, and-left, and-right, orElse-none}
+pub use Rattle.base.proofs.Answers.{mapO-none}
+pub use Rattle.base.proofs.Below.{first-some}
+use Rattle.base.proofs.Below.{eq-or-ne, lt-or-le, all-at, none-at, none-intro, first-none-at, first-none, first-hit}
 use Rattle.geometry.specs.declared.Geometry.{Geometry}
 use Rattle.header.specs.declared.EcHeader.{EcHeader}
 use Rattle.report.specs.View.{
@@ -26,29 +27,18 @@ use Rattle.report.specs.View.{
   vidBlank,
   vidBad,
   Views,
+  Medium,
   goodEc,
   ecs,
   goodVid,
   copies,
   isMappable,
 }
-use Rattle.report.specs.Scan.{
-  Refusal,
-  when,
-  differs,
-  imageSeq,
-  ecRefusal,
-  vidRefusal,
-  viewRefusal,
-  atPeb,
-  refusal5678,
-  isUnused,
-  refusal10,
-}
+use Rattle.report.specs.Scan.{when, differs, imageSeq, ecRefusal, vidRefusal, viewRefusal, atPeb, refusal5678, refusal10}
+use Rattle.report.specs.Class.{isUnused}
 use Rattle.report.specs.Choice.{ofKey, repeats, refusal9, pick, chosen}
 use Rattle.report.specs.Volumes.{tableLeb, refusal1112}
 use Rattle.report.specs.Report.{faces, places, records, refusal}
-use Rattle.report.proofs.First.{none-some}
 use Rattle.report.proofs.Choice.{IsChoice, choice-sequence, pick-some, pick-literal, ofKey-some}
 
 -- ---- answers and tests
@@ -57,48 +47,42 @@ pub when-none : (b : Bool) (k : ℕ) → when b k ≡ none → b ≡ false
 when-none true k e = none-some (sym e)
 when-none false k e = refl
 
-pub mapO-none : {A B : Type 0} (f : A → B) (x : Option A) → mapO f x ≡ none → x ≡ none
-mapO-none f none e = refl
-mapO-none f (some a) e = none-some (sym e)
-
 pub differs-false : (s x : ℕ) → differs (some s) x ≡ false → x ≡ s
 differs-false s x e = eqb-true x s (not-false (eqb x s) e)
 
-pub first-some : {A : Type 0} (n : ℕ) (f : ℕ → Option A) (i : ℕ) (a : A) → i < n → f i ≡ some a → (x : ℕ × A) × (firstBelow n f ≡ some x)
-first-some {A} n f i a h e = go (firstBelow n f) refl
-  where
-    go : (o : Option (ℕ × A)) → firstBelow n f ≡ o → (x : ℕ × A) × (firstBelow n f ≡ some x)
-    go none q = none-some (sym (first-none-at n f q i h) ∙ e)
-    go (some x) q = (x, q)
-
 -- ---- the four parts of attaching
 
-pub record Parts (g : Geometry) (n : ℕ) (vs : Views) : Type 0 where
-  pub none5678 : refusal5678 g n vs ≡ none
-  pub none9 : refusal9 n (copies vs) ≡ none
-  pub none10 : refusal10 n vs ≡ none
-  pub none1112 : refusal1112 (tableLeb g n (faces g n vs)) (records g n vs) (faces g n vs) (places g n vs) ≡ none
+pub record Parts (m : Medium) : Type 0 where
+  pub none5678 : refusal5678 m ≡ none
+  pub none9 : refusal9 (m .count) (copies (m .views)) ≡ none
+  pub none10 : refusal10 m ≡ none
+  pub none1112 : refusal1112 (tableLeb m (faces m)) (records m) (faces m) (places m) ≡ none
 
-pub parts : (g : Geometry) (n : ℕ) (vs : Views) → refusal g n vs ≡ none → Parts g n vs
+pub parts : (m : Medium) → refusal m ≡ none → Parts m
 unfolding refusal
-parts g n vs e =
-    let a = orElse-none (refusal5678 g n vs) _ e in
-    let b = orElse-none (refusal9 n (copies vs)) _ (a .1) in
-    let c = orElse-none (refusal10 n vs) _ (b .1) in
+parts m e =
+    let a = orElse-none (refusal5678 m) _ e in
+    let b = orElse-none (refusal9 (m .count) (copies (m .views))) _ (a .1) in
+    let c = orElse-none (refusal10 m) _ (b .1) in
     record { none5678 = a .0; none9 = b .0; none10 = c .0; none1112 = c .1 }
 
-pub of-parts : (g : Geometry) (n : ℕ) (vs : Views) → Parts g n vs → refusal g n vs ≡ none
+pub of-parts : (m : Medium) → Parts m → refusal m ≡ none
 unfolding refusal
-of-parts g n vs p = rw (p .none5678, p .none9, p .none10) (p .none1112)
+of-parts m p = rw (p .none5678, p .none9, p .none10) (p .none1112)
 
 -- ---- 5 to 8
 
-module _ (g : Geometry) (n : ℕ) (vs : Views) where
-  pub none5678-at : refusal5678 g n vs ≡ none → (i : ℕ) → i < n → (ecRefusal g (imageSeq n vs) (vs i .ec) ≡ none) × (vidRefusal (vs i .vid) ≡ none)
+module _ (m : Medium) where
+  -- the image sequence that refusal 7 compares with
+  abbrev pub seqIn : Option ℕ
+  seqIn = imageSeq (m .count) (m .views)
+
+  pub none5678-at : refusal5678 m ≡ none → (i : ℕ) → i < m .count
+      → (ecRefusal (m .geometry) seqIn (m .views i .ec) ≡ none) × (vidRefusal (m .views i .vid) ≡ none)
   unfolding refusal5678 viewRefusal
   none5678-at e i h =
-      orElse-none (ecRefusal g (imageSeq n vs) (vs i .ec)) (vidRefusal (vs i .vid))
-      (first-none-at n (λ i. viewRefusal g (imageSeq n vs) (vs i)) (mapO-none atPeb _ e) i h)
+      orElse-none (ecRefusal (m .geometry) seqIn (m .views i .ec)) (vidRefusal (m .views i .vid))
+      (first-none-at (m .count) (λ i. viewRefusal (m .geometry) seqIn (m .views i)) (mapO-none atPeb _ e) i h)
 
 -- a good EC that is not refused names the geometry's starts and the sequence compared with
 pub ec-agrees : (g : Geometry) (s : ℕ) (v : EcView) (h : EcHeader) → ecRefusal g (some s) v ≡ none → goodEc v ≡ some h
@@ -116,33 +100,34 @@ ec-agrees g s ecNewer h r q = none-some q
 ec-agrees g s ecBlank h r q = none-some q
 ec-agrees g s ecLost h r q = none-some q
 
-module _ (g : Geometry) (n : ℕ) (vs : Views) where
-  -- where one EC is good, and every good one has the sequence s, s is what refusal 7 compares with
-  pub imageSeq-is : (s t : ℕ) (h : EcHeader) → t < n → ecs vs t ≡ some h
-      → ((i : ℕ) → i < n → (x : EcHeader) → ecs vs i ≡ some x → x .«image_seq» ≡ s) → imageSeq n vs ≡ some s
-  unfolding imageSeq
-  imageSeq-is s t h k q all =
-      let r = first-some n (ecs vs) t h k q in
-      let f = first-hit n (ecs vs) (r .0 .0) (r .0 .1) (r .1) in
-      rw (r .1, all (r .0 .0) (f .0) (r .0 .1) (f .1))
+-- where one EC is good, and every good one has the sequence s, s is what refusal 7 compares with
+pub imageSeq-is : (n : ℕ) (vs : Views) (s t : ℕ) (h : EcHeader) → t < n → ecs vs t ≡ some h
+    → ((i : ℕ) → i < n → (x : EcHeader) → ecs vs i ≡ some x → x .«image_seq» ≡ s) → imageSeq n vs ≡ some s
+unfolding imageSeq
+imageSeq-is n vs s t h k q all =
+    let r = first-some n (ecs vs) t h k q in
+    let f = first-hit n (ecs vs) (r .0 .0) (r .0 .1) (r .1) in
+    rw (r .1, all (r .0 .0) (f .0) (r .0 .1) (f .1))
 
+module _ (m : Medium) where
   -- enough for no refusal 5 to 8
-  pub no-5678 : (s t : ℕ) (h : EcHeader) → t < n → ecs vs t ≡ some h
-      → ((i : ℕ) → i < n → (ecRefusal g (some s) (vs i .ec) ≡ none) × (vidRefusal (vs i .vid) ≡ none))
-      → (imageSeq n vs ≡ some s) × (refusal5678 g n vs ≡ none)
+  pub no-5678 : (s t : ℕ) (h : EcHeader) → t < m .count → ecs (m .views) t ≡ some h
+      → ((i : ℕ) → i < m .count → (ecRefusal (m .geometry) (some s) (m .views i .ec) ≡ none) × (vidRefusal (m .views i .vid) ≡ none))
+      → (seqIn m ≡ some s) × (refusal5678 m ≡ none)
   unfolding refusal5678 viewRefusal
   no-5678 s t h k q all =
-      let r : imageSeq n vs ≡ some s = imageSeq-is s t h k q (λ i k x p. ec-agrees g s (vs i .ec) x (all i k .0) p .2) in
-      (r, rw (first-none n (λ i. viewRefusal g (imageSeq n vs) (vs i)) (λ i k. rw (r, all i k .0, all i k .1))))
+      let r : seqIn m ≡ some s =
+      imageSeq-is (m .count) (m .views) s t h k q (λ i k x p. ec-agrees (m .geometry) s (m .views i .ec) x (all i k .0) p .2) in
+      (r, rw (first-none (m .count) (λ i. viewRefusal (m .geometry) (seqIn m) (m .views i)) (λ i k. rw (r, all i k .0, all i k .1))))
 
   -- every good EC of an image that attaches
-  pub good-ec : refusal5678 g n vs ≡ none → (i : ℕ) (h : EcHeader) → i < n → ecs vs i ≡ some h
-      → (h .«vid_start» ≡ g .«vid_start») × (h .«data_start» ≡ g .«data_start») × (imageSeq n vs ≡ some (h .«image_seq»))
+  pub good-ec : refusal5678 m ≡ none → (i : ℕ) (h : EcHeader) → i < m .count → ecs (m .views) i ≡ some h
+      → (h .«vid_start» ≡ m .geometry .«vid_start») × (h .«data_start» ≡ m .geometry .«data_start») × (seqIn m ≡ some (h .«image_seq»))
   unfolding imageSeq
   good-ec e i h k q =
-      let r = first-some n (ecs vs) i h k q in
-      let s : imageSeq n vs ≡ some (r .0 .1 .«image_seq») = rw (r .1) in
-      let a = ec-agrees g (r .0 .1 .«image_seq») (vs i .ec) h (rw s at (none5678-at g n vs e i k .0)) q in
+      let r = first-some (m .count) (ecs (m .views)) i h k q in
+      let s : seqIn m ≡ some (r .0 .1 .«image_seq») = rw (r .1) in
+      let a = ec-agrees (m .geometry) (r .0 .1 .«image_seq») (m .views i .ec) h (rw s at (none5678-at m e i k .0)) q in
       (a .0, a .1, s ∙ ap some (sym (a .2)))
 
 -- ---- 9
@@ -166,13 +151,15 @@ module _ (n : ℕ) (cs : ℕ → Option Copy) where
   pub one-sequence : refusal9 n cs ≡ none → (i j : ℕ) (c d : Copy) → i < n → j < n → cs i ≡ some c → cs j ≡ some d
       → isMappable (c .header .volume) ≡ true → c .header .volume ≡ d .header .volume → c .header .lnum ≡ d .header .lnum
       → c .header .sequence ≡ d .header .sequence → i ≡ j
-  one-sequence e i j c d hi hj p q m v l s = ⊎-elim (λ z. z) (λ (ne : i ≢ j). go ne (ltb j i) refl) (eq-or-ne i j)
+  one-sequence e i j c d hi hj p q m v l s = ⊎-elim (λ z. z) go (eq-or-ne i j)
     where
-      go : i ≢ j → (b : Bool) → ltb j i ≡ b → i ≡ j
-      go ne true b = clash (rw (p, q) at (none9-at e i j hi (ltb-true j i b))) (rw (m, eq-eqb _ _ v, eq-eqb _ _ l, eq-eqb _ _ s))
-      go ne false b =
-          clash (rw (p, q) at (none9-at e j i hj (omega (arith, ltb-false j i b))))
-          (rw (← v, m, eq-eqb _ _ (sym l), eq-eqb _ _ (sym s), eq-eqb (c .header .volume) (c .header .volume) refl))
+      go : i ≢ j → i ≡ j
+      go ne =
+          ⊎-elim
+          (λ (b : j < i). clash (rw (p, q) at (none9-at e i j hi b)) (rw (m, eq-eqb _ _ v, eq-eqb _ _ l, eq-eqb _ _ s)))
+          (λ (b : i ≤ j). clash (rw (p, q) at (none9-at e j i hj (omega arith)))
+          (rw (← v, m, eq-eqb _ _ (sym l), eq-eqb _ _ (sym s), eq-eqb (c .header .volume) (c .header .volume) refl)))
+          (lt-or-le j i)
 
   -- so 01's words leave one choice, whatever the order of the PEBs
   module _ (e : refusal9 n cs ≡ none) (v l : ℕ) (m : isMappable v ≡ true) where
@@ -201,18 +188,23 @@ module _ (n : ℕ) (cs : ℕ → Option Copy) where
 
 -- ---- 10
 
+-- a copy is of class 1, 2, 5 or 6
+pub copy-unused : (e : EcView) (c : Copy) → isUnused e (vidGood c) ≡ false
+copy-unused e c =
+    by-test (isMappable (c .header .volume)) (λ q. rw q) (λ q. rw q (by-test (eqb (c .header .compat) 1) (λ r. rw r) (λ r. rw r)))
+
 some-not-unused : (e : EcView) (v : VidView) (c : Copy) → goodVid v ≡ some c → isUnused e v ≡ false
-some-not-unused e (vidGood d) c q = refl
+some-not-unused e (vidGood d) c q = copy-unused e d
 some-not-unused e vidNewer c q = none-some q
 some-not-unused e vidBlank c q = none-some q
 some-not-unused e vidBad c q = none-some q
 
+abbrev unusedIn : Medium → ℕ → Bool
+unusedIn m i = isUnused (m .views i .ec) (m .views i .vid)
+
 -- enough for no refusal 10: a copy
-pub no-10 : (n : ℕ) (vs : Views) (i : ℕ) (c : Copy) → i < n → copies vs i ≡ some c → refusal10 n vs ≡ none
+pub no-10 : (m : Medium) (i : ℕ) (c : Copy) → i < m .count → copies (m .views) i ≡ some c → refusal10 m ≡ none
 unfolding refusal10
-no-10 n vs i c h e = go (allBelow n (λ i. isUnused (vs i .ec) (vs i .vid))) refl
-  where
-    go : (b : Bool) → allBelow n (λ i. isUnused (vs i .ec) (vs i .vid)) ≡ b
-        → mapO {B = Refusal} (λ (k : ℕ). record { number = k; place = 0 }) (when b 10) ≡ none
-    go true q = clash (some-not-unused (vs i .ec) (vs i .vid) c e) (all-at n (λ i. isUnused (vs i .ec) (vs i .vid)) q i h)
-    go false q = refl
+no-10 m i c h e =
+    by-test (allBelow (m .count) (unusedIn m))
+    (λ q. clash (some-not-unused (m .views i .ec) (m .views i .vid) c e) (all-at (m .count) (unusedIn m) q i h)) (λ q. rw q)

@@ -4,11 +4,8 @@ use mathlib.Core.Logic.{_⊎_, inl, inr, ⊎-elim}
 use mathlib.Core.Option.{Option, none, some}
 use Prim.Native.Nat.{ℕ, zero, suc, _<_}
 use native.Mathlib.Omega.{arith}
+pub use Rattle.base.proofs.Answers.{none-some}
 use Rattle.base.proofs.Below.{step-below}
-
--- nothing is no value
-pub none-some : {A B : Type 0} {a : A} → none ≡ some a → B
-none-some e = absurd (let z : _≡_ {A = ℕ} 0 1 = cc in omega arith)
 
 module _ {A : Type 0} (f : ℕ → Option A) (before : A → A → Type 0) where
   pub record First (n : ℕ) : Type 0 where

@@ -1,26 +1,20 @@
 -- The mean "lies between the lowest and the highest good counter", and is 0 where there is none. Assumes nothing.
 use mathlib.Core.Path.{_≡_, refl}
 use mathlib.Core.Logic.{_⊎_, inl, inr, ⊎-elim}
-use mathlib.Core.Bool.{Bool, true, false, cond}
+use mathlib.Core.Bool.{cond}
 use mathlib.Core.Option.{Option, none, some}
 use Prim.Native.Nat.{ℕ, zero, suc, _+_, _*_, _≤_, _<_}
 use native.Mathlib.Nat.{mul-add, mul-comm, le-div-iff-mul-le, div-le-of-le-mul, div-zero}
 use native.Mathlib.Omega.{arith}
-use lib.Dec.{ltb}
-use borrow.Author.Tests.{ltb-true, ltb-false}
 use Rattle.base.specs.Below.{countBelow, sumBelow}
-use Rattle.base.proofs.Below.{below-suc}
+use Rattle.base.proofs.Below.{below-suc, lt-or-le}
 use Rattle.header.specs.declared.EcHeader.{EcHeader}
-use Rattle.report.specs.View.{Views, ecs}
+use Rattle.report.specs.View.{Medium, ecs}
 use Rattle.report.specs.Report.{counterOr, hasCounter, meanOf}
 use Rattle.report.proofs.First.{First, first}
 
 le-or : (a b : ℕ) → (a ≤ b) ⊎ (b ≤ a)
-le-or a b = go (ltb a b) refl
-  where
-    go : (t : Bool) → ltb a b ≡ t → (a ≤ b) ⊎ (b ≤ a)
-    go true e = inl (omega (arith, ltb-true a b e))
-    go false e = inr (ltb-false a b e)
+le-or a b = ⊎-elim (λ (h : a < b). inl (omega arith)) (λ (h : b ≤ a). inr h) (lt-or-le a b)
 
 module _ (f : ℕ → Option EcHeader) where
   -- the sum of the good counters below n, and their number
@@ -59,22 +53,26 @@ module _ (f : ℕ → Option EcHeader) where
       go none e l = rw mul-add (omega arith)
       go (some x) e l = rw mul-add (omega (arith, h n (omega arith) x e))
 
-module _ (n : ℕ) (vs : Views) where
-  pub mean-none : ((i : ℕ) → i < n → ecs vs i ≡ none) → meanOf n vs ≡ 0
+module _ (m : Medium) where
+  -- the good EC headers
+  abbrev good : ℕ → Option EcHeader
+  good = ecs (m .views)
+
+  pub mean-none : ((i : ℕ) → i < m .count → good i ≡ none) → meanOf m ≡ 0
   unfolding meanOf
-  mean-none h = rw (number-none (ecs vs) n h) (div-zero _)
+  mean-none h = rw (number-none good (m .count) h) (div-zero _)
 
   -- the lowest good counter, and the highest
-  pub mean-between : (i : ℕ) (h : EcHeader) → i < n → ecs vs i ≡ some h
-      → (a : First (ecs vs) (λ x y. x .counter ≤ y .counter) n) × (b : First (ecs vs) (λ x y. y .counter ≤ x .counter) n)
-      × (a .value .counter ≤ meanOf n vs) × (meanOf n vs ≤ b .value .counter)
+  pub mean-between : (i : ℕ) (h : EcHeader) → i < m .count → good i ≡ some h
+      → (a : First good (λ x y. x .counter ≤ y .counter) (m .count)) × (b : First good (λ x y. y .counter ≤ x .counter) (m .count))
+      × (a .value .counter ≤ meanOf m) × (meanOf m ≤ b .value .counter)
   unfolding meanOf
   mean-between i h k e =
-      let a = first (ecs vs) (λ x y. x .counter ≤ y .counter) (λ x y. le-or (x .counter) (y .counter)) (λ x y z p q. omega arith) n i h k e in
-      let b = first (ecs vs) (λ x y. y .counter ≤ x .counter) (λ x y. le-or (y .counter) (x .counter)) (λ x y z p q. omega arith) n i h k e in
-      let p = number-some (ecs vs) n i h k e in (
+      let a = first good (λ x y. x .counter ≤ y .counter) (λ x y. le-or (x .counter) (y .counter)) (λ x y z p q. omega arith) (m .count) i h k e in
+      let b = first good (λ x y. y .counter ≤ x .counter) (λ x y. le-or (y .counter) (x .counter)) (λ x y z p q. omega arith) (m .count) i h k e in
+      let p = number-some good (m .count) i h k e in (
         a,
         b,
-        le-div-iff-mul-le p .1 (at-least (ecs vs) (a .value .counter) n (a .leads)),
-        div-le-of-le-mul _ (rw mul-comm (at-most (ecs vs) (b .value .counter) n (b .leads))),
+        le-div-iff-mul-le p .1 (at-least good (a .value .counter) (m .count) (a .leads)),
+        div-le-of-le-mul _ (rw mul-comm (at-most good (b .value .counter) (m .count) (b .leads))),
       )

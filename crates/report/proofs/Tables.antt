@@ -3,25 +3,24 @@ use mathlib.Core.Path.{_≡_, refl, sym, _∙_, ap}
 use mathlib.Core.Logic.{_⊎_, inl, inr, ⊎-elim}
 use mathlib.Core.Bool.{Bool, true, false, not, _&&_, _||_, cond}
 use mathlib.Core.Option.{none, some}
-use mathlib.Core.List.{List, [], _∷_}
+use mathlib.Core.List.{List}
 use Prim.Native.Nat.{ℕ, zero, suc, _+_, _-_, _*_, _≤_, _<_}
 use native.Mathlib.Nat.{min-le-left}
 use native.Mathlib.Omega.{arith}
 use lib.Dec.{eqb, ltb}
-use lib.ListN.{length, drop, length-take}
+use lib.ListN.{length, length-take, drop-of-length-le}
 use borrow.Author.Tests.{eqb-true, eq-eqb, ltb-true, ltb-false, not-false}
 use Rattle.base.specs.Answers.{Answer, given, refused}
 use Rattle.base.specs.Below.{sumBelow}
-use Rattle.base.proofs.Answers.{and-left, and-right, or-left, or-right}
-use Rattle.base.proofs.Below.{below-suc, first-none-at}
+use Rattle.base.proofs.Answers.{by-test, cond-yes, none-some, mapO-none, and-left, and-right, or-left, or-right}
+use Rattle.base.proofs.Below.{lt-or-le, first-none-at, first-some, sum-grows}
 use Rattle.field.specs.Be.{beFrom}
-use Rattle.geometry.specs.declared.Geometry.{Geometry}
 use Rattle.header.specs.Vid.{layoutVolume}
 use Rattle.volume_table.specs.Record.{recordOf, recordGood}
 use Rattle.volume_table.specs.Table.{recordCount, recordsPart, recordAt, tableGood, takenLeb, takenRecords}
 use Rattle.volume_table.specs.declared.VolumeRecord.{VolumeRecord}
 use Rattle.volume_table.proofs.Good.{records-fine, reserved-within, empty-or-good, empty-reserves-none}
-use Rattle.report.specs.View.{Views}
+use Rattle.report.specs.View.{Medium}
 use Rattle.report.specs.Scan.{differs}
 use Rattle.report.specs.Volumes.{
   Face,
@@ -41,9 +40,8 @@ use Rattle.report.specs.Volumes.{
   refusal1112,
 }
 use Rattle.report.specs.Report.{faces, places, records, entries, refusal}
-use Rattle.report.proofs.First.{none-some}
 use Rattle.report.proofs.Map.{map-length}
-use Rattle.report.proofs.Facts.{when-none, mapO-none, first-some, differs-false, parts}
+use Rattle.report.proofs.Facts.{when-none, differs-false, parts}
 
 -- ---- 11 and 12
 
@@ -112,34 +110,16 @@ module _ (t : List ℕ) (fs : Faces) (e : misfitAt t fs ≡ none) (v l : ℕ) (r
 -- an empty or absent record reserves nothing
 pub reserved-is : (t : List ℕ) (v : ℕ) → reservedOf (recordFor t v) ≡ recordOf (recordAt t v) .reserved
 unfolding recordFor
-reserved-is t v = go (ltb 0 (recordOf (recordAt t v) .reserved)) refl
-  where
-    go : (b : Bool) → ltb 0 (recordOf (recordAt t v) .reserved) ≡ b
-        → reservedOf (cond b (some (recordOf (recordAt t v))) none) ≡ recordOf (recordAt t v) .reserved
-    go true e = refl
-    go false e = omega (arith, ltb-false 0 (recordOf (recordAt t v) .reserved) e)
-
-drop-past : (n : ℕ) (s : List ℕ) → length s ≤ n → drop n s ≡ []
-drop-past zero [] h = refl
-drop-past zero (x ∷ s) h = absurd (omega arith)
-drop-past (suc n) [] h = refl
-drop-past (suc n) (x ∷ s) h = drop-past n s (omega arith)
+reserved-is t v =
+    by-test (ltb 0 (recordOf (recordAt t v) .reserved)) (λ q. rw q)
+    (λ q. rw q (omega (arith, ltb-false 0 (recordOf (recordAt t v) .reserved) q)))
 
 -- a sum that has nothing from c on
 module _ (f : ℕ → ℕ) where
-  sum-grows : (j k : ℕ) → j ≤ k → sumBelow j f ≤ sumBelow k f
-  sum-grows j zero h = let z : j ≡ 0 = omega arith in rw z (omega arith)
-  sum-grows j (suc k) h =
-      ⊎-elim (λ (l : j < suc k). omega (arith, sum-grows j k (omega arith))) (λ (q : j ≡ suc k). rw q (omega arith))
-      (below-suc (suc k) j (omega arith))
-
   sum-most : (c : ℕ) → ((i : ℕ) → c ≤ i → f i ≡ 0) → (k : ℕ) → sumBelow k f ≤ sumBelow c f
   sum-most c h zero = omega arith
-  sum-most c h (suc k) = go (ltb k c) refl (sum-most c h k)
-    where
-      go : (b : Bool) → ltb k c ≡ b → sumBelow k f ≤ sumBelow c f → sumBelow k f + f k ≤ sumBelow c f
-      go true q l = sum-grows (suc k) c (ltb-true k c q)
-      go false q l = omega (arith, h k (ltb-false k c q))
+  sum-most c h (suc k) =
+      ⊎-elim (λ (l : k < c). sum-grows f (suc k) c l) (λ (l : c ≤ k). omega (arith, h k l, sum-most c h k)) (lt-or-le k c)
 
 -- t are the records of the table taken from one of two copies, which is good
 pub record TakenFrom (size unit pebs : ℕ) (copy0 copy1 t : List ℕ) : Type 0 where
@@ -164,32 +144,30 @@ module _ (size unit pebs : ℕ) (copy0 copy1 : List ℕ) where
     unfolding recordOf recordsPart beFrom
     past-count v h =
         let l : length t ≤ 172 * v = rw (T .is, length-take) (omega (arith, min-le-left (172 * recordCount size) (length (T .content)))) in
-        rw (drop-past (172 * v) t l)
+        rw (drop-of-length-le t l)
 
     -- a record that is not empty is one of the LEB's, and good
     reserves-good : (v : ℕ) → 0 < recordOf (recordAt t v) .reserved → (v < recordCount size) × (recordGood size unit (recordAt t v) ≡ true)
-    reserves-good v h = go (ltb v (recordCount size)) refl
-      where
-        go : (b : Bool) → ltb v (recordCount size) ≡ b → (v < recordCount size) × (recordGood size unit (recordAt t v) ≡ true)
-        go true q =
-            let k : v < recordCount size = ltb-true _ _ q in (
-              k,
-              ⊎-elim
-                  (λ p. absurd (omega (arith, empty-reserves-none (recordAt t v) p)))
-                  (λ p. p)
-                  (empty-or-good size unit (recordAt t v) (rw (T .is) (records-fine size unit pebs (T .content) (T .good) v k))),
-            )
-        go false q = absurd (omega (arith, past-count v (ltb-false _ _ q)))
+    reserves-good v h =
+        ⊎-elim
+        (λ (k : v < recordCount size). (
+          k,
+          ⊎-elim
+              (λ p. absurd (omega (arith, empty-reserves-none (recordAt t v) p)))
+              (λ p. p)
+              (empty-or-good size unit (recordAt t v) (rw (T .is) (records-fine size unit pebs (T .content) (T .good) v k))),
+        ))
+        (λ (k : recordCount size ≤ v). absurd (omega (arith, past-count v k)))
+        (lt-or-le v (recordCount size))
 
     pub record-good : (v : ℕ) (r : VolumeRecord) → recordFor t v ≡ some r
         → (v < recordCount size) × (recordGood size unit (recordAt t v) ≡ true) × (r ≡ recordOf (recordAt t v))
     unfolding recordFor
-    record-good v r e = go (ltb 0 (recordOf (recordAt t v) .reserved)) refl e
-      where
-        go : (b : Bool) → ltb 0 (recordOf (recordAt t v) .reserved) ≡ b → cond b (some (recordOf (recordAt t v))) none ≡ some r
-            → (v < recordCount size) × (recordGood size unit (recordAt t v) ≡ true) × (r ≡ recordOf (recordAt t v))
-        go true q e = let z = reserves-good v (ltb-true _ _ q) in (z .0, z .1, cc)
-        go false q e = none-some e
+    record-good v r e =
+        let y = cond-yes (ltb 0 (recordOf (recordAt t v) .reserved)) none-some e in
+        let z = reserves-good v (ltb-true _ _ (y .0)) in
+        let q : recordOf (recordAt t v) ≡ r = cc (y .1) in
+        (z .0, z .1, sym q)
 
     -- volumes reserve no more than the PEBs beside the layout volume's two
     pub reserved-sum : (k : ℕ) → sumBelow k (λ v. reservedOf (recordFor t v)) ≤ pebs - 2
@@ -206,15 +184,20 @@ module _ (size unit pebs : ℕ) (copy0 copy1 : List ℕ) where
 
 -- ---- in an image that attaches
 
-module _ (g : Geometry) (n : ℕ) (vs : Views) (e : refusal g n vs ≡ none) where
-  pub table-good :
-      TakenFrom (g .«leb_size») (g .unit) n (layoutContent (faces g n vs layoutVolume 0)) (layoutContent (faces g n vs layoutVolume 1)) (records g n vs)
+-- t are the records of a good table of one of the two layout copies
+abbrev pub TakenIn : Medium → List ℕ → Type 0
+TakenIn m =
+    TakenFrom (m .geometry .«leb_size») (m .geometry .unit) (m .count)
+    (layoutContent (faces m layoutVolume 0)) (layoutContent (faces m layoutVolume 1))
+
+module _ (m : Medium) (e : refusal m ≡ none) where
+  pub table-good : TakenIn m (records m)
   unfolding tableLeb tableRecords
   table-good =
-      let k = table-taken (tableLeb g n (faces g n vs)) (records g n vs) (faces g n vs) (places g n vs) (parts g n vs e .none1112) in
-      taken (g .«leb_size») (g .unit) n (layoutContent (faces g n vs layoutVolume 0)) (layoutContent (faces g n vs layoutVolume 1)) (k .0) (k .1)
+      let k = table-taken (tableLeb m (faces m)) (records m) (faces m) (places m) (parts m e .none1112) in
+      taken _ _ (m .count) _ _ (k .0) (k .1)
 
   -- the map has no more entries than there are PEBs
-  pub entries-fit : 2 ≤ n → length (entries g n vs) ≤ n
+  pub entries-fit : 2 ≤ m .count → length (entries m) ≤ m .count
   unfolding entries mapOf
-  entries-fit h = omega (arith, map-within _ _ _ _ _ (records g n vs) table-good 128 2 (places g n vs))
+  entries-fit h = omega (arith, map-within _ _ _ _ _ (records m) table-good 128 2 (places m))

@@ -6,8 +6,7 @@ use Prim.Native.Nat.{ℕ, _*_}
 use native.Mathlib.Omega.{arith}
 use lib.ListN.{length}
 use Rattle.base.proofs.Rows.{rows-length}
-use Rattle.geometry.specs.declared.Geometry.{Geometry}
-use Rattle.report.specs.View.{VidView, vidGood, vidNewer, vidBlank, vidBad, Views, isMappable}
+use Rattle.report.specs.View.{VidView, vidGood, vidNewer, vidBlank, vidBad, Medium, isMappable}
 use Rattle.report.specs.Volumes.{Entry}
 use Rattle.report.specs.Report.{noWord, classAt, counterAt}
 use Rattle.report.specs.Attach.{pebWords, entryWords}
@@ -27,6 +26,6 @@ pub entry-words-length : (es : List Entry) → length (entryWords es) ≡ length
 entry-words-length [] = refl
 entry-words-length (e ∷ es) = omega (arith, entry-words-length es)
 
-pub peb-words-length : (g : Geometry) (n : ℕ) (vs : Views) → length (pebWords g n vs) ≡ n * 2
+pub peb-words-length : (m : Medium) → length (pebWords m) ≡ m .count * 2
 unfolding pebWords
-peb-words-length g n vs = rows-length n 2 (λ (i : ℕ). classAt g n vs i ∷ counterAt g n vs i ∷ []) (λ i. refl)
+peb-words-length m = rows-length (m .count) 2 (λ (i : ℕ). classAt m i ∷ counterAt m i ∷ []) (λ i. refl)

@@ -1,4 +1,5 @@
--- 01 'The report' and 'Refusal numbers': what attaching answers, and what the lent tables hold afterwards. Assumes nothing.
+-- 01 'The report' and 'Refusal numbers': what attaching answers, and what the lent tables hold afterwards. Assumes
+-- nothing.
 use Prim.Native.Nat.{ℕ, _-_, _*_, _/_, _%_}
 use mathlib.Core.Bool.{Bool, cond}
 use mathlib.Core.Option.{Option, none, some}
@@ -7,85 +8,96 @@ use lib.Dec.{eqb, leb}
 use lib.ListN.{length, drop, replicate}
 use Rattle.base.specs.Answers.{Answer, given, refused, allOf}
 use Rattle.base.specs.Lists.{table}
+pub use Rattle.words.specs.Words.{pebWordsNeeded, mapWordsNeeded, stateWordsNeeded}
 use Rattle.base.specs.Below.{concatBelow}
+pub use Rattle.geometry.specs.Image.{pebCount, imageRules}
 use Rattle.geometry.specs.Slip.{slipGeometry}
 use Rattle.geometry.specs.declared.Geometry.{Geometry}
-use Rattle.report.specs.View.{Views, viewsOf, copies}
-use Rattle.report.specs.Scan.{Refusal}
-use Rattle.report.specs.Volumes.{Entry}
+use Rattle.report.specs.View.{Medium, mediumOf, copies}
+use Rattle.report.specs.Scan.{Refusal, imageSeq}
+use Rattle.report.specs.Volumes.{Entry, orZero}
 use Rattle.report.specs.Report.{classAt, counterAt, entries, stateAt, meanOf, highestOf, readOnlyOf, gradeOf, taken, mark, noWord, refusal}
 use Rattle.report.specs.declared.Report.{Report}
 use Rattle.report.specs.declared.Attached.{Attached}
 use Rattle.report.specs.declared.Attached.the-variants.{Given, Refused}
 
-abbrev pub pebCount : Geometry → List ℕ → ℕ
-pebCount g image = length image / g .«peb_size»
+-- the lent tables: the words of the PEBs, of the map and of the volume states
+pub record Tables : Type 0 where
+  pub pebs : List ℕ
+  pub map : List ℕ
+  pub states : List ℕ
 
--- refusal 3: "image not 2 to 4,096 whole PEBs"
-unfoldable pub imageRules : Geometry → List ℕ → List Bool
-imageRules g image =
-    eqb (length image % g .«peb_size») 0 ∷ leb 2 (pebCount g image) ∷ leb (pebCount g image) 4096 ∷ []
-
--- the words that the report needs of each lent table: "Per PEB two u32 words", "up to 3 times PEB count in the map", "128 words"
-abbrev pub pebWordsNeeded : ℕ → ℕ
-pebWordsNeeded n = n * 2
-
-abbrev pub mapWordsNeeded : ℕ → ℕ
-mapWordsNeeded n = n * 3
-
-abbrev pub stateWordsNeeded : ℕ
-stateWordsNeeded = 128
+abbrev pub lent : List ℕ → List ℕ → List ℕ → Tables
+lent pebs map states = record { pebs = pebs; map = map; states = states }
 
 -- refusal 4: "a lent table .. is too short"
-unfoldable pub longEnough : ℕ → List ℕ → List ℕ → List ℕ → Bool
-longEnough n pebs map states = allOf (leb (pebWordsNeeded n) (length pebs) ∷ leb (mapWordsNeeded n) (length map) ∷ leb stateWordsNeeded (length states) ∷ [])
+unfoldable pub longEnough : Tables → ℕ → Bool
+longEnough t n =
+    allOf
+    (leb (pebWordsNeeded n) (length (t .pebs)) ∷ leb (mapWordsNeeded n) (length (t .map))
+    ∷ leb stateWordsNeeded (length (t .states)) ∷ [])
 
--- what attaching comes to: a refusal 1 to 4, which changes nothing lent; a refusal 5 to 12 of an image of so many PEBs; or a report
+-- 01 'The mover's steps': "Inputs of attaching other than image and lent tables"
+pub record AttachRequest : Type 0 where
+  pub slip : List ℕ
+
+abbrev pub request : List ℕ → AttachRequest
+request slip = record { slip = slip }
+
+-- what attaching comes to: a refusal 1 to 4, which changes nothing lent; a refusal 5 to 12 of an image of so many PEBs;
+-- or a report
 pub data Outcome : Type 0 where
   early : ℕ → Outcome
   late : ℕ → Refusal → Outcome
-  whole : Geometry → ℕ → Views → Outcome
+  whole : Medium → Outcome
 
-abbrev pub byViews : Geometry → ℕ → Views → Option Refusal → Outcome
-byViews g n vs (some r) = late n r
-byViews g n vs none = whole g n vs
+abbrev pub byViews : Medium → Option Refusal → Outcome
+byViews m (some r) = late (m .count) r
+byViews m none = whole m
 
-module _ (image pebs map states : List ℕ) where
+-- an image of a geometry; `room` says of a PEB count whether the lent tables are long enough for it
+module _ (image : List ℕ) (room : ℕ → Bool) where
   abbrev pub byGeometry : Answer Geometry → Outcome
   byGeometry (refused k p) = early k
   byGeometry (given g) =
       cond (allOf (imageRules g image))
-      (cond (longEnough (pebCount g image) pebs map states)
-      (byViews g (pebCount g image) (viewsOf g image) (refusal g (pebCount g image) (viewsOf g image)))
+      (cond (room (pebCount g image))
+      (byViews (mediumOf g (pebCount g image) image) (refusal (mediumOf g (pebCount g image) image)))
       (early 4))
       (early 3)
 
 -- "in order of checking"
-unfoldable pub attaching : List ℕ → List ℕ → List ℕ → List ℕ → List ℕ → Outcome
-attaching slip image pebs map states = byGeometry image pebs map states (slipGeometry slip)
+unfoldable pub attaching : AttachRequest → List ℕ → (ℕ → Bool) → Outcome
+attaching r image room = byGeometry image room (slipGeometry (r .slip))
+
+-- into these lent tables
+abbrev pub attachingInto : AttachRequest → List ℕ → Tables → Outcome
+attachingInto r image t = attaching r image (longEnough t)
 
 abbrev pub answerOr : ℕ → Answer ℕ → ℕ
 answerOr x (given k) = k
 answerOr x (refused k p) = x
 
 -- the report's numbers
-unfoldable pub reportOf : Geometry → ℕ → Views → Report
-reportOf g n vs = record {
-  «peb_count» = n;
-  entries = length (entries g n vs);
-  mean = meanOf n vs;
-  highest = highestOf n (copies vs);
-  «read_only» = readOnlyOf n (copies vs);
-  table = answerOr 0 (taken g n vs);
-  «copies_mark» = mark g n vs;
-  grade = gradeOf g n vs;
+unfoldable pub reportOf : Medium → Report
+reportOf m = record {
+  geometry = m .geometry;
+  «peb_count» = m .count;
+  entries = length (entries m);
+  mean = meanOf m;
+  highest = highestOf (m .count) (copies (m .views));
+  «image_seq» = orZero (imageSeq (m .count) (m .views));
+  «read_only» = readOnlyOf (m .count) (copies (m .views));
+  table = answerOr 0 (taken m);
+  «copies_mark» = mark m;
+  grade = gradeOf m;
 }
 
 -- the answer
 abbrev pub answerOf : Outcome → Answer Report
 answerOf (early k) = refused k 0
 answerOf (late n r) = refused (r .number) (r .place)
-answerOf (whole g n vs) = given (reportOf g n vs)
+answerOf (whole m) = given (reportOf m)
 
 -- what each case of the answer is in 01
 abbrev pub attachedAnswer : Attached → Answer Report
@@ -97,8 +109,8 @@ abbrev pub over : List ℕ → List ℕ → List ℕ
 over ws lent = ws ++ drop (length ws) lent
 
 -- "Per PEB two u32 words: class, and counter"
-unfoldable pub pebWords : Geometry → ℕ → Views → List ℕ
-pebWords g n vs = concatBelow n (λ (i : ℕ). classAt g n vs i ∷ counterAt g n vs i ∷ [])
+unfoldable pub pebWords : Medium → List ℕ
+pebWords m = concatBelow (m .count) (λ (i : ℕ). classAt m i ∷ counterAt m i ∷ [])
 
 -- "three words per entry (volume, LEB, PEB)"
 abbrev pub entryWords : List Entry → List ℕ
@@ -110,21 +122,15 @@ unfoldable pub mapWords : ℕ → List Entry → List ℕ
 mapWords n es = entryWords es ++ replicate (mapWordsNeeded n - length (entryWords es)) noWord
 
 -- "Volume states: 128 words."
-unfoldable pub stateWords : Geometry → ℕ → Views → List ℕ
-stateWords g n vs = table (stateAt g n vs) 0 128
+unfoldable pub stateWords : Medium → List ℕ
+stateWords m = table (stateAt m) 0 128
 
 -- "Refusals 1 to 4 .. change nothing lent; 5 to 12 fill all needed report words with 0xFFFFFFFF."
-abbrev pub pebsAfter : Outcome → List ℕ → List ℕ
-pebsAfter (early k) lent = lent
-pebsAfter (late n r) lent = over (replicate (pebWordsNeeded n) noWord) lent
-pebsAfter (whole g n vs) lent = over (pebWords g n vs) lent
-
-abbrev pub mapAfter : Outcome → List ℕ → List ℕ
-mapAfter (early k) lent = lent
-mapAfter (late n r) lent = over (replicate (mapWordsNeeded n) noWord) lent
-mapAfter (whole g n vs) lent = over (mapWords n (entries g n vs)) lent
-
-abbrev pub statesAfter : Outcome → List ℕ → List ℕ
-statesAfter (early k) lent = lent
-statesAfter (late n r) lent = over (replicate stateWordsNeeded noWord) lent
-statesAfter (whole g n vs) lent = over (stateWords g n vs) lent
+abbrev pub tablesAfter : Outcome → Tables → Tables
+tablesAfter (early k) t = t
+tablesAfter (late n r) t =
+    lent (over (replicate (pebWordsNeeded n) noWord) (t .pebs)) (over (replicate (mapWordsNeeded n) noWord) (t .map))
+    (over (replicate stateWordsNeeded noWord) (t .states))
+tablesAfter (whole m) t =
+    lent (over (pebWords m) (t .pebs)) (over (mapWords (m .count) (entries m)) (t .map))
+    (over (stateWords m) (t .states))

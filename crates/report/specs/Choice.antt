@@ -23,19 +23,21 @@ repeats none d = false
 repeats (some c) none = false
 repeats (some c) (some d) =
     isMappable (c .header .volume)
-    && (eqb (c .header .volume) (d .header .volume) && (eqb (c .header .lnum) (d .header .lnum) && eqb (c .header .sequence) (d .header .sequence)))
+    && (eqb (c .header .volume) (d .header .volume)
+    && (eqb (c .header .lnum) (d .header .lnum) && eqb (c .header .sequence) (d .header .sequence)))
 
 -- refusal 9: "for 9 the lowest PEB that repeats a lower one"
 unfoldable pub refusal9 : ℕ → (ℕ → Option Copy) → Option Refusal
 refusal9 n cs = mapO atPeb (firstBelow n (λ (i : ℕ). when (anyBelow i (λ (j : ℕ). repeats (cs i) (cs j))) 9))
 
--- does the first copy count before the second? "choose the highest sequence that is sound; if none is sound, the lowest sequence"
--- (proofs/Choice.antt: a copy is chosen wherever there is one, `pick-some`, and it is the one of this sentence, `pick-literal`; two
--- with one sequence are refusal 9)
+-- does the first copy count before the second? "choose the highest sequence that is sound; if none is sound, the lowest
+-- sequence" (proofs/Choice.antt: a copy is chosen wherever there is one, `pick-some`, and it is the one of this
+-- sentence, `pick-literal`; two with one sequence are refusal 9)
 abbrev pub beats : Option Copy → Copy → Bool
 beats none c = false
 beats (some d) c =
-    cond (sound c) (sound d && ltb (c .header .sequence) (d .header .sequence)) (sound d || ltb (d .header .sequence) (c .header .sequence))
+    cond (sound c) (sound d && ltb (c .header .sequence) (d .header .sequence))
+    (sound d || ltb (d .header .sequence) (c .header .sequence))
 
 abbrev pub unless : Bool → Copy → Option Copy
 unless true c = none

@@ -1,4 +1,5 @@
 pub mod View
+pub mod Class
 pub mod Scan
 pub mod Choice
 pub mod Volumes

@@ -7,7 +7,8 @@ use Rattle.base.specs.Answers.{orElse, mapO}
 use Rattle.base.specs.Below.{allBelow, firstBelow}
 use Rattle.geometry.specs.declared.Geometry.{Geometry}
 use Rattle.header.specs.declared.EcHeader.{EcHeader}
-use Rattle.report.specs.View.{EcView, ecGood, ecNewer, ecBlank, ecLost, VidView, vidGood, vidNewer, vidBlank, vidBad, View, Views, ecs, isMappable}
+use Rattle.report.specs.View.{EcView, ecGood, ecNewer, ecBlank, ecLost, VidView, vidGood, vidNewer, vidBlank, vidBad, View, Views, Medium, ecs, isMappable}
+use Rattle.report.specs.Class.{isUnused}
 
 -- a refusal: "number and place"
 pub record Refusal : Type 0 where
@@ -32,7 +33,8 @@ imageSeq n vs = mapO (λ (x : ℕ × EcHeader). x .1 .«image_seq») (firstBelow
 abbrev pub ecRefusal : Geometry → Option ℕ → EcView → Option ℕ
 ecRefusal g seq ecNewer = some 5
 ecRefusal g seq (ecGood h) =
-    orElse (when (not (eqb (h .«vid_start») (g .«vid_start») && eqb (h .«data_start») (g .«data_start»))) 6) (when (differs seq (h .«image_seq»)) 7)
+    orElse (when (not (eqb (h .«vid_start») (g .«vid_start») && eqb (h .«data_start») (g .«data_start»))) 6)
+    (when (differs seq (h .«image_seq»)) 7)
 ecRefusal g seq ecBlank = none
 ecRefusal g seq ecLost = none
 
@@ -51,19 +53,13 @@ abbrev pub atPeb : ℕ × ℕ → Refusal
 atPeb x = record { number = x .1; place = x .0 }
 
 -- "5 to 8 go PEB by PEB"; the place is the PEB
-unfoldable pub refusal5678 : Geometry → ℕ → Views → Option Refusal
-refusal5678 g n vs = mapO atPeb (firstBelow n (λ (i : ℕ). viewRefusal g (imageSeq n vs) (vs i)))
-
--- class 0 "free (good EC, VID bytes all 0xFF)" or class 3 "blank (both headers all 0xFF)"
-abbrev pub isUnused : EcView → VidView → Bool
-isUnused (ecGood h) vidBlank = true
-isUnused ecBlank vidBlank = true
-isUnused ecNewer vidBlank = false
-isUnused ecLost vidBlank = false
-isUnused e (vidGood c) = false
-isUnused e vidNewer = false
-isUnused e vidBad = false
+unfoldable pub refusal5678 : Medium → Option Refusal
+refusal5678 m =
+    mapO atPeb
+    (firstBelow (m .count) (λ (i : ℕ). viewRefusal (m .geometry) (imageSeq (m .count) (m .views)) (m .views i)))
 
 -- 10 "every PEB is class 0 or 3"
-unfoldable pub refusal10 : ℕ → Views → Option Refusal
-refusal10 n vs = mapO (λ (k : ℕ). record { number = k; place = 0 }) (when (allBelow n (λ (i : ℕ). isUnused (vs i .ec) (vs i .vid))) 10)
+unfoldable pub refusal10 : Medium → Option Refusal
+refusal10 m =
+    mapO (λ (k : ℕ). record { number = k; place = 0 })
+    (when (allBelow (m .count) (λ (i : ℕ). isUnused (m .views i .ec) (m .views i .vid))) 10)

@@ -1,24 +1,14 @@
--- What attaching keeps in the lent words before the report is done. Contracts of inner functions cite it; no public promise does.
--- Assumes nothing.
+-- What attaching keeps in the lent words before the report is done. Contracts of inner functions cite it; no public
+-- promise does. Assumes nothing.
 use Prim.Native.Nat.{ℕ}
 use mathlib.Core.Bool.{cond}
 use mathlib.Core.List.{List, [], _∷_}
-use lib.Dec.{eqb}
 use Rattle.base.specs.Below.{concatBelow}
 use Rattle.header.specs.declared.VidHeader.{VidHeader}
-use Rattle.report.specs.View.{EcView, ecGood, ecNewer, ecBlank, ecLost, VidView, vidGood, vidNewer, vidBlank, vidBad, Views, isMappable, ecs}
+use Rattle.report.specs.View.{Copy, EcView, VidView, vidGood, vidNewer, vidBlank, vidBad, Views, isMappable, ecs}
+use Rattle.report.specs.Class.{classBy}
 use Rattle.report.specs.Volumes.{Places}
 use Rattle.report.specs.Report.{noWord, counterOr, isPlace}
-
--- the class of a PEB before any copy is chosen: one of a user or layout LEB is passed over (2) until it is chosen
-abbrev pub firstClass : EcView → VidView → ℕ
-firstClass e (vidGood c) = cond (isMappable (c .header .volume)) 2 (cond (eqb (c .header .compat) 1) 5 6)
-firstClass (ecGood h) vidBlank = 0
-firstClass ecBlank vidBlank = 3
-firstClass ecLost vidBlank = 4
-firstClass ecNewer vidBlank = 4
-firstClass e vidBad = 4
-firstClass e vidNewer = 4
 
 -- volume, LEB and PEB of a copy of a user or layout LEB; else no words
 abbrev pub copyWords : ℕ → VidHeader → List ℕ
@@ -36,15 +26,9 @@ keysOf n vs = concatBelow n (λ (i : ℕ). keyWords i (vs i .vid))
 
 -- the class of a PEB once the copies are chosen: 1 for a chosen copy, whether or not it stays in the map
 abbrev pub markedClass : Places → ℕ → EcView → VidView → ℕ
-markedClass ps i e (vidGood c) =
-    cond (isMappable (c .header .volume)) (cond (isPlace (ps (c .header .volume) (c .header .lnum)) i) 1 2) (cond (eqb (c .header .compat) 1) 5 6)
-markedClass ps i (ecGood h) vidBlank = 0
-markedClass ps i ecBlank vidBlank = 3
-markedClass ps i ecLost vidBlank = 4
-markedClass ps i ecNewer vidBlank = 4
-markedClass ps i e vidBad = 4
-markedClass ps i e vidNewer = 4
+markedClass ps i = classBy (λ (c : Copy). cond (isPlace (ps (c .header .volume) (c .header .lnum)) i) 1 2)
 
 -- class and counter of each PEB then
 abbrev pub markedWords : Places → ℕ → Views → List ℕ
-markedWords ps n vs = concatBelow n (λ (i : ℕ). markedClass ps i (vs i .ec) (vs i .vid) ∷ counterOr noWord (ecs vs i) ∷ [])
+markedWords ps n vs =
+    concatBelow n (λ (i : ℕ). markedClass ps i (vs i .ec) (vs i .vid) ∷ counterOr noWord (ecs vs i) ∷ [])

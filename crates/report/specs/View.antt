@@ -1,4 +1,5 @@
--- What a PEB, judged alone, says. All that attaching knows of an image it knows through the views of its PEBs. Assumes nothing.
+-- What a PEB, judged alone, says. All that attaching knows of an image it knows through the views of its PEBs. Assumes
+-- nothing.
 use Prim.Native.Nat.{ℕ, _*_}
 use mathlib.Core.Bool.{Bool, true, _&&_, _||_, cond}
 use mathlib.Core.Option.{Option, none, some}
@@ -19,8 +20,8 @@ unfoldable pub allFF : List ℕ → Bool
 allFF [] = true
 allFF (b ∷ bs) = eqb b 0xFF && allFF bs
 
--- a good VID header with its data: whether "its data CRC matches the CRC of its first data-size bytes", and the bytes from the data
--- start on
+-- a good VID header with its data: whether "its data CRC matches the CRC of its first data-size bytes", and the bytes
+-- from the data start on
 pub record Copy : Type 0 where
   pub header : VidHeader
   pub matches : Bool
@@ -75,12 +76,22 @@ viewOf g p = record {
 abbrev pub pebAt : Geometry → List ℕ → ℕ → List ℕ
 pebAt g image i = part (i * g .«peb_size») (g .«peb_size») image
 
--- the views of an image's PEBs, by PEB number; the number of PEBs goes beside
+-- the views of an image's PEBs, by PEB number
 abbrev pub Views : Type 0
 Views = ℕ → View
 
 abbrev pub viewsOf : Geometry → List ℕ → Views
 viewsOf g image i = viewOf g (pebAt g image i)
+
+-- all that attaching knows of an image: the geometry, the number of PEBs and their views
+pub record Medium : Type 0 where
+  pub geometry : Geometry
+  pub count : ℕ
+  pub views : Views
+
+-- an image of n PEBs
+abbrev pub mediumOf : Geometry → ℕ → List ℕ → Medium
+mediumOf g n image = record { geometry = g; count = n; views = viewsOf g image }
 
 -- the good EC header of a PEB, if it has one
 abbrev pub goodEc : EcView → Option EcHeader

@@ -1,5 +1,5 @@
--- 01 'The volume table' from the table taken on: map, volume states, refusals 11 and 12. All of it is a function of the table's
--- records and of what is seen of the chosen copies. Assumes nothing.
+-- 01 'The volume table' from the table taken on: map, volume states, refusals 11 and 12. All of it is a function of the
+-- table's records and of what is seen of the chosen copies. Assumes nothing.
 use Prim.Native.Nat.{ℕ, _-_}
 use mathlib.Core.Bool.{Bool, true, false, not, _&&_, _||_, cond}
 use mathlib.Core.Option.{Option, none, some}
@@ -14,12 +14,12 @@ use Rattle.header.specs.Vid.{layoutVolume}
 use Rattle.volume_table.specs.Record.{recordOf}
 use Rattle.volume_table.specs.Table.{recordAt, takenLeb, takenRecords, copiesMark}
 use Rattle.volume_table.specs.declared.VolumeRecord.{VolumeRecord}
-use Rattle.report.specs.View.{Copy}
+use Rattle.report.specs.View.{Copy, Medium}
 use Rattle.report.specs.Scan.{Refusal, when, differs}
 use Rattle.report.specs.Choice.{sound, chosen}
 
--- what the rest of attaching may see of a chosen copy. `right`: not static, or its data CRC matches (a move may change flag and CRC of a
--- dynamic copy, but not this)
+-- what the rest of attaching may see of a chosen copy. `right`: not static, or its data CRC matches (a move may change
+-- flag and CRC of a dynamic copy, but not this)
 pub record Face : Type 0 where
   pub vol-type : ℕ
   pub pad : ℕ
@@ -30,7 +30,9 @@ pub record Face : Type 0 where
 
 -- 01 'The mover's steps': "A LEB's content is its first (LEB size less pad) bytes, or data size bytes if static."
 abbrev pub contentOf : Geometry → Copy → List ℕ
-contentOf g c = take (cond (eqb (c .header .«vol_type») 2) (c .header .«data_size») (g .«leb_size» - c .header .«data_pad»)) (c .body)
+contentOf g c =
+    take (cond (eqb (c .header .«vol_type») 2) (c .header .«data_size») (g .«leb_size» - c .header .«data_pad»))
+    (c .body)
 
 unfoldable pub faceOf : Geometry → Copy → Face
 faceOf g c = record {
@@ -60,21 +62,24 @@ abbrev pub layoutContent : Option Face → List ℕ
 layoutContent none = []
 layoutContent (some f) = f .content
 
-module _ (g : Geometry) (n : ℕ) (fs : Faces) where
-  -- "LEB 0's table is taken if mapped and good, else LEB 1's"
-  unfoldable pub tableLeb : Answer ℕ
-  tableLeb = takenLeb (g .«leb_size») (g .unit) n (layoutContent (fs layoutVolume 0)) (layoutContent (fs layoutVolume 1))
+-- a question about both layout copies, asked with the LEB size, the unit and the PEB count
+abbrev pub ofLayout : {A : Type 0} → (ℕ → ℕ → ℕ → List ℕ → List ℕ → A) → Medium → Faces → A
+ofLayout f m fs =
+    f (m .geometry .«leb_size») (m .geometry .unit) (m .count)
+    (layoutContent (fs layoutVolume 0)) (layoutContent (fs layoutVolume 1))
 
-  -- the records of the table taken
-  unfoldable pub tableRecords : List ℕ
-  tableRecords = takenRecords (g .«leb_size») (g .unit) n (layoutContent (fs layoutVolume 0)) (layoutContent (fs layoutVolume 1))
+-- "LEB 0's table is taken if mapped and good, else LEB 1's"; the records of the table taken; "Copies mark"
+unfoldable pub tableLeb : Medium → Faces → Answer ℕ
+tableLeb = ofLayout takenLeb
 
-  -- "Copies mark"
-  unfoldable pub tableMark : ℕ
-  tableMark = copiesMark (g .«leb_size») (g .unit) n (layoutContent (fs layoutVolume 0)) (layoutContent (fs layoutVolume 1))
+unfoldable pub tableRecords : Medium → Faces → List ℕ
+tableRecords = ofLayout takenRecords
 
--- the record of a volume; none where it "is empty or absent": in a good table exactly the empty ones reserve 0, and past the records
--- there are no bytes, which reserve 0 too
+unfoldable pub tableMark : Medium → Faces → ℕ
+tableMark = ofLayout copiesMark
+
+-- the record of a volume; none where it "is empty or absent": in a good table exactly the empty ones reserve 0, and
+-- past the records there are no bytes, which reserve 0 too
 unfoldable pub recordFor : List ℕ → ℕ → Option VolumeRecord
 recordFor t v = cond (ltb 0 (recordOf (recordAt t v) .reserved)) (some (recordOf (recordAt t v))) none
 
@@ -92,8 +97,8 @@ abbrev pub entryAt : ℕ → ℕ → Option ℕ → List Entry
 entryAt v l none = []
 entryAt v l (some p) = record { volume = v; lnum = l; peb = p } ∷ []
 
--- user volumes below k and layout LEBs below m, each LEB below reserved that has a place: a chosen user copy "whose record is empty
--- or absent, or whose LEB is not below reserved .. leaves the map"
+-- user volumes below k and layout LEBs below m, each LEB below reserved that has a place: a chosen user copy "whose
+-- record is empty or absent, or whose LEB is not below reserved .. leaves the map"
 unfoldable pub mapUpTo : ℕ → ℕ → List ℕ → Places → List Entry
 mapUpTo k m t ps =
     concatBelow k (λ (v : ℕ). concatBelow (reservedOf (recordFor t v)) (λ (l : ℕ). entryAt v l (ps v l)))
@@ -104,14 +109,20 @@ mapOf t ps = mapUpTo 128 2 t ps
 
 -- 01 'The mover's steps': the place book, a map, in which a move "writes its target for its LEB"
 abbrev pub placeWritten : ℕ → ℕ → ℕ → List Entry → List Entry
-placeWritten v l p = map (λ (e : Entry). record { volume = e .volume; lnum = e .lnum; peb = cond (eqb v (e .volume) && eqb l (e .lnum)) p (e .peb) })
+placeWritten v l p =
+    map
+    (λ (e : Entry). record {
+      volume = e .volume;
+      lnum = e .lnum;
+      peb = cond (eqb v (e .volume) && eqb l (e .lnum)) p (e .peb);
+    })
 
 -- used LEBs of the "volume's first entry"
 unfoldable pub usedOf : List ℕ → Faces → ℕ → Option ℕ
 usedOf t fs v = mapO (λ (x : ℕ × Face). x .1 .used) (firstBelow (reservedOf (recordFor t v)) (fs v))
 
--- 12: "a user map entry's type or pad differs from its record; or, static, its used LEBs differ from its volume's first entry or
--- exceed reserved"
+-- 12: "a user map entry's type or pad differs from its record; or, static, its used LEBs differ from its volume's first
+-- entry or exceed reserved"
 abbrev pub misfit : Option VolumeRecord → Option ℕ → Option Face → Option ℕ
 misfit none u f = none
 misfit (some r) u none = none
@@ -123,7 +134,8 @@ misfit (some r) u (some f) =
 -- the first LEB of a volume whose entry is a misfit
 unfoldable pub misfitIn : List ℕ → Faces → ℕ → Option ℕ
 misfitIn t fs v =
-    mapO (λ (x : ℕ × ℕ). x .0) (firstBelow (reservedOf (recordFor t v)) (λ (l : ℕ). misfit (recordFor t v) (usedOf t fs v) (fs v l)))
+    mapO (λ (x : ℕ × ℕ). x .0)
+    (firstBelow (reservedOf (recordFor t v)) (λ (l : ℕ). misfit (recordFor t v) (usedOf t fs v) (fs v l)))
 
 -- volume and LEB of the first misfit in the map
 unfoldable pub misfitAt : List ℕ → Faces → Option (ℕ × ℕ)
@@ -136,7 +148,8 @@ orZero (some x) = x
 -- 11 "no good table", place 0; then 12, "the first such entry's PEB"
 abbrev pub refusal1112 : Answer ℕ → List ℕ → Faces → Places → Option Refusal
 refusal1112 (refused k p) t fs ps = some (record { number = k; place = p })
-refusal1112 (given k) t fs ps = mapO (λ (x : ℕ × ℕ). record { number = 12; place = orZero (ps (x .0) (x .1)) }) (misfitAt t fs)
+refusal1112 (given k) t fs ps =
+    mapO (λ (x : ℕ × ℕ). record { number = 12; place = orZero (ps (x .0) (x .1)) }) (misfitAt t fs)
 
 -- "skip flag" of a record
 abbrev pub skipsCrc : VolumeRecord → Bool
@@ -163,7 +176,9 @@ lacks r (some u) fs = eqb (r .«vol_type») 2 && anyBelow u (λ (l : ℕ). isMis
 -- "Volume state: 0 no record; 2 marker set; else 3 if ..; else 1."
 abbrev pub stateWith : Option VolumeRecord → Option ℕ → (ℕ → Option Face) → ℕ
 stateWith none u fs = 0
-stateWith (some r) u fs = cond (eqb (r .«update_marker») 1) 2 (cond (anyBelow (r .reserved) (λ (l : ℕ). faulty r (fs l)) || lacks r u fs) 3 1)
+stateWith (some r) u fs =
+    cond (eqb (r .«update_marker») 1) 2
+    (cond (anyBelow (r .reserved) (λ (l : ℕ). faulty r (fs l)) || lacks r u fs) 3 1)
 
 unfoldable pub stateOf : List ℕ → Faces → ℕ → ℕ
 stateOf t fs v = stateWith (recordFor t v) (usedOf t fs v) (fs v)

@@ -1,17 +1,24 @@
-// The report on an image: what attaching answers. The definitions and laws that attaching and moving cite stand in specs/ and proofs/.
+// The report on an image: what attaching answers. The definitions and laws that attaching and moving cite stand in
+// specs/ and proofs/.
 pub mod class;
 pub mod refusal;
 pub mod state;
 
+use geometry::Geometry;
+
 // An unused word of a lent table, and the counter of an EC header that is lost.
 pub const NO_WORD: u32 = 0xFFFFFFFF;
 
-// The report's numbers, and the PEB count, which a listing shows; the classes, counters, map and volume states are in the lent tables.
+// The report's numbers; the classes, counters, map and volume states are in the lent tables. Geometry, PEB count and
+// image sequence are for callers that go on with the image.
 pub struct Report {
+    pub geometry: Geometry,
     pub peb_count: u32,
     pub entries: u32,
     pub mean: u32,
     pub highest: u64,
+    // the image sequence that the EC headers are compared with, 0 if there is none
+    pub image_seq: u32,
     pub read_only: bool,
     // the layout LEB, 0 or 1, whose table is taken
     pub table: u32,

@@ -2,24 +2,28 @@
 use mathlib.Core.Path.{_≡_, refl, sym, ap, _∙_}
 use mathlib.Core.Bool.{Bool, true, false, _&&_, cond}
 use mathlib.Core.List.{List, [], _∷_}
-use Prim.Native.Nat.{ℕ, zero, suc, _+_, _-_, _≤_, _<_}
-use native.Mathlib.Nat.{suc-add}
+use Prim.Native.Nat.{ℕ, _+_, _≤_, _<_}
 use native.Mathlib.Numerals.{add-one}
 use native.Mathlib.Omega.{arith}
 use borrow.Author.Tests.{eq-eqb, ne-eqb, eqb-true, le-ltb}
-use lib.Dec.{eqb, ltb}
-use lib.ListN.{length, drop, getD, set}
+use lib.Dec.{eqb}
+use lib.ListN.{length, take, drop, getD}
 use lib.Seq.{drop-cons, drop-length}
 use Rattle.base.specs.Answers.{Answer, given, refused}
-use Rattle.base.specs.Lists.{part, put, eqs}
-use Rattle.base.proofs.Answers.{and-left}
+use Rattle.base.specs.Lists.{part, eqs}
+use Rattle.base.proofs.Answers.{and-left, not-so}
+use Rattle.base.proofs.Lists.{length-part}
 use Rattle.header.specs.Fields.{Verdict, good, bad, newer, verdictAnswer, lentHeader}
-use Rattle.header.specs.Ec.{readEc, ecRead}
-use Rattle.header.specs.Vid.{readVid, vidRead}
-use Rattle.header.specs.declared.EcHeader.{EcHeader}
+use Rattle.header.specs.Ec.{readEc, ecRead, ecAnswer}
+use Rattle.header.specs.Vid.{readVid, vidRead, vidAnswer}
 use Rattle.header.specs.declared.VidHeader.{VidHeader}
+use Rattle.header.specs.declared.EcRead.{EcRead}
+use Rattle.header.specs.declared.EcRead.the-variants as ec
+use Rattle.header.specs.declared.VidRead.{VidRead}
+use Rattle.header.specs.declared.VidRead.the-variants as vid
+use Rattle.geometry.specs.Placed.{Placed}
 use Rattle.geometry.specs.declared.Geometry.{Geometry}
-use Rattle.report.specs.View.{allFF, ecGood, ecNewer, ecBlank, ecLost, vidGood, vidNewer, vidBlank, vidBad, ecOf, vidOf, copyOf}
+use Rattle.report.specs.View.{allFF, ecGood, ecNewer, ecBlank, ecLost, vidGood, vidNewer, vidBlank, vidBad, ecOf, vidOf, copyOf, vidPart, EcView, VidView}
 
 -- ---- all 0xFF
 
@@ -38,7 +42,8 @@ unfolding allFF
 ff-end s = rw drop-length
 
 -- a blank header has no magic
-ff-magic : (s : List ℕ) (a b c d : ℕ) → (0xFF ≡ a → ⊥) → 4 ≤ length s → allFF s ≡ true → eqs (part 0 4 s) (a ∷ b ∷ c ∷ d ∷ []) ≡ false
+ff-magic : (s : List ℕ) (a b c d : ℕ) → (0xFF ≡ a → ⊥) → 4 ≤ length s → allFF s ≡ true
+    → eqs (part 0 4 s) (a ∷ b ∷ c ∷ d ∷ []) ≡ false
 unfolding allFF eqs
 ff-magic [] a b c d n h e = absurd (omega arith)
 ff-magic (x ∷ s) a b c d n h e =
@@ -55,30 +60,6 @@ ff-vid size s l e = rw (ff-magic s 0x55 0x42 0x49 0x21 (λ (z : 0xFF ≡ 0x55). 
 
 -- ---- a header's verdict, and what is seen of it
 
-module _ {A T : Type 0} (s : List ℕ) (v : Verdict A) (ff : allFF s ≡ true → v ≡ bad) (of : Verdict A → T) (blank : T) where
-  not-ff : (v ≡ bad → ⊥) → allFF s ≡ false
-  not-ff n = go (allFF s) refl
-    where
-      go : (b : Bool) → allFF s ≡ b → allFF s ≡ false
-      go true e = absurd (n (ff e))
-      go false e = e
-
-  good-not-bad : {h : A} → good h ≡ bad → ⊥
-  good-not-bad e = let z : _≡_ {A = ℕ} 0 1 = cc in omega arith
-
-  newer-not-bad : _≡_ {A = Verdict A} newer bad → ⊥
-  newer-not-bad e = let z : _≡_ {A = ℕ} 0 1 = cc in omega arith
-
-  pub seen-good : (h : A) → v ≡ good h → of (good h) ≡ cond (allFF s) blank (of v)
-  seen-good h e = rw (not-ff (λ (q : v ≡ bad). good-not-bad (sym e ∙ q)), e)
-
-  pub seen-newer : v ≡ newer → of newer ≡ cond (allFF s) blank (of v)
-  seen-newer e = rw (not-ff (λ (q : v ≡ bad). newer-not-bad (sym e ∙ q)), e)
-
-  pub seen-bad : v ≡ bad → cond (allFF s) blank (of bad) ≡ cond (allFF s) blank (of v)
-  seen-bad e = rw e
-
--- an answer about 64 bytes gives the verdict
 module _ {A : Type 0} where
   abbrev verdictOf : Answer (Verdict A) → Verdict A
   verdictOf (given v) = v
@@ -94,69 +75,71 @@ module _ {A : Type 0} where
   not-four bad q = let y : _≡_ {A = ℕ} 0 1 = cc in omega arith
   not-four newer q = let y : _≡_ {A = ℕ} 4 5 = cc in omega arith
 
-  module _ (s : List ℕ) (v w : Verdict A) (l : length s ≡ 64) where
-    long : 64 ≤ length s
-    long = omega arith
+-- what the reader answers about 64 bytes is what is seen of them
+module _ {A T : Type 0} (s : List ℕ) (l : length s ≡ 64) (v : Verdict A) (ff : allFF s ≡ true → v ≡ bad)
+    (of : Verdict A → T) (blank : T) where
+  lent-is : lentHeader v s ≡ verdictAnswer v
+  lent-is = let h : 64 ≤ length s = omega arith in rw (le-ltb (length s) 64 h)
 
-    pub verdict-is : verdictAnswer w ≡ lentHeader v s → v ≡ w
-    verdict-is e = sym (verdict-back v) ∙ ap verdictOf (sym (rw (le-ltb (length s) 64 long) at e)) ∙ verdict-back w
+  verdict-is : (w : Verdict A) → verdictAnswer w ≡ lentHeader v s → v ≡ w
+  verdict-is w e = sym (verdict-back v) ∙ ap verdictOf (sym (e ∙ lent-is)) ∙ verdict-back w
 
-    pub not-short : refused 4 0 ≡ lentHeader v s → ⊥
-    not-short e = not-four v (rw (le-ltb (length s) 64 long) at e)
+  seen-good : (h : A) → given (good h) ≡ lentHeader v s → of (good h) ≡ cond (allFF s) blank (of v)
+  seen-good h e =
+      let q = verdict-is (good h) e in
+      rw (not-so (allFF s) (λ b. let y = ff b in let z : _≡_ {A = ℕ} 0 1 = cc in omega arith), q)
 
--- ---- what the reader answers about a header is what is seen of it
+  seen-newer : refused 5 0 ≡ lentHeader v s → of newer ≡ cond (allFF s) blank (of v)
+  seen-newer e =
+      let q = verdict-is newer e in
+      rw (not-so (allFF s) (λ b. let y = ff b in let z : _≡_ {A = ℕ} 0 1 = cc in omega arith), q)
 
-module _ (s : List ℕ) (l : length s ≡ 64) where
-  pub ec-good : (h : EcHeader) → given (good h) ≡ ecRead s → ecGood h ≡ cond (allFF s) ecBlank (ecOf (readEc s))
-  unfolding ecRead
-  ec-good h e = seen-good s (readEc s) (ff-ec s l) ecOf ecBlank h (verdict-is s (readEc s) (good h) l e)
+  seen-bad : given bad ≡ lentHeader v s → cond (allFF s) blank (of bad) ≡ cond (allFF s) blank (of v)
+  seen-bad e = rw (verdict-is bad e)
 
-  pub ec-newer : refused 5 0 ≡ ecRead s → ecNewer ≡ cond (allFF s) ecBlank (ecOf (readEc s))
-  unfolding ecRead
-  ec-newer e = seen-newer s (readEc s) (ff-ec s l) ecOf ecBlank (verdict-is s (readEc s) newer l e)
+  not-short : {B : Type 0} → refused 4 0 ≡ lentHeader v s → B
+  not-short e = absurd (not-four v (e ∙ lent-is))
 
-  pub ec-bad : given bad ≡ ecRead s → cond (allFF s) ecBlank ecLost ≡ cond (allFF s) ecBlank (ecOf (readEc s))
-  unfolding ecRead
-  ec-bad e = seen-bad s (readEc s) (ff-ec s l) ecOf ecBlank (verdict-is s (readEc s) bad l e)
+-- what the reader's answer about a header, and whether it is all 0xFF, say of the view
+abbrev pub ecFrom : Bool → EcRead → EcView
+ecFrom b (ec.Good h) = ecGood h
+ecFrom b ec.Newer = ecNewer
+ecFrom b ec.Lost = cond b ecBlank ecLost
+ecFrom b ec.Short = ecLost
 
-  pub ec-not-short : {A : Type 0} → refused 4 0 ≡ ecRead s → A
-  unfolding ecRead
-  ec-not-short e = absurd (not-short s (readEc s) bad l e)
+pub ec-from : (s : List ℕ) → length s ≡ 64 → (r : EcRead) → ecAnswer r ≡ ecRead s
+    → ecFrom (allFF s) r ≡ cond (allFF s) ecBlank (ecOf (readEc s))
+unfolding ecRead
+ec-from s l (ec.Good h) e = seen-good s l (readEc s) (ff-ec s l) ecOf ecBlank h e
+ec-from s l ec.Newer e = seen-newer s l (readEc s) (ff-ec s l) ecOf ecBlank e
+ec-from s l ec.Lost e = seen-bad s l (readEc s) (ff-ec s l) ecOf ecBlank e
+ec-from s l ec.Short e = not-short s l (readEc s) (ff-ec s l) ecOf ecBlank e
 
-module _ (g : Geometry) (p s : List ℕ) (l : length s ≡ 64) where
-  pub vid-good : (h : VidHeader) → given (good h) ≡ vidRead (g .«leb_size») s
-      → vidGood (copyOf g p h) ≡ cond (allFF s) vidBlank (vidOf g p (readVid (g .«leb_size») s))
+module _ (g : Geometry) (p : List ℕ) where
+  abbrev readAs : List ℕ → Verdict VidHeader
+  readAs = readVid (g .«leb_size»)
+
+  abbrev pub vidFrom : Bool → VidRead → VidView
+  vidFrom b (vid.Good h) = vidGood (copyOf g p h)
+  vidFrom b vid.Newer = vidNewer
+  vidFrom b vid.Bad = cond b vidBlank vidBad
+  vidFrom b vid.Short = vidBad
+
+  pub vid-from : (s : List ℕ) → length s ≡ 64 → (r : VidRead) → vidAnswer r ≡ vidRead (g .«leb_size») s
+      → vidFrom (allFF s) r ≡ cond (allFF s) vidBlank (vidOf g p (readAs s))
   unfolding vidRead
-  vid-good h e = seen-good s (readVid (g .«leb_size») s) (ff-vid (g .«leb_size») s l) (vidOf g p) vidBlank h (verdict-is s (readVid (g .«leb_size») s) (good h) l e)
+  vid-from s l (vid.Good h) e = seen-good s l (readAs s) (ff-vid (g .«leb_size») s l) (vidOf g p) vidBlank h e
+  vid-from s l vid.Newer e = seen-newer s l (readAs s) (ff-vid (g .«leb_size») s l) (vidOf g p) vidBlank e
+  vid-from s l vid.Bad e = seen-bad s l (readAs s) (ff-vid (g .«leb_size») s l) (vidOf g p) vidBlank e
+  vid-from s l vid.Short e = not-short s l (readAs s) (ff-vid (g .«leb_size») s l) (vidOf g p) vidBlank e
 
-  pub vid-newer : refused 5 0 ≡ vidRead (g .«leb_size») s → vidNewer ≡ cond (allFF s) vidBlank (vidOf g p (readVid (g .«leb_size») s))
-  unfolding vidRead
-  vid-newer e = seen-newer s (readVid (g .«leb_size») s) (ff-vid (g .«leb_size») s l) (vidOf g p) vidBlank (verdict-is s (readVid (g .«leb_size») s) newer l e)
+-- the headers of a whole PEB have their 64 bytes
+module _ {g : Geometry} (o : Placed g) (p : List ℕ) (whole : length p ≡ g .«peb_size») where
+  pub ec-long : length (take 64 p) ≡ 64
+  ec-long = length-part 0 64 p (omega (arith, o .vid-after-ec, o .data-after-vid, o .leb-fills))
 
-  pub vid-bad : given bad ≡ vidRead (g .«leb_size») s → cond (allFF s) vidBlank vidBad ≡ cond (allFF s) vidBlank (vidOf g p (readVid (g .«leb_size») s))
-  unfolding vidRead
-  vid-bad e = seen-bad s (readVid (g .«leb_size») s) (ff-vid (g .«leb_size») s l) (vidOf g p) vidBlank (verdict-is s (readVid (g .«leb_size») s) bad l e)
+  pub vid-within : g .«vid_start» + 64 ≤ length p
+  vid-within = omega (arith, o .data-after-vid, o .leb-fills)
 
-  pub vid-not-short : {A : Type 0} → refused 4 0 ≡ vidRead (g .«leb_size») s → A
-  unfolding vidRead
-  vid-not-short e = absurd (not-short s (readVid (g .«leb_size») s) bad l e)
-
--- a case of a choice taken through a function
-pub through : {A B : Type 0} (f : A → B) (x y : A) (b : Bool) → f (cond b x y) ≡ cond b (f x) (f y)
-through f x y true = refl
-through f x y false = refl
-
--- ---- words stored one after the other
-
-pub set-two : (d : List ℕ) (k a b : ℕ) → k + 2 ≤ length d → set (set d k a) (k + 1) b ≡ put k (a ∷ b ∷ []) d
-set-two [] k a b h = absurd (omega arith)
-set-two (x ∷ []) zero a b h = absurd (omega arith)
-set-two (x ∷ y ∷ d) zero a b h = refl
-set-two (x ∷ d) (suc k) a b h = rw (suc-add, suc-add) (ap (λ (l : List ℕ). x ∷ l) (set-two d k a b (omega arith)))
-
-pub set-three : (d : List ℕ) (k a b c : ℕ) → k + 3 ≤ length d → set (set (set d k a) (k + 1) b) (k + 2) c ≡ put k (a ∷ b ∷ c ∷ []) d
-set-three [] k a b c h = absurd (omega arith)
-set-three (x ∷ []) zero a b c h = absurd (omega arith)
-set-three (x ∷ y ∷ []) zero a b c h = absurd (omega arith)
-set-three (x ∷ y ∷ z ∷ d) zero a b c h = refl
-set-three (x ∷ d) (suc k) a b c h = rw (suc-add, suc-add, suc-add) (ap (λ (l : List ℕ). x ∷ l) (set-three d k a b c (omega arith)))
+  pub vid-long : length (vidPart g p) ≡ 64
+  vid-long = length-part (g .«vid_start») 64 p vid-within

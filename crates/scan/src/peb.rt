@@ -1,9 +1,12 @@
 // The two headers of a PEB.
 ghost use mathlib.Core.Path.{_≡_};
 ghost use mathlib.Core.Bool.{cond};
+ghost use mathlib.Core.List.{List};
+ghost use Prim.Native.Nat.{ℕ};
 ghost use lib.ListN.{length};
 ghost use Rattle.geometry.specs.Placed.{Placed};
-ghost use Rattle.report.specs.View.{allFF, viewOf};
+ghost use Rattle.geometry.specs.declared.Geometry.{Geometry};
+ghost use Rattle.report.specs.View.{allFF, viewOf, ecBlank, ecLost, vidBlank, vidBad};
 ghost use Rattle.scan.specs.Seen.{ecSeen, vidSeen};
 use crate::EcSeen;
 use crate::VidSeen;
@@ -42,7 +45,7 @@ pub fn see_ec(p: &[u8], g: Geometry) -> EcSeen
 
 // A header that is not good: all 0xFF, or not.
 fn blank_or_lost(s: &[u8]) -> EcSeen
-    ensures { λ r. ⌜ r ≡ cond (allFF (now (s .entry))) EcSeen.Blank EcSeen.Lost ⌝ }
+    ensures { λ r. ⌜ ecSeen r ≡ cond (allFF (now (s .entry))) ecBlank ecLost ⌝ }
 {
     if all_ff(s) {
         return EcSeen::Blank;
@@ -67,7 +70,7 @@ pub fn see_vid(p: &[u8], g: Geometry) -> VidSeen
 }
 
 fn blank_or_bad(s: &[u8]) -> VidSeen
-    ensures { λ r. ⌜ r ≡ cond (allFF (now (s .entry))) VidSeen.Blank VidSeen.Bad ⌝ }
+    ensures { λ r. ⌜ ((g : Geometry) (p : List ℕ) → vidSeen g p r ≡ cond (allFF (now (s .entry))) vidBlank vidBad) ⌝ }
 {
     if all_ff(s) {
         return VidSeen::Blank;

@@ -1,98 +1,108 @@
 // The pass over an image's PEBs.
-ghost use mathlib.Core.Path.{_≡_};
-ghost use Prim.Native.Nat.{_+_, _*_, _≤_, _<_};
-ghost use lib.ListN.{length};
-ghost use Rattle.geometry.specs.Placed.{Placed};
-ghost use Rattle.report.specs.View.{Views, viewOf, viewsOf};
-ghost use Rattle.scan.specs.Pass.{SumsOf, Turned, Passed};
-use crate::Passage;
-use crate::Sums;
-use crate::Turn;
+ghost use Rattle.report.specs.View.{Views, viewOf, mediumOf};
+ghost use Rattle.scan.specs.Pass.{TotalsOf, PebReady, PebPassed, ImageReady, Passed};
+use crate::EcTotals;
+use crate::ImagePass;
+use crate::PebPass;
+use crate::ScanTotals;
+use crate::VidTotals;
+use crate::first_words::first_class;
+use crate::first_words::first_counter;
+use crate::first_words::is_idle;
+use crate::first_words::store_key;
 use crate::peb::see_ec;
 use crate::peb::see_vid;
 use crate::totals::ec_refusal;
 use crate::totals::vid_refusal;
 use crate::totals::with_ec;
 use crate::totals::with_vid;
-use crate::words::counter_word;
-use crate::words::first_class;
-use crate::words::is_idle;
-use crate::words::store_key;
-use crate::words::store_pair;
 use geometry::Geometry;
+use words::store_peb;
 
-// PEB i, with the bytes p: its refusal, or the sums with it and its words.
-fn pass_peb(s: Sums, p: &[u8], g: Geometry, i: usize, pebs: &mut [u32], map: &mut [u32]) -> Turn
-    requires { ⌜ (Placed g) × ((length (now p) ≡ g .«peb_size») × ((i < 4096) × ((i * 2 + 2 ≤ length (now pebs)) × ((i * 3 + 3 ≤ length (now map))
-        × ((s .counters ≤ 4096 * 0x7FFFFFFF) × (s .good ≤ 4096)))))) ⌝ }
-    ensures { λ t. ⌜ Turned g i (viewOf g (now (p .entry))) s t (now (pebs .entry)) (now (pebs .exit)) (now (map .entry)) (now (map .exit)) ⌝ }
+// PEB i, with the bytes p: its refusal, or the totals with it and its words.
+fn pass_peb(
+    s: ScanTotals,
+    p: &[u8],
+    g: Geometry,
+    i: usize,
+    pebs: &mut [u32],
+    map: &mut [u32],
+) -> PebPass
+    requires { ⌜ PebReady g (now p) i s (now pebs) (now map) ⌝ }
+    ensures { λ t. ⌜ PebPassed g i (viewOf g (now (p .entry))) s t
+        (now (pebs .entry)) (now (pebs .exit)) (now (map .entry)) (now (map .exit)) ⌝ }
 {
     let e = see_ec(p, g);
-    let s1 = with_ec(s, e);
-    let ec_number = ec_refusal(e, g, s1);
+    let ec = with_ec(s.ec, e);
+    let ec_number = ec_refusal(e, g, ec);
     if ec_number != 0 {
-        return Turn {
+        return PebPass {
             refusal: ec_number,
-            sums: s1,
+            totals: s,
         };
     }
     let v = see_vid(p, g);
     let vid_number = vid_refusal(v);
     if vid_number != 0 {
-        return Turn {
+        return PebPass {
             refusal: vid_number,
-            sums: s1,
+            totals: s,
         };
     }
     let class = first_class(e, v);
-    store_pair(pebs, i, class, counter_word(e));
+    store_peb(pebs, i, class, first_counter(e));
     store_key(map, i, v);
-    Turn {
+    let vid = with_vid(s.vid, is_idle(class), v);
+    PebPass {
         refusal: 0,
-        sums: with_vid(s1, is_idle(class), v),
+        totals: ScanTotals { ec, vid },
     }
 }
 
-// The sums of no PEB.
-fn no_sums() -> Sums
-    ensures { λ s. ⌜ ((vs : Views) → SumsOf 0 vs s) ⌝ }
+// The totals of no PEB.
+fn no_totals() -> ScanTotals
+    ensures { λ s. ⌜ ((vs : Views) → TotalsOf 0 vs s) ⌝ }
 {
-    Sums {
+    let ec = EcTotals {
         has_seq: false,
         image_seq: 0,
         counters: 0,
         good: 0,
+    };
+    let vid = VidTotals {
         highest: 0,
         read_only: false,
         unused: true,
-    }
+    };
+    ScanTotals { ec, vid }
 }
 
 // All n PEBs of an image, one after the other, up to the first that refuses it.
-pub fn pass(image: &[u8], g: Geometry, n: usize, pebs: &mut [u32], map: &mut [u32]) -> Passage
-    requires { ⌜ (Placed g) × ((length (now image) ≡ n * g .«peb_size») × ((n ≤ 4096) × ((n * 2 ≤ length (now pebs)) × (n * 3 ≤ length (now map))))) ⌝ }
-    ensures { λ r. ⌜ Passed g n (viewsOf g (now (image .entry))) r (now (pebs .entry)) (now (pebs .exit)) (now (map .entry)) (now (map .exit)) ⌝ }
+pub fn pass(image: &[u8], g: Geometry, n: usize, pebs: &mut [u32], map: &mut [u32]) -> ImagePass
+    requires { ⌜ ImageReady g n (now image) (now pebs) (now map) ⌝ }
+    ensures { λ r. ⌜ Passed (mediumOf g n (now (image .entry))) r
+        (now (pebs .entry)) (now (pebs .exit)) (now (map .entry)) (now (map .exit)) ⌝ }
 {
     let size = g.peb_size as usize;
-    let mut s = no_sums();
+    let mut s = no_totals();
     let mut i: usize = 0;
     while i < n {
         let at = i * size;
         let t = pass_peb(s, &image[at..at + size], g, i, pebs, map);
-        let sums = t.sums;
+        let totals = t.totals;
         if t.refusal != 0 {
-            return Passage {
+            return ImagePass {
                 refusal: t.refusal,
                 place: i as u32,
-                sums,
+                totals,
             };
         }
-        s = sums;
+        s = totals;
         i += 1;
     }
-    Passage {
+    ImagePass {
         refusal: 0,
         place: 0,
-        sums: s,
+        totals: s,
     }
 }

@@ -1,18 +1,19 @@
-// The sums of the report, and the refusals 5 to 8 of one PEB.
+// The totals of the report, and the refusals 5 to 8 of one PEB.
 ghost use mathlib.Core.Path.{_≡_};
-ghost use mathlib.Core.Bool.{false, not, _&&_, _||_, cond};
-ghost use Prim.Native.Nat.{_+_, _*_, _≤_, _<_, max};
+ghost use mathlib.Core.Bool.{not, _&&_, _||_, cond};
+ghost use mathlib.Core.List.{List};
+ghost use Prim.Native.Nat.{ℕ, max};
 ghost use lib.Dec.{eqb};
 ghost use Rattle.geometry.specs.declared.Geometry.{Geometry};
-ghost use Rattle.report.specs.View.{isMappable};
-ghost use Rattle.report.specs.Scan.{ecRefusal};
+ghost use Rattle.report.specs.View.{isMappable, ecGood};
+ghost use Rattle.report.specs.Scan.{when, differs, ecRefusal, vidRefusal};
 ghost use Rattle.report.specs.Volumes.{orZero};
-ghost use Rattle.report.specs.View.{ecGood};
-ghost use Rattle.scan.specs.Seen.{ecSeen, headerRefusal, seenRefusal};
-ghost use Rattle.scan.specs.Pass.{seqIn, withEc, withSums, withSeen, smallCounter};
+ghost use Rattle.scan.specs.Seen.{ecSeen, vidSeen};
+ghost use Rattle.scan.specs.Pass.{seqIn, withEc, withVid, withSequence, smallCounter, SmallTotals};
 use crate::EcSeen;
-use crate::Sums;
+use crate::EcTotals;
 use crate::VidSeen;
+use crate::VidTotals;
 use geometry::Geometry;
 use header::COMPAT_READ_ONLY;
 use header::COMPAT_REJECT;
@@ -28,9 +29,19 @@ pub fn is_mappable(volume: u32) -> bool
     volume < 128 || volume == LAYOUT_VOLUME
 }
 
-// The sums with an EC header more.
-pub fn with_ec(s: Sums, e: EcSeen) -> Sums
-    requires { ⌜ (s .counters ≤ 4096 * 0x7FFFFFFF) × ((s .good ≤ 4096) × (smallCounter (ecSeen e))) ⌝ }
+// Is it a block of another internal volume, with this compatibility?
+pub fn is_internal(h: VidHeader, compat: u8) -> bool
+    ensures { λ r. ⌜ r ≡ (not (isMappable (h .volume)) && eqb (h .compat) compat) ⌝ }
+{
+    if is_mappable(h.volume) {
+        return false;
+    }
+    h.compat == compat
+}
+
+// The totals with an EC header more.
+pub fn with_ec(s: EcTotals, e: EcSeen) -> EcTotals
+    requires { ⌜ SmallTotals s × smallCounter (ecSeen e) ⌝ }
     ensures { λ r. ⌜ r ≡ withEc s (ecSeen e) ⌝ }
 {
     match e {
@@ -41,23 +52,20 @@ pub fn with_ec(s: Sums, e: EcSeen) -> Sums
     }
 }
 
-fn with_good_ec(s: Sums, h: EcHeader) -> Sums
-    requires { ⌜ (s .counters ≤ 4096 * 0x7FFFFFFF) × ((s .good ≤ 4096) × (h .counter ≤ 0x7FFFFFFF)) ⌝ }
+fn with_good_ec(s: EcTotals, h: EcHeader) -> EcTotals
+    requires { ⌜ SmallTotals s × smallCounter (ecGood h) ⌝ }
     ensures { λ r. ⌜ r ≡ withEc s (ecGood h) ⌝ }
 {
-    Sums {
-        has_seq: true,
-        image_seq: first_seq(s, h.image_seq),
-        counters: s.counters + h.counter,
-        good: s.good + 1,
-        highest: s.highest,
-        read_only: s.read_only,
-        unused: s.unused,
-    }
+    let mut r = s;
+    r.image_seq = first_seq(s, h.image_seq);
+    r.has_seq = true;
+    r.counters += h.counter;
+    r.good += 1;
+    r
 }
 
 // The image sequence that was met first.
-fn first_seq(s: Sums, seq: u32) -> u32
+fn first_seq(s: EcTotals, seq: u32) -> u32
     ensures { λ r. ⌜ r ≡ cond (s .«has_seq») (s .«image_seq») seq ⌝ }
 {
     if s.has_seq {
@@ -66,8 +74,18 @@ fn first_seq(s: Sums, seq: u32) -> u32
     seq
 }
 
-// The refusal 5, 6 or 7 of an EC header, 0 if there is none; the sums have the header in.
-pub fn ec_refusal(e: EcSeen, g: Geometry, s: Sums) -> u32
+// Does an image sequence differ from the one compared with?
+fn other_seq(s: EcTotals, seq: u32) -> bool
+    ensures { λ r. ⌜ r ≡ differs (seqIn s) seq ⌝ }
+{
+    if s.has_seq {
+        return seq != s.image_seq;
+    }
+    false
+}
+
+// The refusal 5, 6 or 7 of an EC header, 0 if there is none; the totals have the header in.
+pub fn ec_refusal(e: EcSeen, g: Geometry, s: EcTotals) -> u32
     ensures { λ r. ⌜ r ≡ orZero (ecRefusal g (seqIn s) (ecSeen e)) ⌝ }
 {
     match e {
@@ -78,7 +96,7 @@ pub fn ec_refusal(e: EcSeen, g: Geometry, s: Sums) -> u32
     }
 }
 
-fn good_ec_refusal(h: EcHeader, g: Geometry, s: Sums) -> u32
+fn good_ec_refusal(h: EcHeader, g: Geometry, s: EcTotals) -> u32
     ensures { λ r. ⌜ r ≡ orZero (ecRefusal g (seqIn s) (ecGood h)) ⌝ }
 {
     if h.vid_start != g.vid_start {
@@ -87,10 +105,7 @@ fn good_ec_refusal(h: EcHeader, g: Geometry, s: Sums) -> u32
     if h.data_start != g.data_start {
         return refusal::OTHER_STARTS;
     }
-    if !s.has_seq {
-        return 0;
-    }
-    if h.image_seq != s.image_seq {
+    if other_seq(s, h.image_seq) {
         return refusal::OTHER_IMAGE_SEQ;
     }
     0
@@ -98,7 +113,7 @@ fn good_ec_refusal(h: EcHeader, g: Geometry, s: Sums) -> u32
 
 // The refusal 5 or 8 of a VID header, 0 if there is none.
 pub fn vid_refusal(v: VidSeen) -> u32
-    ensures { λ r. ⌜ r ≡ seenRefusal v ⌝ }
+    ensures { λ r. ⌜ ((g : Geometry) (p : List ℕ) → r ≡ orZero (vidRefusal (vidSeen g p v))) ⌝ }
 {
     match v {
         VidSeen::Newer => return refusal::NEWER_HEADER,
@@ -109,55 +124,39 @@ pub fn vid_refusal(v: VidSeen) -> u32
 }
 
 fn good_vid_refusal(h: VidHeader) -> u32
-    ensures { λ r. ⌜ r ≡ headerRefusal h ⌝ }
+    ensures { λ r. ⌜ r ≡ orZero (when (not (isMappable (h .volume)) && eqb (h .compat) 5) 8) ⌝ }
 {
-    if is_mappable(h.volume) {
-        return 0;
-    }
-    if h.compat == COMPAT_REJECT {
+    if is_internal(h, COMPAT_REJECT) {
         return refusal::UNKNOWN_INTERNAL;
     }
     0
 }
 
-// The sums with a VID header more, where `idle` says whether its PEB is free or blank.
-pub fn with_vid(s: Sums, idle: bool, v: VidSeen) -> Sums
-    ensures { λ r. ⌜ r ≡ withSeen s idle v ⌝ }
+// The totals with a VID header more, where `idle` says whether its PEB is free or blank.
+pub fn with_vid(s: VidTotals, idle: bool, v: VidSeen) -> VidTotals
+    ensures { λ r. ⌜ ((g : Geometry) (p : List ℕ) → r ≡ withVid s idle (vidSeen g p v)) ⌝ }
 {
     match v {
-        VidSeen::Good(h) => return with_good_vid(s, idle, h),
-        VidSeen::Newer => return with_idle(s, idle),
-        VidSeen::Blank => return with_idle(s, idle),
-        VidSeen::Bad => return with_idle(s, idle),
+        VidSeen::Good(h) => return with_sequence(
+            s,
+            idle,
+            h.sequence,
+            is_internal(h, COMPAT_READ_ONLY),
+        ),
+        VidSeen::Newer => return with_sequence(s, idle, 0, false),
+        VidSeen::Blank => return with_sequence(s, idle, 0, false),
+        VidSeen::Bad => return with_sequence(s, idle, 0, false),
     }
 }
 
-fn with_idle(s: Sums, idle: bool) -> Sums
-    ensures { λ r. ⌜ r ≡ withSums s idle 0 false ⌝ }
+fn with_sequence(s: VidTotals, idle: bool, sequence: u64, asks: bool) -> VidTotals
+    ensures { λ r. ⌜ r ≡ withSequence s idle sequence asks ⌝ }
 {
-    Sums {
-        has_seq: s.has_seq,
-        image_seq: s.image_seq,
-        counters: s.counters,
-        good: s.good,
-        highest: s.highest,
-        read_only: s.read_only,
-        unused: both(s.unused, idle),
-    }
-}
-
-fn with_good_vid(s: Sums, idle: bool, h: VidHeader) -> Sums
-    ensures { λ r. ⌜ r ≡ withSums s idle (h .sequence) (not (isMappable (h .volume)) && eqb (h .compat) 2) ⌝ }
-{
-    Sums {
-        has_seq: s.has_seq,
-        image_seq: s.image_seq,
-        counters: s.counters,
-        good: s.good,
-        highest: greater(s.highest, h.sequence),
-        read_only: either(s.read_only, asks_read_only(h)),
-        unused: both(s.unused, idle),
-    }
+    let mut r = s;
+    r.highest = greater(s.highest, sequence);
+    r.read_only = either(s.read_only, asks);
+    r.unused = both(s.unused, idle);
+    r
 }
 
 fn greater(a: u64, b: u64) -> u64
@@ -185,14 +184,4 @@ fn either(a: bool, b: bool) -> bool
         return true;
     }
     b
-}
-
-// Is it a block of an internal volume that asks for a read-only device?
-fn asks_read_only(h: VidHeader) -> bool
-    ensures { λ r. ⌜ r ≡ (not (isMappable (h .volume)) && eqb (h .compat) 2) ⌝ }
-{
-    if is_mappable(h.volume) {
-        return false;
-    }
-    h.compat == COMPAT_READ_ONLY
 }

@@ -201,7 +201,7 @@ fn ran(from: u32, to: u32, r: Stepped, image: &[u8]) {
 }
 
 fn step(plan: Plan, image: &mut [u8]) -> Stepped {
-    mover::step(plan, image)
+    mover_steps::step(plan, image)
 }
 
 fn plan_after(r: Stepped, plan: Plan) -> Plan {
@@ -214,7 +214,7 @@ fn plan_after(r: Stepped, plan: Plan) -> Plan {
 
 fn finish(plan: Plan, image: &mut [u8]) {
     frames::word(b"finished ");
-    show::stepped(mover::finish(plan, image));
+    show::stepped(mover_steps::finish(plan, image));
     show::image(image);
 }
 

@@ -16,7 +16,8 @@ use Rattle.base.proofs.Below.{all-at}
 use Rattle.base.proofs.Lists.{eqs-true}
 use Rattle.field.specs.Be.{beFrom}
 use Rattle.volume_table.specs.Record.{recordOf, recordCrcMatches, emptyRecord, isEmpty, recordRules, recordGood}
-use Rattle.volume_table.specs.Table.{recordCount, recordsPart, recordAt, emptyOrGood, tableRules, tableTests, tableGood}
+use Rattle.volume_table.specs.Table.{recordCount, recordsPart, recordAt, emptyOrGood, tableRules, tableTests}
+use Rattle.volume_table.specs.Table.{tableGood}
 
 -- ---- numbers
 

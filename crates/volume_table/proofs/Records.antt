@@ -5,20 +5,21 @@ use mathlib.Core.List.{List}
 use Prim.Native.Nat.{ℕ, _+_, _%_, _≤_, _<_}
 use native.Mathlib.Nat.{mod-zero}
 use native.Mathlib.Omega.{arith}
-use borrow.Author.Tests.{eq-eqb, ne-eqb, lt-ltb, le-ltb, le-leb, leb-true}
+use borrow.Author.Tests.{eq-eqb, ne-eqb, lt-ltb, le-ltb, le-leb}
 use lib.Bits.{bitAnd}
-use lib.Dec.{eqb, leb, lit≤}
+use lib.Dec.{eqb, lit≤}
 use lib.ListN.{length, take, getD, replicate}
 use Rattle.base.specs.Answers.{given, refused, allOf}
 use Rattle.base.specs.Below.{allBelow}
 use Rattle.base.specs.Lists.{put}
 use Rattle.base.proofs.Answers.{one-broken}
-use Rattle.base.proofs.Lists.{every-entry}
 use Rattle.field.specs.Be.{toBeOn, toBe}
 use Rattle.crc32.specs.Crc.{crcOf}
-use Rattle.volume_table.specs.declared.Field.{Field}
-use Rattle.volume_table.specs.Fields.{recordFields, recordField, recordCrc, numberIn}
-use Rattle.volume_table.specs.Record.{nameEnds, recordRules, recordOf, recordCrcMatches, recordGood, emptyRecord, isEmpty, empty, good, bad, judgeRecord, shownRecord}
+use Rattle.field.specs.Fields.{row, numberIn}
+use Rattle.field.proofs.Laws.{rows-fit}
+use Rattle.volume_table.specs.Fields.{recordFields, recordCrc}
+use Rattle.volume_table.specs.Record.{nameEnds, recordRules, recordOf, recordCrcMatches, recordGood, emptyRecord}
+use Rattle.volume_table.specs.Record.{isEmpty, empty, good, bad, judgeRecord, shownRecord}
 use Rattle.volume_table.specs.Sums.{tallied}
 use Rattle.volume_table.specs.Table.{emptyOrGood}
 use Rattle.volume_table.specs.declared.Tally.{Tally}
@@ -28,8 +29,8 @@ use Rattle.volume_table.proofs.Laws.{part-take, all-broken, all-more, a
 -- ---- the fields
 
 -- each field lies within the 172 bytes
-pub fits : (i : ℕ) → recordField i .at + recordField i .width ≤ 172
-fits i = leb-true _ _ (every-entry (λ (f : Field). leb (f .at + f .width) 172) (record { at = 0; width = 0 }) refl recordFields refl i)
+pub fits : (i : ℕ) → row recordFields i .at + row recordFields i .width ≤ 172
+fits i = rows-fit 172 128 recordFields refl i .0
 
 -- ---- the empty record
 

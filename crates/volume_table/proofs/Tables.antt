@@ -17,10 +17,13 @@ use Rattle.base.specs.Lists.{part, eqs}
 use Rattle.base.proofs.Answers.{clash, one-broken}
 use Rattle.base.proofs.Below.{none-intro}
 use Rattle.base.proofs.Lists.{eqs-true}
-use Rattle.volume_table.specs.Fields.{recordNameLength, recordName, bytesIn, numberIn}
-use Rattle.volume_table.specs.Record.{recordOf, emptyRecord, isEmpty}
+use Rattle.field.specs.Fields.{bytesIn, numberIn}
+use Rattle.volume_table.specs.Fields.{recordNameLength, recordName}
+use Rattle.volume_table.specs.Record.{recordOf, isEmpty}
 use Rattle.volume_table.specs.Sums.{tallied, TallyOf}
-use Rattle.volume_table.specs.Table.{recordCount, recordsPart, recordAt, emptyOrGood, nameOf, sameNames, autoresizes, tableRules, tableTests, tableGood, takenLeb, takenRecords, recordsTaken, copiesMark}
+use Rattle.volume_table.specs.Table.{recordCount, recordsPart, recordAt, emptyOrGood, nameOf, sameNames}
+use Rattle.volume_table.specs.Table.{autoresizes, tableRules, tableTests, tableGood, takenLeb, takenRecords}
+use Rattle.volume_table.specs.Table.{recordsTaken, copiesMark}
 use Rattle.volume_table.specs.declared.Tally.{Tally}
 use Rattle.volume_table.proofs.Laws.{all-broken, all-more, not-above, above-zero}
 

@@ -2,3 +2,4 @@ pub mod Fields
 pub mod Record
 pub mod Table
 pub mod Sums
+pub mod Stores

@@ -2,10 +2,9 @@
 ghost use mathlib.Core.Path.{_≡_};
 ghost use Prim.Native.Nat.{_+_, _^_, _≤_, _<_};
 ghost use lib.ListN.{length};
-ghost use Rattle.base.specs.Lists.{put};
-ghost use Rattle.field.specs.Be.{toBe};
-ghost use Rattle.volume_table.specs.Fields.{recordField, bytesIn, numberIn};
-use crate::Field;
+ghost use Rattle.field.specs.Fields.{row, bytesIn, numberIn, stored};
+ghost use Rattle.volume_table.specs.Fields.{recordFields};
+use field::Field;
 
 pub const RECORD_SIZE: usize = 172;
 
@@ -34,27 +33,27 @@ pub const RECORD_FLAGS: usize = 7;
 pub const RECORD_CRC: usize = 8;
 
 const RECORD_FIELDS: [Field; 9] = [
-    Field { at: 0, width: 4 },
-    Field { at: 4, width: 4 },
-    Field { at: 8, width: 4 },
-    Field { at: 12, width: 1 },
-    Field { at: 13, width: 1 },
-    Field { at: 14, width: 2 },
+    Field { at: 0, width: 4 }, // RECORD_RESERVED
+    Field { at: 4, width: 4 }, // RECORD_ALIGNMENT
+    Field { at: 8, width: 4 }, // RECORD_DATA_PAD
+    Field { at: 12, width: 1 }, // RECORD_TYPE
+    Field { at: 13, width: 1 }, // RECORD_MARKER
+    Field { at: 14, width: 2 }, // RECORD_NAME_LENGTH
     Field {
         at: 16,
         width: NAME_SIZE,
-    },
-    Field { at: 144, width: 1 },
+    }, // RECORD_NAME
+    Field { at: 144, width: 1 }, // RECORD_FLAGS
     Field {
         at: SUMMED_SIZE,
         width: 4,
-    },
+    }, // RECORD_CRC
 ];
 
 // Field i of the table.
 pub fn field_of(i: usize) -> Field
     requires { ⌜ i < 9 ⌝ }
-    ensures { λ r. ⌜ (r ≡ recordField i) × (r .at + r .width ≤ 172) ⌝ }
+    ensures { λ r. ⌜ (r ≡ row recordFields i) × (r .at + r .width ≤ 172) ⌝ }
 {
     RECORD_FIELDS[i]
 }
@@ -62,7 +61,7 @@ pub fn field_of(i: usize) -> Field
 // The bytes of field i.
 pub fn field_bytes<'a>(r: &'a [u8], i: usize) -> &'a [u8]
     requires { ⌜ (i < 9) × (172 ≤ length (now r)) ⌝ }
-    ensures { λ b. ⌜ now b ≡ bytesIn i (now (r .entry)) ⌝ }
+    ensures { λ b. ⌜ now b ≡ bytesIn (row recordFields i) (now (r .entry)) ⌝ }
 {
     let f = field_of(i);
     let at = f.at;
@@ -72,8 +71,8 @@ pub fn field_bytes<'a>(r: &'a [u8], i: usize) -> &'a [u8]
 
 // The number in field i of the record at the start of a slice.
 pub fn get_field(r: &[u8], i: usize) -> u64
-    requires { ⌜ (i < 9) × ((recordField i .width ≤ 8) × (172 ≤ length (now r))) ⌝ }
-    ensures { λ v. ⌜ (v ≡ numberIn i (now (r .entry))) × (v < 256 ^ recordField i .width) ⌝ }
+    requires { ⌜ (i < 9) × ((row recordFields i .width ≤ 8) × (172 ≤ length (now r))) ⌝ }
+    ensures { λ v. ⌜ (v ≡ numberIn (row recordFields i) (now (r .entry))) × (v < 256 ^ row recordFields i .width) ⌝ }
 {
     let f = field_of(i);
     field::read(r, f.at, f.width)
@@ -82,7 +81,7 @@ pub fn get_field(r: &[u8], i: usize) -> u64
 // Field i is given the number v.
 pub fn set_field(r: &mut [u8], i: usize, v: u64)
     requires { ⌜ (i < 9) × (172 ≤ length (now r)) ⌝ }
-    ensures { λ _. ⌜ now (r .exit) ≡ put (recordField i .at) (toBe (recordField i .width) v) (now (r .entry)) ⌝ }
+    ensures { λ _. ⌜ now (r .exit) ≡ stored (row recordFields i) v (now (r .entry)) ⌝ }
 {
     let f = field_of(i);
     field::write(r, f.at, f.width, v)

@@ -2,6 +2,7 @@
 mod fields;
 mod record;
 mod table;
+mod write;
 
 pub use fields::RECORD_DATA_PAD;
 pub use fields::RECORD_FLAGS;
@@ -16,17 +17,12 @@ pub use table::record_count;
 pub use table::records_part;
 pub use table::table_good;
 pub use table::taken_table;
+pub use write::write_record;
 
 // The flags of a record.
 pub const AUTORESIZE: u8 = 1;
 
 pub const SKIP_CRC: u8 = 2;
-
-// Where a field stands in a record, and how many bytes it has.
-struct Field {
-    at: usize,
-    width: usize,
-}
 
 // A volume record: its numbers beside the name's 128 bytes.
 pub struct VolumeRecord {

@@ -1,29 +1,22 @@
 -- How many entries a volume has in the map, and that fewer than u numbers below u pass a test exactly if one does not. Assumes nothing.
-use mathlib.Core.Path.{_≡_, refl, sym, _∙_}
-use mathlib.Core.Logic.{_⊎_, ⊎-elim, _≢_}
-use mathlib.Core.Bool.{Bool, true, false, not, cond, false≢true}
+use mathlib.Core.Path.{_≡_, refl, _∙_}
+use mathlib.Core.Logic.{⊎-elim, _≢_}
+use mathlib.Core.Bool.{Bool, true, false, not, cond}
 use mathlib.Core.Option.{Option, none, some}
 use mathlib.Core.List.{List, [], _∷_, _++_}
-use Prim.Native.Nat.{ℕ, zero, suc, _+_, _-_, _≤_, _<_}
+use Prim.Native.Nat.{ℕ, zero, suc, _+_, _≤_, _<_}
 use native.Mathlib.Omega.{arith}
-use borrow.Author.Tests.{eq-eqb, ne-eqb, lt-ltb, le-ltb, not-false}
+use borrow.Author.Tests.{eq-eqb, ne-eqb, lt-ltb, le-ltb, not-true, not-false}
 use lib.Dec.{eqb, ltb}
 use lib.ListN.{length, getD}
 use Rattle.base.specs.Below.{anyBelow, countBelow, sumBelow, concatBelow}
-use Rattle.base.proofs.Answers.{or-true-cases}
 use Rattle.base.proofs.Below.{below-suc, none-at}
 use Rattle.header.specs.Vid.{layoutVolume}
+use Rattle.base.proofs.Answers.{by-test}
+use Rattle.base.proofs.Below.{any-hit}
 use Rattle.report.specs.Volumes.{Places, recordFor, reservedOf, Entry, entryAt, mapUpTo}
 
 -- ---- numbers that pass a test
-
-pub any-elim : (n : ℕ) (p : ℕ → Bool) → anyBelow n p ≡ true → (i : ℕ) × (i < n) × (p i ≡ true)
-any-elim zero p e = absurd (false≢true e)
-any-elim (suc n) p e =
-    ⊎-elim
-    (λ (q : anyBelow n p ≡ true). let r = any-elim n p q in (r .0, omega (arith, r .1), r .2))
-    (λ (q : p n ≡ true). (n, omega arith, q))
-    (or-true-cases (anyBelow n p) (p n) e)
 
 pub count-cong : (n : ℕ) (p q : ℕ → Bool) → ((i : ℕ) → i < n → p i ≡ q i) → countBelow n p ≡ countBelow n q
 count-cong zero p q h = refl
@@ -59,18 +52,10 @@ count-upto u (suc n) p h z =
     (below-suc (suc n) u (omega arith))
 
 pub fewer : (u : ℕ) (p : ℕ → Bool) → ltb (countBelow u p) u ≡ anyBelow u (λ i. not (p i))
-fewer u p = go (anyBelow u (λ i. not (p i))) refl
-  where
-    go : (b : Bool) → anyBelow u (λ i. not (p i)) ≡ b → ltb (countBelow u p) u ≡ b
-    go true e =
-        let r = any-elim u (λ i. not (p i)) e in
-        lt-ltb (countBelow u p) u (count-less u p (r .0) (r .1) (flip (p (r .0)) (r .2)))
-      where
-        flip : (b : Bool) → not b ≡ true → b ≡ false
-        flip true q = sym q
-        flip false q = refl
-    go false e =
-        le-ltb (countBelow u p) u (omega (arith, count-all u p (λ i k. not-false (p i) (none-at u (λ i. not (p i)) e i k))))
+fewer u p =
+    by-test (anyBelow u (λ i. not (p i)))
+    (λ e. let r = any-hit u (λ i. not (p i)) e in rw (e, lt-ltb (countBelow u p) u (count-less u p (r .0) (r .1) (not-true (p (r .0)) (r .2)))))
+    (λ e. rw (e, le-ltb (countBelow u p) u (omega (arith, count-all u p (λ i k. not-false (p i) (none-at u (λ i. not (p i)) e i k))))))
 
 -- ---- entries of one volume
 

@@ -1,6 +1,5 @@
-pub mod Faults
+-- The laws that proofs here and above cite. Assumes nothing.
 pub mod Records
-pub mod Passes
 pub mod Words
 pub mod Counts
 pub mod Faces

@@ -1,64 +1,53 @@
 -- The words of the sorted map: what each entry says, where each mapped LEB's entry is, and their order. Assumes nothing.
 use mathlib.Core.Path.{_≡_, refl, sym, ap, ap₂, _∙_}
-use mathlib.Core.Logic.{_⊎_, inl, ⊎-elim}
-use mathlib.Core.Bool.{Bool, true, false}
-use mathlib.Core.Option.{Option, none, some}
-use mathlib.Core.List.{List, [], _∷_, List·Memᴰ, List·Memᴰ·head, List·Memᴰ·tail, List·Memᴰ·cases-cons, List·Memᴰ·not-nil}
-use Prim.Native.Nat.{ℕ, zero, suc, _+_, _-_, _*_, _≤_, _<_}
+use mathlib.Core.Logic.{inl, ⊎-elim}
+use mathlib.Core.Option.{some}
+use mathlib.Core.List.{List, [], _∷_}
+use Prim.Native.Nat.{ℕ, zero, suc, _+_, _*_, _≤_, _<_}
 use native.Mathlib.Nat.{mul-le-mul-right, min-le-left}
 use native.Mathlib.Omega.{arith}
 use borrow.Author.Tests.{leb-true, ltb-true, ltb-false}
-use lib.Dec.{ltb, leb}
+use lib.Dec.{ltb}
 use lib.ListN.{length, getD, length-append, length-take, List·getD-append}
 use lib.Seq.{getD-take}
-use Rattle.base.specs.Answers.{mapO}
+use Rattle.base.specs.Answers.{given, mapO}
 use Rattle.base.proofs.Answers.{each-holds}
 use Rattle.geometry.specs.declared.Geometry.{Geometry}
 use Rattle.header.specs.Vid.{layoutVolume}
 use Rattle.volume_table.specs.Table.{recordCount, recordsPart, tableTests, tableGood}
-use Rattle.report.specs.View.{Copy, viewsOf, copies}
+use Rattle.report.specs.View.{Copy, Medium, mediumOf, viewsOf, copies}
 use Rattle.report.specs.Choice.{chosen}
-use Rattle.report.specs.Volumes.{faceOf, facesOf, placesOf, layoutContent, tableLeb, tableRecords, recordFor, reservedOf, Entry, mapOf}
-use Rattle.report.specs.Report.{faces, places, records, entries}
+use Rattle.report.specs.Volumes.{Faces, Places, faceOf, facesOf, placesOf, tableLeb, tableRecords, recordFor, reservedOf, Entry, mapOf}
+use Rattle.report.specs.Report.{faces, places, records, entries, taken}
 use Rattle.report.specs.Attach.{entryWords, mapWords}
-use Rattle.report.proofs.First.{none-some}
+use Rattle.base.proofs.Answers.{none-some}
 use Rattle.report.proofs.Choice.{chosen-at}
 use Rattle.report.proofs.Map.{Ascending, Before, Listed, in-map, map-has, map-ascends}
-use Rattle.report.proofs.Tables.{TakenFrom, taken}
+use Rattle.report.proofs.Tables.{taken as taken-from}
+use Rattle.report.proofs.Words.{entry-words-length}
 use Rattle.copies.specs.InPlace.{copyAt, HasCopy}
-use Rattle.volumes.specs.Sorted.{faceAt, volumeWord, lebWord, pebWord, Entries, Sorted}
 use Rattle.copies.proofs.Copies.{copy-is}
+use Rattle.words.specs.Words.{volumeWord, lnumWord, pebWord}
+use Rattle.volumes.specs.Sorted.{faceAt, Entries, SortedMap}
+use Rattle.base.proofs.Answers.{by-test, by-option}
+use Rattle.base.proofs.Lists.{getD-mem, mem-getD}
 
 -- ---- a list of entries, by number
 
-abbrev nth : List Entry → ℕ → Entry
-nth es k = getD es k (record { volume = 0; lnum = 0; peb = 0 })
+abbrev no-entry : Entry
+no-entry = record { volume = 0; lnum = 0; peb = 0 }
 
-nth-mem : (es : List Entry) (k : ℕ) → k < length es → List·Memᴰ (nth es k) es
-nth-mem [] k h = absurd (omega arith)
-nth-mem (e ∷ es) zero h = List·Memᴰ·head refl
-nth-mem (e ∷ es) (suc k) h = List·Memᴰ·tail (nth-mem es k (omega arith))
-
-mem-nth : (es : List Entry) (e : Entry) → List·Memᴰ e es → (k : ℕ) × (k < length es) × (nth es k ≡ e)
-mem-nth [] e m = absurd (List·Memᴰ·not-nil m)
-mem-nth (x ∷ es) e m =
-    ⊎-elim
-    (λ (q : e ≡ x). (0, omega arith, sym q))
-    (λ (q : List·Memᴰ e es). let r = mem-nth es e q in (suc (r .0), omega (arith, r .1), r .2))
-    (List·Memᴰ·cases-cons m)
+abbrev pub nth : List Entry → ℕ → Entry
+nth es k = getD es k no-entry
 
 nth-before : (es : List Entry) → Ascending Before es → (i j : ℕ) → i < j → j < length es → Before (nth es i) (nth es j)
 nth-before [] a i j h k = absurd (omega arith)
 nth-before (e ∷ es) a i zero h k = absurd (omega arith)
-nth-before (e ∷ es) a zero (suc j) h k = a .0 (nth es j) (nth-mem es j (omega arith))
+nth-before (e ∷ es) a zero (suc j) h k = a .0 (nth es j) (getD-mem no-entry es j (omega arith))
 nth-before (e ∷ es) a (suc i) (suc j) h k = nth-before es (a .1) i j (omega arith) (omega arith)
 
 abbrev triple : Entry → List ℕ
 triple e = e .volume ∷ e .lnum ∷ e .peb ∷ []
-
-length-words : (es : List Entry) → length (entryWords es) ≡ length es * 3
-length-words [] = refl
-length-words (e ∷ es) = omega (arith, length-words es)
 
 words-at : (es : List Entry) (k j : ℕ) → k < length es → j < 3 → getD (entryWords es) (k * 3 + j) 0 ≡ getD (triple (nth es k)) j 0
 words-at [] k j h l = absurd (omega arith)
@@ -70,84 +59,77 @@ words-at (e ∷ es) (suc k) j h l =
     let q : suc k * 3 + j ≡ suc (suc (suc (k * 3 + j))) = omega arith in
     rw q (words-at es k j (omega arith) l)
 
--- ---- the table taken
+-- the records of the table taken are whole
+pub records-long : (m : Medium) {l : ℕ} → taken m ≡ given l → length (records m) ≡ 172 * recordCount (m .geometry .«leb_size»)
+unfolding tableLeb tableRecords tableGood tableTests recordsPart
+records-long m e =
+    let g = m .geometry in
+    let f = taken-from (g .«leb_size») (g .unit) (m .count) _ _ _ e in
+    let c = recordCount (g .«leb_size») in
+    let p = recordsPart (g .«leb_size») (f .content) in
+    let a : 172 * c ≤ length p = leb-true (172 * c) (length p) (each-holds (tableTests c (g .«leb_size») (g .unit) (m .count) p) (f .good) 1) in
+    let b : length p ≤ 172 * c = rw length-take (min-le-left (172 * c) (length (f .content))) in
+    rw (f .is) (omega arith)
 
-module _ (g : Geometry) (n : ℕ) (image map t : List ℕ) (count : ℕ) (s : Sorted g n image map t count) where
-  from : TakenFrom (g .«leb_size») (g .unit) n (layoutContent (faces g n (viewsOf g image) layoutVolume 0)) (layoutContent (faces g n (viewsOf g image) layoutVolume 1))
-      (records g n (viewsOf g image))
-  unfolding tableLeb tableRecords
-  from =
-      taken (g .«leb_size») (g .unit) n (layoutContent (faces g n (viewsOf g image) layoutVolume 0)) (layoutContent (faces g n (viewsOf g image) layoutVolume 1))
-      (s .leb) (s .taken-is)
+module _ {g : Geometry} {n : ℕ} {image map table : List ℕ} {count : ℕ} (s : SortedMap g n image map table count) where
+  abbrev pub fs : Faces
+  fs = faces (mediumOf g n image)
 
-  -- it is whole
-  pub table-long : length t ≡ 172 * recordCount (g .«leb_size»)
-  unfolding tableGood tableTests recordsPart
-  table-long =
-      let c = recordCount (g .«leb_size») in
-      let p = recordsPart (g .«leb_size») (from .content) in
-      let e : t ≡ p = s .table-is ∙ from .is in
-      let a : 172 * c ≤ length p = leb-true (172 * c) (length p) (each-holds (tableTests c (g .«leb_size») (g .unit) n p) (from .good) 1) in
-      let b : length p ≤ 172 * c = rw length-take (min-le-left (172 * c) (length (from .content))) in
-      rw e (omega arith)
+  abbrev pub ps : Places
+  ps = places (mediumOf g n image)
 
--- ---- faces and places
+  abbrev pub rs : List ℕ
+  rs = records (mediumOf g n image)
 
-module _ (g : Geometry) (n : ℕ) (image : List ℕ) where
-  pub place-chosen : (v l p : ℕ) → places g n (viewsOf g image) v l ≡ some p → chosen n (copies (viewsOf g image)) v l ≡ some (p, copyAt g image p)
+  abbrev pub es : List Entry
+  es = entries (mediumOf g n image)
+
+  -- the table is whole
+  pub table-long : length table ≡ 172 * recordCount (g .«leb_size»)
+  table-long = ap length (s .table-is) ∙ records-long (mediumOf g n image) (s .taken-is)
+
+  -- ---- faces and places
+
+  copy-chosen : (v l : ℕ) (x : ℕ × Copy) → chosen n (copies (viewsOf g image)) v l ≡ some x → x .1 ≡ copyAt g image (x .0)
+  copy-chosen v l x q = copy-is g image (x .0) (x .1) (chosen-at n (copies (viewsOf g image)) v l (x .0) (x .1) q .1)
+
+  pub place-chosen : (v l p : ℕ) → ps v l ≡ some p → chosen n (copies (viewsOf g image)) v l ≡ some (p, copyAt g image p)
   unfolding placesOf
-  place-chosen v l p e = go (chosen n (copies (viewsOf g image)) v l) refl e
-    where
-      go : (o : Option (ℕ × Copy)) → chosen n (copies (viewsOf g image)) v l ≡ o → mapO (λ (x : ℕ × Copy). x .0) o ≡ some p
-          → chosen n (copies (viewsOf g image)) v l ≡ some (p, copyAt g image p)
-      go none q e = none-some e
-      go (some x) q e =
-          let r : x .0 ≡ p = cc in
-          let d = copy-is g image (x .0) (x .1) (chosen-at n (copies (viewsOf g image)) v l (x .0) (x .1) q .1) in
-          q ∙ ap some (ap₂ (λ (a : ℕ) (b : Copy). (a, b)) r (d ∙ ap (copyAt g image) r))
+  place-chosen v l p e =
+      by-option (chosen n (copies (viewsOf g image)) v l)
+      (λ q. none-some (rw q at e))
+      (λ x q. let z : some (x .0) ≡ some p = rw q at e in
+      let r : x .0 ≡ p = cc in
+      q ∙ ap some (ap₂ (λ (a : ℕ) (b : Copy). (a, b)) r (copy-chosen v l x q ∙ ap (copyAt g image) r)))
 
   -- the face of a LEB is that of the copy in its place
-  pub face-is : (v l : ℕ) → faces g n (viewsOf g image) v l ≡ mapO (faceAt g image) (places g n (viewsOf g image) v l)
+  pub face-is : (v l : ℕ) → fs v l ≡ mapO (faceAt g image) (ps v l)
   unfolding facesOf placesOf
-  face-is v l = go (chosen n (copies (viewsOf g image)) v l) refl
-    where
-      go : (o : Option (ℕ × Copy)) → chosen n (copies (viewsOf g image)) v l ≡ o
-          → mapO (λ (x : ℕ × Copy). faceOf g (x .1)) o ≡ mapO (faceAt g image) (mapO (λ (x : ℕ × Copy). x .0) o)
-      go none q = refl
-      go (some x) q =
-          ap (λ (c : Copy). some (faceOf g c)) (copy-is g image (x .0) (x .1) (chosen-at n (copies (viewsOf g image)) v l (x .0) (x .1) q .1))
+  face-is v l =
+      by-option (chosen n (copies (viewsOf g image)) v l) (λ q. rw q)
+      (λ x q. rw q (ap (λ (c : Copy). some (faceOf g c)) (copy-chosen v l x q)))
 
--- ---- the words of the map
-
-module _ (g : Geometry) (n : ℕ) (image map t : List ℕ) (count : ℕ) (s : Sorted g n image map t count) where
-  abbrev es : List Entry
-  es = entries g n (viewsOf g image)
-
-  abbrev ps : ℕ → ℕ → Option ℕ
-  ps = places g n (viewsOf g image)
-
-  abbrev rs : List ℕ
-  rs = records g n (viewsOf g image)
+  -- ---- the words of the map
 
   within : (count * 3 ≤ length map) × (count ≤ n)
   unfolding mapWords
   within =
       let e = simp (length-take, length-append) at (ap length (s .words)) in
-      omega (arith, e, length-words es, s .count-is)
+      omega (arith, e, entry-words-length es, s .count-is)
 
   word : (k j : ℕ) → k < count → j < 3 → getD map (k * 3 + j) 0 ≡ getD (triple (nth es k)) j 0
   unfolding mapWords
   word k j h l =
       sym (getD-take (n * 3) map (k * 3 + j) 0 (omega (arith, within)))
       ∙ ap (λ (w : List ℕ). getD w (k * 3 + j) 0) (s .words)
-      ∙ List·getD-append (entryWords es) _ 0 (k * 3 + j) (omega (arith, length-words es, s .count-is))
+      ∙ List·getD-append (entryWords es) _ 0 (k * 3 + j) (omega (arith, entry-words-length es, s .count-is))
       ∙ words-at es k j (omega (arith, s .count-is)) l
 
-  module _ (k : ℕ) (h : k < count) where
+  module _ {k : ℕ} (h : k < count) where
     pub volume-is : volumeWord map k ≡ nth es k .volume
     volume-is = let e : k * 3 ≡ k * 3 + 0 = omega arith in rw e (word k 0 h (omega arith))
 
-    leb-is : lebWord map k ≡ nth es k .lnum
+    leb-is : lnumWord map k ≡ nth es k .lnum
     leb-is = word k 1 h (omega arith)
 
     peb-is : pebWord map k ≡ nth es k .peb
@@ -156,25 +138,23 @@ module _ (g : Geometry) (n : ℕ) (image map t : List ℕ) (count : ℕ) (s : So
     -- entry k is listed
     listed : Listed 128 2 rs ps (nth es k)
     unfolding entries mapOf
-    listed = in-map 128 2 rs ps (nth es k) (nth-mem es k (omega (arith, s .count-is)))
+    listed = in-map 128 2 rs ps (nth es k) (getD-mem no-entry es k (omega (arith, s .count-is)))
 
-    pub place-is : ps (volumeWord map k) (lebWord map k) ≡ some (pebWord map k)
+    pub place-is : ps (volumeWord map k) (lnumWord map k) ≡ some (pebWord map k)
     place-is = rw (volume-is, leb-is, peb-is) (listed .place)
 
     -- a user volume's LEBs are below reserved
-    pub leb-below : volumeWord map k < 128 → lebWord map k < reservedOf (recordFor rs (volumeWord map k))
+    pub leb-below : volumeWord map k < 128 → lnumWord map k < reservedOf (recordFor rs (volumeWord map k))
     leb-below l =
         rw (volume-is, leb-is)
         (⊎-elim (λ (q : (nth es k .volume < 128) × (nth es k .lnum < reservedOf (recordFor rs (nth es k .volume)))). q .1)
         (λ (q : (nth es k .volume ≡ layoutVolume) × (nth es k .lnum < 2)). absurd (omega (arith, q .0, volume-is)))
         (listed .key))
 
-    pub copy-here : chosen n (copies (viewsOf g image)) (volumeWord map k) (lebWord map k) ≡ some (pebWord map k, copyAt g image (pebWord map k))
-    copy-here = place-chosen g n image (volumeWord map k) (lebWord map k) (pebWord map k) place-is
-
     pub mapped-here : HasCopy g image (pebWord map k)
     mapped-here =
-        let c = chosen-at n (copies (viewsOf g image)) (volumeWord map k) (lebWord map k) (pebWord map k) (copyAt g image (pebWord map k)) copy-here in
+        let e = place-chosen (volumeWord map k) (lnumWord map k) (pebWord map k) place-is in
+        let c = chosen-at n (copies (viewsOf g image)) (volumeWord map k) (lnumWord map k) (pebWord map k) (copyAt g image (pebWord map k)) e in
         record {
           placed = s .placed;
           bytes = omega (arith, s .whole, mul-le-mul-right (g .«peb_size») (c .0));
@@ -182,36 +162,32 @@ module _ (g : Geometry) (n : ℕ) (image map t : List ℕ) (count : ℕ) (s : So
         }
 
   pub entries-there : Entries g image map count
-  entries-there = record { words = within .0; mapped = mapped-here }
+  entries-there = record { words = within .0; mapped = λ k h. mapped-here h }
 
   -- the entry of a mapped LEB
-  pub index-of : (v l p : ℕ) → v < 128 → l < reservedOf (recordFor rs v) → ps v l ≡ some p
-      → (k : ℕ) × (k < count) × (volumeWord map k ≡ v) × (lebWord map k ≡ l) × (pebWord map k ≡ p)
+  pub index-of : {v l p : ℕ} → v < 128 → l < reservedOf (recordFor rs v) → ps v l ≡ some p
+      → (k : ℕ) × (k < count) × (volumeWord map k ≡ v) × (lnumWord map k ≡ l) × (pebWord map k ≡ p)
   unfolding entries mapOf
-  index-of v l p hv hl e =
+  index-of {v} {l} {p} hv hl e =
       let x : Entry = record { volume = v; lnum = l; peb = p } in
-      let m = mem-nth es x (map-has 128 2 rs ps x (record { key = inl (hv, hl); place = e })) in
+      let m = mem-getD no-entry es x (map-has 128 2 rs ps x (record { key = inl (hv, hl); place = e })) in
       let h : m .0 < count = omega (arith, s .count-is, m .1) in (
         m .0,
         h,
-        volume-is (m .0) h ∙ ap (λ (y : Entry). y .volume) (m .2),
-        leb-is (m .0) h ∙ ap (λ (y : Entry). y .lnum) (m .2),
-        peb-is (m .0) h ∙ ap (λ (y : Entry). y .peb) (m .2),
+        volume-is h ∙ ap (λ (y : Entry). y .volume) (m .2),
+        leb-is h ∙ ap (λ (y : Entry). y .lnum) (m .2),
+        peb-is h ∙ ap (λ (y : Entry). y .peb) (m .2),
       )
 
   -- of one volume, the lower LEB comes first
-  pub lower-first : (i j : ℕ) → i < count → j < count → volumeWord map i ≡ volumeWord map j → lebWord map i < lebWord map j → i < j
+  pub lower-first : {i j : ℕ} → i < count → j < count → volumeWord map i ≡ volumeWord map j → lnumWord map i < lnumWord map j → i < j
   unfolding entries mapOf
-  lower-first i j hi hj e l = go (ltb i j) refl (ltb j i) refl
-    where
-      go : (b : Bool) → ltb i j ≡ b → (c : Bool) → ltb j i ≡ c → i < j
-      go true p c q = ltb-true i j p
-      go false p true q =
-          ⊎-elim
-          (λ (z : nth es j .volume < nth es i .volume). absurd (omega (arith, volume-is i hi, volume-is j hj)))
-          (λ (z : (nth es j .volume ≡ nth es i .volume) × (nth es j .lnum < nth es i .lnum)). absurd (omega (arith, leb-is i hi, leb-is j hj)))
-          (nth-before es (map-ascends 128 2 rs ps (omega arith)) j i (ltb-true j i q) (omega (arith, s .count-is)))
-      go false p false q =
-          let z : i ≡ j = omega (arith, ltb-false i j p, ltb-false j i q) in
-          let y : lebWord map i ≡ lebWord map j = ap (lebWord map) z in
-          absurd (omega arith)
+  lower-first {i} {j} hi hj e l =
+      by-test (ltb i j) (λ p. ltb-true i j p) (λ p. by-test (ltb j i)
+      (λ q. ⊎-elim
+      (λ (z : nth es j .volume < nth es i .volume). absurd (omega (arith, volume-is hi, volume-is hj)))
+      (λ (z : (nth es j .volume ≡ nth es i .volume) × (nth es j .lnum < nth es i .lnum)). absurd (omega (arith, leb-is hi, leb-is hj)))
+      (nth-before es (map-ascends 128 2 rs ps (omega arith)) j i (ltb-true j i q) (omega (arith, s .count-is))))
+      (λ q. let z : i ≡ j = omega (arith, ltb-false i j p, ltb-false j i q) in
+      let y : lnumWord map i ≡ lnumWord map j = ap (lnumWord map) z in
+      absurd (omega arith)))

@@ -1,26 +1,27 @@
--- What the contracts here cite beside the report's definitions: the sorted map and its table. No public promise names them.
--- Assumes nothing.
+-- What the contracts here cite beside the report's definitions: the sorted map and its table. No public promise names
+-- them. Assumes nothing.
 use mathlib.Core.Path.{_≡_}
 use mathlib.Core.Bool.{Bool, true, false, not, _&&_, _||_, cond}
 use mathlib.Core.Option.{Option, none, some}
 use mathlib.Core.List.{List}
-use Prim.Native.Nat.{ℕ, _+_, _*_, _≤_, _<_}
+use Prim.Native.Nat.{ℕ, _*_, _≤_, _<_}
 use lib.Bits.{bitAnd}
 use lib.Dec.{eqb, ltb}
-use lib.ListN.{length, take, getD}
+use lib.ListN.{length, take}
 use Rattle.base.specs.Answers.{given}
 use Rattle.base.specs.Below.{countBelow}
+use Rattle.words.specs.Words.{mapWordsNeeded, volumeWord, lnumWord, pebWord}
 use Rattle.geometry.specs.declared.Geometry.{Geometry}
 use Rattle.geometry.specs.Placed.{Placed}
 use Rattle.header.specs.declared.VidHeader.{VidHeader}
 use Rattle.volume_table.specs.declared.VolumeRecord.{VolumeRecord}
-use Rattle.report.specs.View.{viewsOf}
+use Rattle.report.specs.View.{Medium, mediumOf}
 use Rattle.report.specs.Scan.{Refusal}
-use Rattle.report.specs.Volumes.{Face, faceOf, misfitIn, misfitAt}
-use Rattle.report.specs.Report.{faces, records, entries, taken}
+use Rattle.report.specs.Volumes.{Face, faceOf, misfitIn, misfitAt, refusal1112}
+use Rattle.report.specs.Report.{faces, places, records, entries, taken}
 use Rattle.report.specs.Attach.{mapWords}
 use Rattle.copies.specs.InPlace.{headerAt, copyAt, HasCopy}
-use Rattle.volumes.specs.declared.Kept.{Kept}
+use Rattle.volumes.specs.declared.RecordNumbers.{RecordNumbers}
 
 -- what is seen of PEB i's copy
 abbrev pub faceAt : Geometry → List ℕ → ℕ → Face
@@ -31,8 +32,8 @@ abbrev pub faultyBy : Bool → Face → Bool
 faultyBy asks f = not (f .sound) || (asks && not (f .right))
 
 -- the numbers of a record that are compared with the entries of its volume
-unfoldable pub keptOf : VolumeRecord → Kept
-keptOf r = record {
+unfoldable pub numbersOf : VolumeRecord → RecordNumbers
+numbersOf r = record {
   reserved = r .reserved;
   «data_pad» = r .«data_pad»;
   «vol_type» = r .«vol_type»;
@@ -41,22 +42,12 @@ keptOf r = record {
 }
 
 -- is a data CRC of this volume asked?
-abbrev pub keptAsks : Kept → Bool
-keptAsks k = eqb (k .«vol_type») 2 && not (eqb (bitAnd (k .flags) 2) 2)
-
--- the words of entry k: volume, LEB, PEB
-abbrev pub volumeWord : List ℕ → ℕ → ℕ
-volumeWord map k = getD map (k * 3) 0
-
-abbrev pub lebWord : List ℕ → ℕ → ℕ
-lebWord map k = getD map (k * 3 + 1) 0
-
-abbrev pub pebWord : List ℕ → ℕ → ℕ
-pebWord map k = getD map (k * 3 + 2) 0
+abbrev pub asksBy : RecordNumbers → Bool
+asksBy r = eqb (r .«vol_type») 2 && not (eqb (bitAnd (r .flags) 2) 2)
 
 -- the words of each entry are there, and each names a PEB with a copy
 pub record Entries (g : Geometry) (image map : List ℕ) (count : ℕ) : Type 0 where
-  pub words : count * 3 ≤ length map
+  pub words : mapWordsNeeded count ≤ length map
   pub mapped : (k : ℕ) → k < count → HasCopy g image (pebWord map k)
 
 -- is entry k one of volume v?
@@ -74,52 +65,56 @@ pub record FirstOf (map : List ℕ) (count v r : ℕ) : Type 0 where
   pub here : r < count → volumeWord map r ≡ v
 
 -- has volume v an entry, and fewer than the used LEBs that its first entry has?
-pub record Lacking (g : Geometry) (image map : List ℕ) (count v : ℕ) (b : Bool) : Type 0 where
+pub record LacksLeb (g : Geometry) (image map : List ℕ) (count v : ℕ) (b : Bool) : Type 0 where
   pub first : ℕ
   pub is-first : FirstOf map count v first
-  pub is : b ≡ ltb first count && ltb (countBelow count (isOf map v)) (headerAt g image (pebWord map first) .«used_lebs»)
+  pub is : b
+      ≡ ltb first count && ltb (countBelow count (isOf map v)) (headerAt g image (pebWord map first) .«used_lebs»)
 
--- does refusal 12 name a copy with the header h, where its volume's record is r and its volume's first entry has these used LEBs?
-unfoldable pub misfitBy : Kept → ℕ → VidHeader → Bool
+-- does refusal 12 name a copy with the header h, where its volume's record is r and its first entry has `used` LEBs?
+unfoldable pub misfitBy : RecordNumbers → ℕ → VidHeader → Bool
 misfitBy r used h =
     not (eqb (h .«vol_type») (r .«vol_type») && eqb (h .«data_pad») (r .«data_pad»))
     || (eqb (h .«vol_type») 2 && (not (eqb (h .«used_lebs») used) || ltb (r .reserved) (h .«used_lebs»)))
 
 -- is entry k one of volume v, and named by refusal 12, where `first` is the volume's first entry?
-abbrev pub misfitWord : Geometry → List ℕ → List ℕ → ℕ → Kept → ℕ → ℕ → Bool
-misfitWord g image map v r first k =
+abbrev pub misfitEntry : Geometry → List ℕ → List ℕ → ℕ → RecordNumbers → ℕ → ℕ → Bool
+misfitEntry g image map v r first k =
     isOf map v k && misfitBy r (headerAt g image (pebWord map first) .«used_lebs») (headerAt g image (pebWord map k))
 
 -- k is the first such entry, or count
-pub record FirstMisfit (g : Geometry) (image map : List ℕ) (count v : ℕ) (r : Kept) (k : ℕ) : Type 0 where
+pub record FirstMisfit (g : Geometry) (image map : List ℕ) (count v : ℕ) (r : RecordNumbers) (k : ℕ) : Type 0 where
   pub first : ℕ
   pub is-first : FirstOf map count v first
   pub within : k ≤ count
-  pub before : (j : ℕ) → j < k → misfitWord g image map v r first j ≡ false
-  pub here : k < count → misfitWord g image map v r first k ≡ true
+  pub before : (j : ℕ) → j < k → misfitEntry g image map v r first j ≡ false
+  pub here : k < count → misfitEntry g image map v r first k ≡ true
 
 -- k is the number of the first entry of volume v that refusal 12 names, or count, by the report's definition
-pub record VolumeMisfit (g : Geometry) (n : ℕ) (image map : List ℕ) (count v k : ℕ) : Type 0 where
+pub record VolumeMisfit (m : Medium) (map : List ℕ) (count v k : ℕ) : Type 0 where
   pub within : k ≤ count
-  pub none-in : count ≤ k → misfitIn (records g n (viewsOf g image)) (faces g n (viewsOf g image)) v ≡ none
+  pub none-in : count ≤ k → misfitIn (records m) (faces m) v ≡ none
   pub volume : k < count → volumeWord map k ≡ v
-  pub some-in : k < count → misfitIn (records g n (viewsOf g image)) (faces g n (viewsOf g image)) v ≡ some (lebWord map k)
+  pub some-in : k < count → misfitIn (records m) (faces m) v ≡ some (lnumWord map k)
 
--- the refusal that an entry k stands for, if it is one of them
+-- 11 or 12 of an image, if it is refused so; and the refusal that an entry k stands for, if it is one of them
+abbrev pub tableRefusal : Medium → Option Refusal
+tableRefusal m = refusal1112 (taken m) (records m) (faces m) (places m)
+
 abbrev pub misfitRefusal : List ℕ → ℕ → ℕ → Option Refusal
 misfitRefusal map count k = cond (ltb k count) (some (record { number = 12; place = pebWord map k })) none
 
 -- an image of n PEBs, the words of its map, the number of its entries, and the records of the table taken
-pub record Sorted (g : Geometry) (n : ℕ) (image map t : List ℕ) (count : ℕ) : Type 0 where
+pub record SortedMap (g : Geometry) (n : ℕ) (image map table : List ℕ) (count : ℕ) : Type 0 where
   pub placed : Placed g
   pub whole : length image ≡ n * g .«peb_size»
-  pub words : take (n * 3) map ≡ mapWords n (entries g n (viewsOf g image))
-  pub count-is : count ≡ length (entries g n (viewsOf g image))
-  pub table-is : t ≡ records g n (viewsOf g image)
+  pub words : take (mapWordsNeeded n) map ≡ mapWords n (entries (mediumOf g n image))
+  pub count-is : count ≡ length (entries (mediumOf g n image))
+  pub table-is : table ≡ records (mediumOf g n image)
   pub leb : ℕ
-  pub taken-is : taken g n (viewsOf g image) ≡ given leb
+  pub taken-is : taken (mediumOf g n image) ≡ given leb
 
 -- no entry is one that refusal 12 names
-pub record Fitting (g : Geometry) (n : ℕ) (image map t : List ℕ) (count : ℕ) : Type 0 where
-  pub sorted : Sorted g n image map t count
-  pub none12 : misfitAt (records g n (viewsOf g image)) (faces g n (viewsOf g image)) ≡ none
+pub record NoMisfit (g : Geometry) (n : ℕ) (image map table : List ℕ) (count : ℕ) : Type 0 where
+  pub sorted : SortedMap g n image map table count
+  pub none12 : misfitAt (records (mediumOf g n image)) (faces (mediumOf g n image)) ≡ none

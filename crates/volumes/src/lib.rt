@@ -8,7 +8,7 @@ pub use misfit::first_misfit;
 pub use state::fill_states;
 
 // The numbers of a volume's record that are compared with its entries.
-pub struct Kept {
+pub struct RecordNumbers {
     pub reserved: u32,
     pub data_pad: u32,
     pub vol_type: u8,

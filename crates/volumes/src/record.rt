@@ -5,8 +5,8 @@ ghost use Rattle.base.specs.Lists.{part};
 ghost use lib.ListN.{length};
 ghost use Rattle.volume_table.specs.Record.{recordOf};
 ghost use Rattle.volume_table.specs.Table.{recordCount, recordAt};
-ghost use Rattle.volumes.specs.Sorted.{keptOf};
-use crate::Kept;
+ghost use Rattle.volumes.specs.Sorted.{numbersOf};
+use crate::RecordNumbers;
 use volume_table::RECORD_DATA_PAD;
 use volume_table::RECORD_FLAGS;
 use volume_table::RECORD_MARKER;
@@ -15,13 +15,13 @@ use volume_table::RECORD_SIZE;
 use volume_table::RECORD_TYPE;
 use volume_table::get_field;
 
-// The record at `at` of a table.
-fn kept_at(t: &[u8], at: usize) -> Kept
-    requires { ⌜ at + 172 ≤ length (now t) ⌝ }
-    ensures { λ r. ⌜ r ≡ keptOf (recordOf (part at 172 (now (t .entry)))) ⌝ }
+// The numbers of the record at `at`.
+fn numbers_at(records: &[u8], at: usize) -> RecordNumbers
+    requires { ⌜ at + 172 ≤ length (now records) ⌝ }
+    ensures { λ r. ⌜ r ≡ numbersOf (recordOf (part at 172 (now (records .entry)))) ⌝ }
 {
-    let r = &t[at..at + RECORD_SIZE];
-    Kept {
+    let r = &records[at..at + RECORD_SIZE];
+    RecordNumbers {
         reserved: get_field(r, RECORD_RESERVED) as u32,
         data_pad: get_field(r, RECORD_DATA_PAD) as u32,
         vol_type: get_field(r, RECORD_TYPE) as u8,
@@ -30,13 +30,13 @@ fn kept_at(t: &[u8], at: usize) -> Kept
     }
 }
 
-// The record of volume v; zeroes where the table has none.
-pub fn kept(t: &[u8], leb_size: u32, v: usize) -> Kept
-    requires { ⌜ (length (now t) ≡ 172 * recordCount «leb_size») × (v < 128) ⌝ }
-    ensures { λ r. ⌜ r ≡ keptOf (recordOf (recordAt (now (t .entry)) v)) ⌝ }
+// The numbers of a volume's record; zeroes where the table has none.
+pub fn record_numbers(records: &[u8], leb_size: u32, volume: usize) -> RecordNumbers
+    requires { ⌜ (length (now records) ≡ 172 * recordCount «leb_size») × (volume < 128) ⌝ }
+    ensures { λ r. ⌜ r ≡ numbersOf (recordOf (recordAt (now (records .entry)) volume)) ⌝ }
 {
-    if volume_table::record_count(leb_size) <= v {
-        return Kept {
+    if volume_table::record_count(leb_size) <= volume {
+        return RecordNumbers {
             reserved: 0,
             data_pad: 0,
             vol_type: 0,
@@ -44,5 +44,5 @@ pub fn kept(t: &[u8], leb_size: u32, v: usize) -> Kept
             flags: 0,
         };
     }
-    kept_at(t, RECORD_SIZE * v)
+    numbers_at(records, RECORD_SIZE * volume)
 }

@@ -1,6 +1,6 @@
 -- `base::fill` meets its contract: after i turns the first i bytes are set. Assumes nothing.
 use mathlib.Core.Path.{_≡_}
-use Prim.Native.Nat.{_≤_, _-_, _+_}
+use Prim.Native.Nat.{_≤_, _-_}
 use native.Mathlib.Omega.{arith}
 use borrow.Author.Needs.{needs}
 use mathlib.Core.List.{_++_}
@@ -8,26 +8,12 @@ use borrow.Author.Fill.{fill-more}
 use lib.ListN.{length, length-set, drop, replicate}
 use Rattle.base.proofs.fill.Statement.{statement}
 use Rattle.base.proofs.fill.Tie as tie
-use Rattle.base.proofs.fill.Reads as reads
-use Rattle.base.proofs.fill.Lts as lts
 
 abbrev Inv-loop : tie.InvT-loop
 Inv-loop out₀ n value i₀ out i = (i ≤ n) × ((length out ≡ length out₀) × (out ≡ replicate i value ++ drop i out₀))
 
 abbrev μ-loop : tie.MeasureT-loop
 μ-loop out₀ n value i₀ out i = n - i
-
-loop-holds : tie.Need-loop-holds Inv-loop μ-loop
-loop-holds c = search needs
-
-slice-write-out : tie.Need-slice-write-out Inv-loop μ-loop
-slice-write-out c = search needs
-
-add-i : tie.Need-add-i Inv-loop μ-loop
-add-i c = search needs
-
-loop-less : tie.Need-loop-less Inv-loop μ-loop
-loop-less c = search needs
 
 loop-again : tie.Need-loop-again Inv-loop μ-loop
 loop-again c =
@@ -49,10 +35,10 @@ fill-spec =
     (tie.spec
     Inv-loop
     μ-loop
-    loop-holds
-    slice-write-out
-    add-i
-    loop-less
+    (λ c. search needs)
+    (λ c. search needs)
+    (λ c. search needs)
+    (λ c. search needs)
     loop-again
     same-length
     returns)

@@ -12,21 +12,15 @@ by-words-requires : tie.Need-by-words-requires
 unfolding tap crcBit crcBits crcRows eqs
 by-words-requires c κs = table-is _ tt
 
-returns : tie.Need-returns
-returns c = search needs
-
 by-folding-requires : tie.Need-by-folding-requires
 unfolding tap crcBit crcBits crcRows eqs
 by-folding-requires c κs = (table-is _ tt, omega arith)
-
-returns-2 : tie.Need-returns-2
-returns-2 c = search needs
 
 pub update-spec : {M : Type 1} → statement M
 update-spec =
     tie.close
     (tie.spec
     by-words-requires
-    returns
+    (λ c. search needs)
     by-folding-requires
-    returns-2)
+    (λ c. search needs))

@@ -8,8 +8,6 @@ use Rattle.field.specs.Be.{beFrom, beOf}
 use Rattle.field.proofs.Laws.{beOf-next, grows, below-eight}
 use Rattle.field.proofs.read.Statement.{statement}
 use Rattle.field.proofs.read.Tie as tie
-use Rattle.field.proofs.read.Reads as reads
-use Rattle.field.proofs.read.Lts as lts
 
 abbrev Inv-loop : tie.InvT-loop
 Inv-loop s at width v₀ i₀ v i = (i ≤ width) × ((v < 256 ^ i) × (v ≡ beOf (part at i s)))
@@ -24,27 +22,12 @@ loop-holds c = (omega arith, (omega arith, refl))
 mul-v : tie.Need-mul-v Inv-loop μ-loop
 mul-v c = omega (arith, below-eight (c .before .loop .v) (c .before .loop .i) (omega arith) (omega arith))
 
-add-v : tie.Need-add-v Inv-loop μ-loop
-add-v c = omega arith
-
-shared-slice-read-v : tie.Need-shared-slice-read-v Inv-loop μ-loop
-shared-slice-read-v c = omega arith
-
 -- the byte that is read is below 256
 byte : (c : tie.After-shared-slice-known Inv-loop μ-loop) → getD (c .before .before .before .args .s .now) (c .before .before .before .args .at + c .before .before .loop .i) 0 < 256
 byte c = omega (arith, c .shared-slice-known .given (c .before .before .before .args .at + c .before .before .loop .i))
 
-cast-v : tie.Need-cast-v Inv-loop μ-loop
-cast-v c = omega (arith, byte c)
-
 add-v-2 : tie.Need-add-v-2 Inv-loop μ-loop
 add-v-2 c = omega (arith, byte c, below-eight (c .before .before .loop .v) (c .before .before .loop .i) (omega arith) (omega arith))
-
-add-i : tie.Need-add-i Inv-loop μ-loop
-add-i c = omega arith
-
-loop-less : tie.Need-loop-less Inv-loop μ-loop
-loop-less c = omega arith
 
 loop-again : tie.Need-loop-again Inv-loop μ-loop
 loop-again c =
@@ -65,11 +48,11 @@ read-spec =
     μ-loop
     loop-holds
     mul-v
-    add-v
-    shared-slice-read-v
-    cast-v
+    (λ c. omega arith)
+    (λ c. omega arith)
+    (λ c. omega (arith, byte c))
     add-v-2
-    add-i
-    loop-less
+    (λ c. omega arith)
+    (λ c. omega arith)
     loop-again
     returns)

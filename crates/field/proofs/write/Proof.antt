@@ -1,13 +1,11 @@
 -- `field::write` meets its contract: what is left to store, at the slice as it is, is what was to be stored at first. Assumes nothing.
 use mathlib.Core.Path.{_≡_, refl, _∙_, sym}
-use Prim.Native.Nat.{_≤_, _-_}
+use Prim.Native.Nat.{_≤_}
 use native.Mathlib.Omega.{arith}
 use lib.ListN.{length, length-set}
 use Rattle.field.proofs.Laws.{leftTo, store-step, store-all, store-none}
 use Rattle.field.proofs.write.Statement.{statement}
 use Rattle.field.proofs.write.Tie as tie
-use Rattle.field.proofs.write.Reads as reads
-use Rattle.field.proofs.write.Lts as lts
 
 abbrev Inv-loop : tie.InvT-loop
 Inv-loop s₀ at width value v₀ i₀ s v i = (i ≤ width) × ((length s ≡ length s₀) × (leftTo at i v s ≡ leftTo at width value s₀))
@@ -17,21 +15,6 @@ abbrev μ-loop : tie.MeasureT-loop
 
 loop-holds : tie.Need-loop-holds Inv-loop μ-loop
 loop-holds c = (omega arith, (refl, refl))
-
-sub-i : tie.Need-sub-i Inv-loop μ-loop
-sub-i c = omega arith
-
-cast-s : tie.Need-cast-s Inv-loop μ-loop
-cast-s c = omega arith
-
-add-s : tie.Need-add-s Inv-loop μ-loop
-add-s c = omega arith
-
-slice-write-s : tie.Need-slice-write-s Inv-loop μ-loop
-slice-write-s c = omega arith
-
-loop-less : tie.Need-loop-less Inv-loop μ-loop
-loop-less c = omega arith
 
 loop-again : tie.Need-loop-again Inv-loop μ-loop
 loop-again c =
@@ -49,4 +32,4 @@ returns c =
     sym (store-none (a .at) (l .v) (l .s)) ∙ rw e at (l .inv .1 .1) ∙ store-all (a .at) (a .width) (a .value) (a .s .now)
 
 pub write-spec : {M : Type 1} → statement M
-write-spec = tie.close (tie.spec Inv-loop μ-loop loop-holds sub-i cast-s add-s slice-write-s loop-less loop-again same-length returns)
+write-spec = tie.close (tie.spec Inv-loop μ-loop loop-holds (λ c. omega arith) (λ c. omega arith) (λ c. omega arith) (λ c. omega arith) (λ c. omega arith) loop-again same-length returns)

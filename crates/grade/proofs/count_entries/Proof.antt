@@ -10,8 +10,6 @@ use Rattle.base.proofs.Below.{one-more}
 use Rattle.grade.proofs.Count.{ends}
 use Rattle.grade.proofs.count_entries.Statement.{statement}
 use Rattle.grade.proofs.count_entries.Tie as tie
-use Rattle.grade.proofs.count_entries.Reads as reads
-use Rattle.grade.proofs.count_entries.Lts as lts
 
 abbrev Inv-loop : tie.InvT-loop
 Inv-loop map n k₀ k = (k ≤ n) × ((j : ℕ) → j < k → firstAt 3 map j ≢ noWord)
@@ -22,26 +20,11 @@ abbrev μ-loop : tie.MeasureT-loop
 loop-holds : tie.Need-loop-holds Inv-loop μ-loop
 loop-holds c = (omega arith, λ j h. absurd (omega arith))
 
-mul-if1 : tie.Need-mul-if1 Inv-loop μ-loop
-mul-if1 c = search needs
-
-mul-if1-2 : tie.Need-mul-if1-2 Inv-loop μ-loop
-mul-if1-2 c = search needs
-
-shared-slice-read-if1 : tie.Need-shared-slice-read-if1 Inv-loop μ-loop
-shared-slice-read-if1 c = search needs
-
 returns : tie.Need-returns Inv-loop μ-loop
 returns c =
     let l = c .before .before .before .loop in
     let a = c .before .before .before .before .args in
     λ g vs e. ends g (a .n) vs (a .map .now) (c .before .before .before .before .pre) e (l .k) (omega arith) (l .inv .1) (λ h. c .if1 .taken)
-
-add-k : tie.Need-add-k Inv-loop μ-loop
-add-k c = search needs
-
-loop-less : tie.Need-loop-less Inv-loop μ-loop
-loop-less c = search needs
 
 loop-again : tie.Need-loop-again Inv-loop μ-loop
 loop-again c =
@@ -63,11 +46,11 @@ count-entries-spec =
     Inv-loop
     μ-loop
     loop-holds
-    mul-if1
-    mul-if1-2
-    shared-slice-read-if1
+    (λ c. search needs)
+    (λ c. search needs)
+    (λ c. search needs)
     returns
-    add-k
-    loop-less
+    (λ c. search needs)
+    (λ c. search needs)
     loop-again
     returns-2)

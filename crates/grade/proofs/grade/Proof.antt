@@ -6,26 +6,16 @@ use borrow.Author.Tests.{eq-eqb, ne-eqb, not-true, not-false}
 use Rattle.grade.proofs.Told.{graded}
 use Rattle.grade.proofs.grade.Statement.{statement}
 use Rattle.grade.proofs.grade.Tie as tie
-use Rattle.grade.proofs.grade.Reads as reads
-use Rattle.grade.proofs.grade.Lts as lts
-use Rattle.grade.proofs.pebs_sound.Reads as pebs-sound-reads
-use Rattle.grade.proofs.states_sound.Reads as states-sound-reads
 
 returns : tie.Need-returns
 returns c =
     let a = c .before .before .before .args in
     λ g vs o. graded g (a .n) vs (a .pebs .now) (a .states .now) (a .mark) o false _ _ (ne-eqb _ _ (c .if1 .taken)) refl refl
 
-pebs-sound-requires : tie.Need-pebs-sound-requires
-pebs-sound-requires c κs = search needs
-
 returns-2 : tie.Need-returns-2
 returns-2 c =
     let a = c .before .before .before .before .before .args in
     λ g vs o. graded g (a .n) vs (a .pebs .now) (a .states .now) (a .mark) o true false _ (eq-eqb _ _ (c .before .before .if1 .left)) (sym (c .before .pebs-sound .ensures) ∙ not-true _ (c .if2 .taken)) refl
-
-states-sound-requires : tie.Need-states-sound-requires
-states-sound-requires c κs = search needs
 
 returns-3 : tie.Need-returns-3
 returns-3 c =
@@ -40,4 +30,4 @@ returns-4 c =
 pub grade-spec : {M : Type 1} → statement M
 grade-spec =
     tie.close
-    (tie.spec returns pebs-sound-requires returns-2 states-sound-requires returns-3 returns-4)
+    (tie.spec returns (λ c κs. search needs) returns-2 (λ c κs. search needs) returns-3 returns-4)

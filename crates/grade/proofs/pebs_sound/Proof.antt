@@ -11,9 +11,6 @@ use Rattle.base.proofs.Below.{one-more}
 use Rattle.grade.proofs.Laws.{all-fails}
 use Rattle.grade.proofs.pebs_sound.Statement.{statement}
 use Rattle.grade.proofs.pebs_sound.Tie as tie
-use Rattle.grade.proofs.pebs_sound.Reads as reads
-use Rattle.grade.proofs.pebs_sound.Lts as lts
-use Rattle.grade.proofs.peb_sound.Reads as peb-sound-reads
 
 abbrev Inv-loop : tie.InvT-loop
 Inv-loop pebs n i₀ i = (i ≤ n) × ((j : ℕ) → j < i → soundPeb pebs j ≡ true)
@@ -24,20 +21,11 @@ abbrev μ-loop : tie.MeasureT-loop
 loop-holds : tie.Need-loop-holds Inv-loop μ-loop
 loop-holds c = (omega arith, λ j h. absurd (omega arith))
 
-peb-sound-requires : tie.Need-peb-sound-requires Inv-loop μ-loop
-peb-sound-requires c κs = search needs
-
 returns : tie.Need-returns Inv-loop μ-loop
 returns c =
     let l = c .before .before .before .loop in
     let a = c .before .before .before .before .before .args in
     all-fails (a .n) (soundPeb (a .pebs .now)) (l .i) (omega arith) (sym (c .before .peb-sound .ensures) ∙ not-true _ (c .if1 .taken))
-
-add-i : tie.Need-add-i Inv-loop μ-loop
-add-i c = search needs
-
-loop-less : tie.Need-loop-less Inv-loop μ-loop
-loop-less c = search needs
 
 loop-again : tie.Need-loop-again Inv-loop μ-loop
 loop-again c =
@@ -59,9 +47,9 @@ pebs-sound-spec =
     Inv-loop
     μ-loop
     loop-holds
-    peb-sound-requires
+    (λ c κs. search needs)
     returns
-    add-i
-    loop-less
+    (λ c. search needs)
+    (λ c. search needs)
     loop-again
     returns-2)

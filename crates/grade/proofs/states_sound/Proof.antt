@@ -11,8 +11,6 @@ use Rattle.base.proofs.Below.{one-more}
 use Rattle.grade.proofs.Laws.{all-fails}
 use Rattle.grade.proofs.states_sound.Statement.{statement}
 use Rattle.grade.proofs.states_sound.Tie as tie
-use Rattle.grade.proofs.states_sound.Reads as reads
-use Rattle.grade.proofs.states_sound.Lts as lts
 
 abbrev Inv-loop : tie.InvT-loop
 Inv-loop states v₀ v = (v ≤ 128) × ((j : ℕ) → j < v → soundState states j ≡ true)
@@ -23,35 +21,17 @@ abbrev μ-loop : tie.MeasureT-loop
 loop-holds : tie.Need-loop-holds Inv-loop μ-loop
 loop-holds c = (omega arith, λ j h. absurd (omega arith))
 
-mul-if1 : tie.Need-mul-if1 Inv-loop μ-loop
-mul-if1 c = search needs
-
-shared-slice-read-if1 : tie.Need-shared-slice-read-if1 Inv-loop μ-loop
-shared-slice-read-if1 c = search needs
-
 returns : tie.Need-returns Inv-loop μ-loop
 returns c =
     let l = c .before .before .before .loop in
     let a = c .before .before .before .before .args in
     all-fails 128 (soundState (a .states .now)) (l .v) (omega arith) (rw (eq-eqb _ _ (c .if1 .taken)))
 
-mul-if2 : tie.Need-mul-if2 Inv-loop μ-loop
-mul-if2 c = search needs
-
-shared-slice-read-if2 : tie.Need-shared-slice-read-if2 Inv-loop μ-loop
-shared-slice-read-if2 c = search needs
-
 returns-2 : tie.Need-returns-2 Inv-loop μ-loop
 returns-2 c =
     let l = c .before .before .before .before .before .loop in
     let a = c .before .before .before .before .before .before .args in
     all-fails 128 (soundState (a .states .now)) (l .v) (omega arith) (rw (ne-eqb _ _ (c .before .before .if1 .left), eq-eqb _ _ (c .if2 .taken)))
-
-add-v : tie.Need-add-v Inv-loop μ-loop
-add-v c = search needs
-
-loop-less : tie.Need-loop-less Inv-loop μ-loop
-loop-less c = search needs
 
 loop-again : tie.Need-loop-again Inv-loop μ-loop
 loop-again c =
@@ -73,13 +53,13 @@ states-sound-spec =
     Inv-loop
     μ-loop
     loop-holds
-    mul-if1
-    shared-slice-read-if1
+    (λ c. search needs)
+    (λ c. search needs)
     returns
-    mul-if2
-    shared-slice-read-if2
+    (λ c. search needs)
+    (λ c. search needs)
     returns-2
-    add-v
-    loop-less
+    (λ c. search needs)
+    (λ c. search needs)
     loop-again
     returns-3)

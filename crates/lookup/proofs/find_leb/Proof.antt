@@ -11,9 +11,6 @@ use Rattle.lookup.specs.Lookup.{volumeWord, lebWord}
 use Rattle.lookup.proofs.Laws.{map-short, no-entry, first-entry}
 use Rattle.lookup.proofs.find_leb.Statement.{statement}
 use Rattle.lookup.proofs.find_leb.Tie as tie
-use Rattle.lookup.proofs.find_leb.Reads as reads
-use Rattle.lookup.proofs.find_leb.Lts as lts
-use Rattle.lookup.proofs.is_entry.Reads as is-entry-reads
 
 abbrev Inv-loop : tie.InvT-loop
 Inv-loop map entries volume lnum count i₀ i = (i ≤ count) × ((j : ℕ) → j < i → eqb (volumeWord map j) volume && eqb (lebWord map j) lnum ≡ false)
@@ -21,41 +18,17 @@ Inv-loop map entries volume lnum count i₀ i = (i ≤ count) × ((j : ℕ) → 
 abbrev μ-loop : tie.MeasureT-loop
 μ-loop map entries volume lnum count i₀ i = count - i
 
-mul-if1 : tie.Need-mul-if1 Inv-loop μ-loop
-mul-if1 c = search needs
-
 returns : tie.Need-returns Inv-loop μ-loop
 returns c = let a = c .before .before .args in map-short (a .map .now) (a .entries) (a .volume) (a .lnum) (c .if1 .taken)
 
 loop-holds : tie.Need-loop-holds Inv-loop μ-loop
 loop-holds c = (omega arith, λ j h. absurd (omega arith))
 
-is-entry-requires : tie.Need-is-entry-requires Inv-loop μ-loop
-is-entry-requires c κs = search needs
-
-mul-t12 : tie.Need-mul-t12 Inv-loop μ-loop
-mul-t12 c = search needs
-
-add-t13 : tie.Need-add-t13 Inv-loop μ-loop
-add-t13 c = search needs
-
-mul-t14 : tie.Need-mul-t14 Inv-loop μ-loop
-mul-t14 c = search needs
-
-shared-slice-read-t16 : tie.Need-shared-slice-read-t16 Inv-loop μ-loop
-shared-slice-read-t16 c = search needs
-
 returns-2 : tie.Need-returns-2 Inv-loop μ-loop
 returns-2 c =
     let d = c .before .before .before .before in
     let a = d .before .before .before .args in
     first-entry (a .map .now) (a .entries) (a .volume) (a .lnum) (omega (arith, d .before .if1 .left)) (d .loop .i) (omega arith) (d .loop .inv .1) (sym (c .before .before .is-entry .ensures) ∙ c .before .if2 .taken)
-
-add-i : tie.Need-add-i Inv-loop μ-loop
-add-i c = search needs
-
-loop-less : tie.Need-loop-less Inv-loop μ-loop
-loop-less c = search needs
 
 loop-again : tie.Need-loop-again Inv-loop μ-loop
 loop-again c =
@@ -75,16 +48,16 @@ find-leb-spec =
     (tie.spec
     Inv-loop
     μ-loop
-    mul-if1
+    (λ c. search needs)
     returns
     loop-holds
-    is-entry-requires
-    mul-t12
-    add-t13
-    mul-t14
-    shared-slice-read-t16
+    (λ c κs. search needs)
+    (λ c. search needs)
+    (λ c. search needs)
+    (λ c. search needs)
+    (λ c. search needs)
     returns-2
-    add-i
-    loop-less
+    (λ c. search needs)
+    (λ c. search needs)
     loop-again
     returns-3)

@@ -9,19 +9,12 @@ use Rattle.choice.proofs.Chains.{Along, along-from, along-next, walk-on
 use Rattle.base.proofs.Below.{any-intro, none-intro}
 use Rattle.choice.proofs.chain.has_lower_copy.Statement.{statement}
 use Rattle.choice.proofs.chain.has_lower_copy.Tie as tie
-use Rattle.choice.proofs.chain.has_lower_copy.Reads as reads
-use Rattle.choice.proofs.chain.has_lower_copy.Lts as lts
-use Rattle.choice.proofs.chain.link.Reads as link-reads
-use Rattle.choice.proofs.repeat.same_leb.Reads as same-leb-reads
 
 abbrev Inv-loop : tie.InvT-loop
 Inv-loop map n i above₀ j₀ above j = (Along map i i above j) × ((k : ℕ) → above ≤ k → k < i → sameLeb map i k ≡ false)
 
 abbrev μ-loop : tie.MeasureT-loop
 μ-loop map n i above₀ j₀ above j = above
-
-link-requires : tie.Need-link-requires Inv-loop μ-loop
-link-requires c κs = search needs
 
 loop-holds : tie.Need-loop-holds Inv-loop μ-loop
 loop-holds c =
@@ -40,9 +33,6 @@ returns c =
 
 link-requires-2 : tie.Need-link-requires-2 Inv-loop μ-loop
 link-requires-2 c κs = let r = c .before .before .before .loop .inv .0 .range in search needs
-
-loop-less : tie.Need-loop-less Inv-loop μ-loop
-loop-less c = search needs
 
 loop-again : tie.Need-loop-again Inv-loop μ-loop
 loop-again c =
@@ -67,11 +57,11 @@ has-lower-copy-spec =
     (tie.spec
     Inv-loop
     μ-loop
-    link-requires
+    (λ c κs. search needs)
     loop-holds
     same-leb-requires
     returns
     link-requires-2
-    loop-less
+    (λ c. search needs)
     loop-again
     returns-2)

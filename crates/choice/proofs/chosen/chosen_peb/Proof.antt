@@ -9,12 +9,6 @@ use Rattle.choice.proofs.Chains.{head-near}
 use Rattle.choice.proofs.Best.{Down, has-copy, is-chosen, down-first, down-next, lowest}
 use Rattle.choice.proofs.chosen.chosen_peb.Statement.{statement}
 use Rattle.choice.proofs.chosen.chosen_peb.Tie as tie
-use Rattle.choice.proofs.chosen.chosen_peb.Reads as reads
-use Rattle.choice.proofs.chosen.chosen_peb.Lts as lts
-use Rattle.choice.proofs.chain.head.Reads as head-reads
-use Rattle.choice.proofs.chosen.highest_up_to.Reads as highest-up-to-reads
-use Rattle.copies.proofs.is_sound.Reads as is-sound-reads
-use Rattle.copies.proofs.header_field.Reads as header-field-reads
 
 abbrev Inv-loop : tie.InvT-loop
 Inv-loop image g n map heads i top at₀ at = Down g image n map i at

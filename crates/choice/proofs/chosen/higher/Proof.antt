@@ -4,10 +4,6 @@ use borrow.Author.Tests.{eq-eqb, ne-eqb, lt-ltb, le-ltb, le-leb, lt-leb, not-tru
 use Rattle.choice.proofs.Words.{within}
 use Rattle.choice.proofs.chosen.higher.Statement.{statement}
 use Rattle.choice.proofs.chosen.higher.Tie as tie
-use Rattle.choice.proofs.chosen.higher.Reads as reads
-use Rattle.choice.proofs.chosen.higher.Lts as lts
-use Rattle.copies.proofs.header_field.Reads as header-field-reads
-use Rattle.choice.proofs.repeat.same_leb.Reads as same-leb-reads
 
 same-leb-requires : tie.Need-same-leb-requires
 same-leb-requires c κs =

@@ -12,10 +12,6 @@ use Rattle.choice.proofs.Chains.{Along, along-from, along-next, walk-on
 use Rattle.choice.proofs.Repeats.{Fresh, no-repeat, a-repeat}
 use Rattle.choice.proofs.repeat.first_repeat.Statement.{statement}
 use Rattle.choice.proofs.repeat.first_repeat.Tie as tie
-use Rattle.choice.proofs.repeat.first_repeat.Reads as reads
-use Rattle.choice.proofs.repeat.first_repeat.Lts as lts
-use Rattle.choice.proofs.chain.link.Reads as link-reads
-use Rattle.choice.proofs.repeat.is_repeat.Reads as is-repeat-reads
 
 abbrev Inv-loop : tie.InvT-loop
 Inv-loop image g n map i above₀ j₀ above j = (Along map i i above j) × ((m : ℕ) → above ≤ m → m < i → repeats (copies (viewsOf g image) i) (copies (viewsOf g image) m) ≡ false)
@@ -32,9 +28,6 @@ abbrev μ-pebs : tie.MeasureT-pebs
 pebs-holds : tie.Need-pebs-holds Inv-loop μ-loop Inv-pebs μ-pebs
 pebs-holds c = (omega arith, λ k h. absurd (omega arith))
 
-link-requires : tie.Need-link-requires Inv-loop μ-loop Inv-pebs μ-pebs
-link-requires c κs = search needs
-
 loop-holds : tie.Need-loop-holds Inv-loop μ-loop Inv-pebs μ-pebs
 loop-holds c =
     let d = c .before .before .before .before .before in
@@ -49,9 +42,6 @@ is-repeat-requires c κs =
 link-requires-2 : tie.Need-link-requires-2 Inv-loop μ-loop Inv-pebs μ-pebs
 link-requires-2 c κs = let r = c .before .before .before .loop .inv .0 .range in search needs
 
-loop-less : tie.Need-loop-less Inv-loop μ-loop Inv-pebs μ-pebs
-loop-less c = search needs
-
 loop-again : tie.Need-loop-again Inv-loop μ-loop Inv-pebs μ-pebs
 loop-again c =
     let d = c .before .before .before .before .before .before .before .before .before .before in
@@ -64,12 +54,6 @@ loop-again c =
       rw (c .link2 .ensures) (along-next (l .inv .0) (d .pre .1) (omega arith) (omega arith)),
       walk-on (l .inv .0) (λ (m : ℕ). repeats (cs i) (cs m) ≡ false) (l .inv .1) (λ x k f. other-copy (d .args .map .now) i x f (d .pre .0) (omega arith) (omega arith)) e,
     )
-
-add-i : tie.Need-add-i Inv-loop μ-loop Inv-pebs μ-pebs
-add-i c = search needs
-
-pebs-less : tie.Need-pebs-less Inv-loop μ-loop Inv-pebs μ-pebs
-pebs-less c = search needs
 
 pebs-again : tie.Need-pebs-again Inv-loop μ-loop Inv-pebs μ-pebs
 pebs-again c =
@@ -109,14 +93,14 @@ first-repeat-spec =
     Inv-pebs
     μ-pebs
     pebs-holds
-    link-requires
+    (λ c κs. search needs)
     loop-holds
     is-repeat-requires
     link-requires-2
-    loop-less
+    (λ c. search needs)
     loop-again
-    add-i
-    pebs-less
+    (λ c. search needs)
+    (λ c. search needs)
     pebs-again
     returns
     returns-2)

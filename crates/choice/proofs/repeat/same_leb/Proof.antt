@@ -1,77 +1,32 @@
 -- `choice::repeat::same_leb` meets its contract. Assumes nothing.
 use mathlib.Core.Bool.{and-true, and-false}
-use borrow.Author.Tests.{eq-eqb, ne-eqb}
 use borrow.Author.Needs.{needs}
+use borrow.Author.Tests.{eq-eqb, ne-eqb}
 use Rattle.choice.proofs.repeat.same_leb.Statement.{statement}
 use Rattle.choice.proofs.repeat.same_leb.Tie as tie
-use Rattle.choice.proofs.repeat.same_leb.Reads as reads
-use Rattle.choice.proofs.repeat.same_leb.Lts as lts
-
-mul-if1 : tie.Need-mul-if1
-mul-if1 c = search needs
-
-add-if1 : tie.Need-add-if1
-add-if1 c = search needs
-
-mul-if1-2 : tie.Need-mul-if1-2
-mul-if1-2 c = search needs
-
-shared-slice-read-if1 : tie.Need-shared-slice-read-if1
-shared-slice-read-if1 c = search needs
-
-mul-if1-3 : tie.Need-mul-if1-3
-mul-if1-3 c = search needs
-
-add-if1-2 : tie.Need-add-if1-2
-add-if1-2 c = search needs
-
-mul-if1-4 : tie.Need-mul-if1-4
-mul-if1-4 c = search needs
-
-shared-slice-read-if1-2 : tie.Need-shared-slice-read-if1-2
-shared-slice-read-if1-2 c = search needs
 
 returns : tie.Need-returns
-returns c = rw (ne-eqb _ _ (c .if1 .taken), and-false)
-
-mul-result : tie.Need-mul-result
-mul-result c = search needs
-
-mul-result-2 : tie.Need-mul-result-2
-mul-result-2 c = search needs
-
-shared-slice-read-result : tie.Need-shared-slice-read-result
-shared-slice-read-result c = search needs
-
-mul-result-3 : tie.Need-mul-result-3
-mul-result-3 c = search needs
-
-mul-result-4 : tie.Need-mul-result-4
-mul-result-4 c = search needs
-
-shared-slice-read-result-2 : tie.Need-shared-slice-read-result-2
-shared-slice-read-result-2 c = search needs
+returns c = rw (← (c .before .before .lnum-word .ensures), ← (c .before .lnum-word2 .ensures), ne-eqb _ _ (c .if1 .taken), and-false)
 
 returns-2 : tie.Need-returns-2
-returns-2 c = rw (eq-eqb _ _ (c .before .before .if1 .left), and-true)
+returns-2 c =
+    let b = c .before .before in
+    rw (
+      ← (b .before .before .lnum-word .ensures),
+      ← (b .before .lnum-word2 .ensures),
+      eq-eqb _ _ (b .if1 .left),
+      and-true,
+      ← (c .before .volume-word .ensures),
+      ← (c .volume-word2 .ensures),
+    )
 
 pub same-leb-spec : {M : Type 1} → statement M
 same-leb-spec =
     tie.close
     (tie.spec
-    mul-if1
-    add-if1
-    mul-if1-2
-    shared-slice-read-if1
-    mul-if1-3
-    add-if1-2
-    mul-if1-4
-    shared-slice-read-if1-2
+    (λ c κs. search needs)
+    (λ c κs. search needs)
     returns
-    mul-result
-    mul-result-2
-    shared-slice-read-result
-    mul-result-3
-    mul-result-4
-    shared-slice-read-result-2
+    (λ c κs. search needs)
+    (λ c κs. search needs)
     returns-2)

@@ -8,12 +8,6 @@ use borrow.Author.Needs.{needs}
 use Rattle.crc32.proofs.fold.by_folding.Statement.{statement}
 use Rattle.crc32.proofs.fold.by_folding.Tie as tie
 
-array-write-kept : tie.Need-array-write-kept
-array-write-kept c = search needs
-
-in-blocks-requires : tie.Need-in-blocks-requires
-in-blocks-requires c κs = search needs
-
 returns : tie.Need-returns
 returns c =
     let a = c .before .before .before .args in
@@ -23,6 +17,6 @@ pub by-folding-spec : {M : Type 1} → statement M
 by-folding-spec =
     tie.close
     (tie.spec
-    array-write-kept
-    in-blocks-requires
+    (λ c. search needs)
+    (λ c κs. search needs)
     returns)

@@ -22,39 +22,6 @@ abbrev μ-loop : tie.MeasureT-loop
 loop-holds : tie.Need-loop-holds Inv-loop μ-loop
 loop-holds c = (c .before .pre .1 .1, (c .before .pre .1 .0, refl))
 
-sub-loop : tie.Need-sub-loop Inv-loop μ-loop
-sub-loop c = search needs
-
-sub-block-length : tie.Need-sub-block-length Inv-loop μ-loop
-sub-block-length c = search needs
-
-block-length-requires : tie.Need-block-length-requires Inv-loop μ-loop
-block-length-requires c κs = search needs
-
-sub-fold-block : tie.Need-sub-fold-block Inv-loop μ-loop
-sub-fold-block c = search needs
-
-part-fold-block-start : tie.Need-part-fold-block-start Inv-loop μ-loop
-part-fold-block-start c = search needs
-
-part-fold-block-end : tie.Need-part-fold-block-end Inv-loop μ-loop
-part-fold-block-end c = search needs
-
-fold-block-requires : tie.Need-fold-block-requires Inv-loop μ-loop
-fold-block-requires c κs = search needs
-
-slide-requires : tie.Need-slide-requires Inv-loop μ-loop
-slide-requires c κs = search needs
-
-mul-i : tie.Need-mul-i Inv-loop μ-loop
-mul-i c = search needs
-
-add-i : tie.Need-add-i Inv-loop μ-loop
-add-i c = search needs
-
-loop-less : tie.Need-loop-less Inv-loop μ-loop
-loop-less c = search needs
-
 loop-again : tie.Need-loop-again Inv-loop μ-loop
 loop-again c =
     let l = c .before .before .before .before .before .before .before .loop in
@@ -62,18 +29,6 @@ loop-again c =
     let n = c .before .before .before .before .before .block-length .result in
     let f = c .before .before .fold-block in
     (omega arith, (c .slide .ensures .0, block-done s (l .kept) (f .last .0) (c .slide .last .0) (l .i) n (c .slide .ensures .1) (rw to-end at (f .ensures .1)) ∙ l .inv .1 .1))
-
-clear-requires : tie.Need-clear-requires Inv-loop μ-loop
-clear-requires c κs = search needs
-
-sub-reduce : tie.Need-sub-reduce Inv-loop μ-loop
-sub-reduce c = search needs
-
-part-reduce-start : tie.Need-part-reduce-start Inv-loop μ-loop
-part-reduce-start c = search needs
-
-part-reduce-end : tie.Need-part-reduce-end Inv-loop μ-loop
-part-reduce-end c = search needs
 
 reduce-requires : tie.Need-reduce-requires Inv-loop μ-loop
 reduce-requires c κs =
@@ -97,21 +52,21 @@ in-blocks-spec =
     Inv-loop
     μ-loop
     loop-holds
-    sub-loop
-    sub-block-length
-    block-length-requires
-    sub-fold-block
-    part-fold-block-start
-    part-fold-block-end
-    fold-block-requires
-    slide-requires
-    mul-i
-    add-i
-    loop-less
+    (λ c. search needs)
+    (λ c. search needs)
+    (λ c κs. search needs)
+    (λ c. search needs)
+    (λ c. search needs)
+    (λ c. search needs)
+    (λ c κs. search needs)
+    (λ c κs. search needs)
+    (λ c. search needs)
+    (λ c. search needs)
+    (λ c. search needs)
     loop-again
-    clear-requires
-    sub-reduce
-    part-reduce-start
-    part-reduce-end
+    (λ c κs. search needs)
+    (λ c. search needs)
+    (λ c. search needs)
+    (λ c. search needs)
     reduce-requires
     returns)

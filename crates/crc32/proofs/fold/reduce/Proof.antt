@@ -23,30 +23,6 @@ abbrev μ-loop : tie.MeasureT-loop
 loop-holds : tie.Need-loop-holds Inv-loop μ-loop
 loop-holds c = (omega arith, (refl, rw xor-zero-r))
 
-sum-at-requires : tie.Need-sum-at-requires Inv-loop μ-loop
-sum-at-requires c κs = search needs
-
-add-sum-at : tie.Need-add-sum-at Inv-loop μ-loop
-add-sum-at c = search needs
-
-sum-at-requires-2 : tie.Need-sum-at-requires-2 Inv-loop μ-loop
-sum-at-requires-2 c κs = search needs
-
-add-sum-at-2 : tie.Need-add-sum-at-2 Inv-loop μ-loop
-add-sum-at-2 c = search needs
-
-sum-at-requires-3 : tie.Need-sum-at-requires-3 Inv-loop μ-loop
-sum-at-requires-3 c κs = search needs
-
-three-requires : tie.Need-three-requires Inv-loop μ-loop
-three-requires c κs = search needs
-
-add-j : tie.Need-add-j Inv-loop μ-loop
-add-j c = search needs
-
-loop-less : tie.Need-loop-less Inv-loop μ-loop
-loop-less c = search needs
-
 loop-again : tie.Need-loop-again Inv-loop μ-loop
 loop-again c =
     let s = c .before .before .before .before .before .before in
@@ -65,18 +41,6 @@ loop-again c =
     let r3 = reduce-turn (a .kept .now) (a .bytes .now) (l .j + 2) (k3 .result) bs (k3 .ensures) c2 (omega arith) (omega arith) in
     (omega arith, (omega arith, rw (c .three .ensures) (rw e3 at r3 ∙ rw e2 at r2 ∙ r1 ∙ l .inv .1 .1)))
 
-sub-by-words : tie.Need-sub-by-words Inv-loop μ-loop
-sub-by-words c = search needs
-
-part-by-words-start : tie.Need-part-by-words-start Inv-loop μ-loop
-part-by-words-start c = search needs
-
-part-by-words-end : tie.Need-part-by-words-end Inv-loop μ-loop
-part-by-words-end c = search needs
-
-by-words-requires : tie.Need-by-words-requires Inv-loop μ-loop
-by-words-requires c κs = search needs
-
 returns : tie.Need-returns Inv-loop μ-loop
 returns c =
     let l = c .before .before .before .loop in
@@ -92,17 +56,17 @@ reduce-spec =
     Inv-loop
     μ-loop
     loop-holds
-    sum-at-requires
-    add-sum-at
-    sum-at-requires-2
-    add-sum-at-2
-    sum-at-requires-3
-    three-requires
-    add-j
-    loop-less
+    (λ c κs. search needs)
+    (λ c. search needs)
+    (λ c κs. search needs)
+    (λ c. search needs)
+    (λ c κs. search needs)
+    (λ c κs. search needs)
+    (λ c. search needs)
+    (λ c. search needs)
     loop-again
-    sub-by-words
-    part-by-words-start
-    part-by-words-end
-    by-words-requires
+    (λ c. search needs)
+    (λ c. search needs)
+    (λ c. search needs)
+    (λ c κs. search needs)
     returns)

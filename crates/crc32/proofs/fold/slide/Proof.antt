@@ -18,27 +18,6 @@ abbrev μ-loop : tie.MeasureT-loop
 loop-holds : tie.Need-loop-holds Inv-loop μ-loop
 loop-holds c = (omega arith, (c .pre .0, (refl, refl)))
 
-add-kept : tie.Need-add-kept Inv-loop μ-loop
-add-kept c = search needs
-
-mul-kept : tie.Need-mul-kept Inv-loop μ-loop
-mul-kept c = search needs
-
-element-copy-out-kept : tie.Need-element-copy-out-kept Inv-loop μ-loop
-element-copy-out-kept c = search needs
-
-mul-kept-2 : tie.Need-mul-kept-2 Inv-loop μ-loop
-mul-kept-2 c = search needs
-
-element-write-kept : tie.Need-element-write-kept Inv-loop μ-loop
-element-write-kept c = search needs
-
-add-j : tie.Need-add-j Inv-loop μ-loop
-add-j c = search needs
-
-loop-less : tie.Need-loop-less Inv-loop μ-loop
-loop-less c = search needs
-
 loop-again : tie.Need-loop-again Inv-loop μ-loop
 loop-again c =
     let l = c .before .before .loop in
@@ -69,12 +48,12 @@ slide-spec =
     Inv-loop
     μ-loop
     loop-holds
-    add-kept
-    mul-kept
-    element-copy-out-kept
-    mul-kept-2
-    element-write-kept
-    add-j
-    loop-less
+    (λ c. search needs)
+    (λ c. search needs)
+    (λ c. search needs)
+    (λ c. search needs)
+    (λ c. search needs)
+    (λ c. search needs)
+    (λ c. search needs)
     loop-again
     returns)

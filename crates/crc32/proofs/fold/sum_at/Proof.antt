@@ -8,45 +8,6 @@ use borrow.Author.Needs.{needs}
 use Rattle.crc32.proofs.fold.sum_at.Statement.{statement}
 use Rattle.crc32.proofs.fold.sum_at.Tie as tie
 
-add-word-at : tie.Need-add-word-at
-add-word-at c = search needs
-
-word-at-requires : tie.Need-word-at-requires
-word-at-requires c κs = search needs
-
-add-word-at-2 : tie.Need-add-word-at-2
-add-word-at-2 c = search needs
-
-word-at-requires-2 : tie.Need-word-at-requires-2
-word-at-requires-2 c κs = search needs
-
-word-at-requires-3 : tie.Need-word-at-requires-3
-word-at-requires-3 c κs = search needs
-
-add-word-at-3 : tie.Need-add-word-at-3
-add-word-at-3 c = search needs
-
-word-at-requires-4 : tie.Need-word-at-requires-4
-word-at-requires-4 c κs = search needs
-
-add-word-at-4 : tie.Need-add-word-at-4
-add-word-at-4 c = search needs
-
-word-at-requires-5 : tie.Need-word-at-requires-5
-word-at-requires-5 c κs = search needs
-
-add-word-at-5 : tie.Need-add-word-at-5
-add-word-at-5 c = search needs
-
-word-at-requires-6 : tie.Need-word-at-requires-6
-word-at-requires-6 c κs = search needs
-
-mul-read-four : tie.Need-mul-read-four
-mul-read-four c = search needs
-
-read-four-requires : tie.Need-read-four-requires
-read-four-requires c κs = search needs
-
 returns : tie.Need-returns
 returns c =
     let k = c .before .before .before .before .before .before in
@@ -64,17 +25,17 @@ pub sum-at-spec : {M : Type 1} → statement M
 sum-at-spec =
     tie.close
     (tie.spec
-    add-word-at
-    word-at-requires
-    add-word-at-2
-    word-at-requires-2
-    word-at-requires-3
-    add-word-at-3
-    word-at-requires-4
-    add-word-at-4
-    word-at-requires-5
-    add-word-at-5
-    word-at-requires-6
-    mul-read-four
-    read-four-requires
+    (λ c. search needs)
+    (λ c κs. search needs)
+    (λ c. search needs)
+    (λ c κs. search needs)
+    (λ c κs. search needs)
+    (λ c. search needs)
+    (λ c κs. search needs)
+    (λ c. search needs)
+    (λ c κs. search needs)
+    (λ c. search needs)
+    (λ c κs. search needs)
+    (λ c. search needs)
+    (λ c κs. search needs)
     returns)

@@ -17,24 +17,6 @@ Inv-loop t state bytes c₀ i₀ c i = (i ≤ length bytes) × (crcFrom c (drop 
 abbrev μ-loop : tie.MeasureT-loop
 μ-loop t state bytes c₀ i₀ c i = length bytes - i
 
-loop-holds : tie.Need-loop-holds Inv-loop μ-loop
-loop-holds c = search needs
-
-byte-at-requires : tie.Need-byte-at-requires Inv-loop μ-loop
-byte-at-requires c κs = search needs
-
-nibble-requires : tie.Need-nibble-requires Inv-loop μ-loop
-nibble-requires c κs = search needs
-
-nibble-requires-2 : tie.Need-nibble-requires-2 Inv-loop μ-loop
-nibble-requires-2 c κs = search needs
-
-add-i : tie.Need-add-i Inv-loop μ-loop
-add-i c = search needs
-
-loop-less : tie.Need-loop-less Inv-loop μ-loop
-loop-less c = search needs
-
 loop-again : tie.Need-loop-again Inv-loop μ-loop
 loop-again c =
     let l = c .before .before .before .before .loop in
@@ -56,11 +38,11 @@ by-bytes-spec =
     (tie.spec
     Inv-loop
     μ-loop
-    loop-holds
-    byte-at-requires
-    nibble-requires
-    nibble-requires-2
-    add-i
-    loop-less
+    (λ c. search needs)
+    (λ c κs. search needs)
+    (λ c κs. search needs)
+    (λ c κs. search needs)
+    (λ c. search needs)
+    (λ c. search needs)
     loop-again
     returns)

@@ -16,42 +16,12 @@ Inv-loop t state bytes c₀ i₀ c i = (i ≤ length bytes) × (crcFrom c (drop 
 abbrev μ-loop : tie.MeasureT-loop
 μ-loop t state bytes c₀ i₀ c i = length bytes - i
 
-loop-holds : tie.Need-loop-holds Inv-loop μ-loop
-loop-holds c = search needs
-
-sub-loop : tie.Need-sub-loop Inv-loop μ-loop
-sub-loop c = search needs
-
-read-four-requires : tie.Need-read-four-requires Inv-loop μ-loop
-read-four-requires c κs = search needs
-
-four-requires : tie.Need-four-requires Inv-loop μ-loop
-four-requires c κs = search needs
-
-add-i : tie.Need-add-i Inv-loop μ-loop
-add-i c = search needs
-
-loop-less : tie.Need-loop-less Inv-loop μ-loop
-loop-less c = search needs
-
 loop-again : tie.Need-loop-again Inv-loop μ-loop
 loop-again c =
     let l = c .before .before .before .loop in
     let s = c .before .before .before .before in
     let e = crcFrom-part 4 (l .c) (l .i) (s .before .args .bytes .now) (λ k. s .shared-slice-known .given k .fits) (omega arith) in
     (omega arith, rw (c .four .ensures, c .before .read-four .ensures) (e ∙ l .inv .1))
-
-sub-by-bytes : tie.Need-sub-by-bytes Inv-loop μ-loop
-sub-by-bytes c = search needs
-
-part-by-bytes-start : tie.Need-part-by-bytes-start Inv-loop μ-loop
-part-by-bytes-start c = search needs
-
-part-by-bytes-end : tie.Need-part-by-bytes-end Inv-loop μ-loop
-part-by-bytes-end c = search needs
-
-by-bytes-requires : tie.Need-by-bytes-requires Inv-loop μ-loop
-by-bytes-requires c κs = search needs
 
 returns : tie.Need-returns Inv-loop μ-loop
 returns c = c .by-bytes .ensures ∙ rw to-end (c .before .before .before .loop .inv .1)
@@ -62,15 +32,15 @@ by-four-spec =
     (tie.spec
     Inv-loop
     μ-loop
-    loop-holds
-    sub-loop
-    read-four-requires
-    four-requires
-    add-i
-    loop-less
+    (λ c. search needs)
+    (λ c. search needs)
+    (λ c κs. search needs)
+    (λ c κs. search needs)
+    (λ c. search needs)
+    (λ c. search needs)
     loop-again
-    sub-by-bytes
-    part-by-bytes-start
-    part-by-bytes-end
-    by-bytes-requires
+    (λ c. search needs)
+    (λ c. search needs)
+    (λ c. search needs)
+    (λ c κs. search needs)
     returns)

@@ -5,13 +5,10 @@ use borrow.Author.Needs.{needs}
 use Rattle.crc32.proofs.words.nibble.Statement.{statement}
 use Rattle.crc32.proofs.words.nibble.Tie as tie
 
-entry-requires : tie.Need-entry-requires
-entry-requires c κs = search needs
-
 returns : tie.Need-returns
 returns c =
     let x = c .before .args .c in
     sym (crcBits-split 4 x ∙ cc)
 
 pub nibble-spec : {M : Type 1} → statement M
-nibble-spec = tie.close (tie.spec entry-requires returns)
+nibble-spec = tie.close (tie.spec (λ c κs. search needs) returns)

@@ -4,15 +4,6 @@ use borrow.Author.Needs.{needs}
 use Rattle.crc32.proofs.words.three.Statement.{statement}
 use Rattle.crc32.proofs.words.three.Tie as tie
 
-four-requires : tie.Need-four-requires
-four-requires c κs = search needs
-
-four-requires-2 : tie.Need-four-requires-2
-four-requires-2 c κs = search needs
-
-four-requires-3 : tie.Need-four-requires-3
-four-requires-3 c κs = search needs
-
 returns : tie.Need-returns
 returns c =
     let a = c .before .before .before .args in
@@ -22,7 +13,7 @@ pub three-spec : {M : Type 1} → statement M
 three-spec =
     tie.close
     (tie.spec
-    four-requires
-    four-requires-2
-    four-requires-3
+    (λ c κs. search needs)
+    (λ c κs. search needs)
+    (λ c κs. search needs)
     returns)

@@ -1,19 +1,14 @@
 -- `geometry::rules::check_geometry` meets its contract: one broken rule refuses, else the geometry is the one of the rules. Assumes nothing.
 use mathlib.Core.Path.{_≡_, sym, _∙_}
-use Prim.Native.Nat.{_<_, _-_}
+use Prim.Native.Nat.{_<_}
 use native.Mathlib.Omega.{arith}
 use borrow.Author.Needs.{needs}
 use mathlib.Core.Bool.{true}
 use borrow.Author.Tests.{not-true, not-false, lt-leb, ne-eqb}
 use Rattle.geometry.specs.Geometry.{goodUnit, geometryRules}
 use Rattle.geometry.proofs.Laws.{unit-range, outside, inside, too-short}
-use borrow.Author.Needs.{needs}
 use Rattle.geometry.proofs.rules.check_geometry.Statement.{statement}
 use Rattle.geometry.proofs.rules.check_geometry.Tie as tie
-use Rattle.geometry.proofs.rules.check_geometry.Reads as reads
-use Rattle.geometry.proofs.rules.check_geometry.Lts as lts
-use Rattle.geometry.proofs.rules.is_unit.Reads as is-unit-reads
-use Rattle.geometry.proofs.rules.round_up.Reads as round-up-reads
 
 -- both units, past their tests
 unit-good : (c : tie.Else2) → goodUnit (c .before .before .before .before .args .unit) ≡ true
@@ -28,15 +23,9 @@ unit-small c = unit-range (c .before .before .before .before .args .unit) (unit-
 sub-unit-small : (c : tie.Else2) → (0 < c .before .before .before .before .args .sub-unit) × (c .before .before .before .before .args .sub-unit < 8192)
 sub-unit-small c = unit-range (c .before .before .before .before .args .sub-unit) (sub-unit-good c)
 
-is-unit-requires : tie.Need-is-unit-requires
-is-unit-requires c κs = search needs
-
 returns : tie.Need-returns
 unfolding geometryRules
 returns c = outside (c .before .before .args .peb-size) (c .before .before .args .unit) (c .before .before .args .sub-unit) 0 (sym (c .before .is-unit .ensures) ∙ not-true (c .before .is-unit .result) (c .if1 .taken))
-
-is-unit-requires-2 : tie.Need-is-unit-requires-2
-is-unit-requires-2 c κs = search needs
 
 returns-2 : tie.Need-returns-2
 unfolding geometryRules
@@ -54,15 +43,9 @@ returns-5 : tie.Need-returns-5
 unfolding geometryRules
 returns-5 c = outside (c .before .before .before .before .before .before .before .args .peb-size) (c .before .before .before .before .before .before .before .args .unit) (c .before .before .before .before .before .before .before .args .sub-unit) 4 (lt-leb _ _ (c .if5 .taken))
 
-rem-if6 : tie.Need-rem-if6
-rem-if6 c = omega (arith, unit-small (c .before .before .before))
-
 returns-6 : tie.Need-returns-6
 unfolding geometryRules
 returns-6 c = outside (c .before .before .before .before .before .before .before .before .args .peb-size) (c .before .before .before .before .before .before .before .before .args .unit) (c .before .before .before .before .before .before .before .before .args .sub-unit) 5 (ne-eqb _ _ (c .if6 .taken))
-
-round-up-requires : tie.Need-round-up-requires
-round-up-requires c κs = omega (arith, sub-unit-small (c .before .before .before .before))
 
 add-round-up : tie.Need-add-round-up
 add-round-up c = omega (arith, sub-unit-small (c .before .before .before .before .before))
@@ -76,9 +59,6 @@ add-if7 c = omega (arith, sub-unit-small (c .before .before .before .before .bef
 returns-7 : tie.Need-returns-7
 returns-7 c = too-short (c .before .before .before .before .before .before .before .before .before .before .before .args .peb-size) (c .before .before .before .before .before .before .before .before .before .before .before .args .unit) (c .before .before .before .before .before .before .before .before .before .before .before .args .sub-unit) (c .before .before .round-up .result) (c .before .round-up2 .result) (c .before .before .round-up .ensures .0) (c .before .round-up2 .ensures .0) (c .if7 .taken)
 
-sub-t8 : tie.Need-sub-t8
-sub-t8 c = search needs
-
 returns-8 : tie.Need-returns-8
 returns-8 c =
     let a = c .before .before .before .before .before .before .before .before .before .before .before .args in
@@ -88,19 +68,19 @@ pub check-geometry-spec : {M : Type 1} → statement M
 check-geometry-spec =
     tie.close
     (tie.spec
-    is-unit-requires
+    (λ c κs. search needs)
     returns
-    is-unit-requires-2
+    (λ c κs. search needs)
     returns-2
     returns-3
     returns-4
     returns-5
-    rem-if6
+    (λ c. omega (arith, unit-small (c .before .before .before)))
     returns-6
-    round-up-requires
+    (λ c κs. omega (arith, sub-unit-small (c .before .before .before .before)))
     add-round-up
     round-up-requires-2
     add-if7
     returns-7
-    sub-t8
+    (λ c. search needs)
     returns-8)

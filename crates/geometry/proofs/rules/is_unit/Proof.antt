@@ -1,6 +1,6 @@
 -- `geometry::rules::is_unit` meets its contract: no power of two below the k-th is n. Assumes nothing.
 use mathlib.Core.Path.{_≡_, sym}
-use Prim.Native.Nat.{ℕ, _≤_, _<_, _-_, _+_, _*_, _^_}
+use Prim.Native.Nat.{ℕ, _≤_, _-_, _+_, _*_, _^_}
 use native.Mathlib.Omega.{arith}
 use borrow.Author.Needs.{needs}
 use native.Mathlib.Nat.{pow-suc, pow-le-pow-right}
@@ -12,8 +12,6 @@ use Rattle.geometry.specs.Geometry.{goodUnit}
 use Rattle.geometry.proofs.Laws.{power-more, power-found}
 use Rattle.geometry.proofs.rules.is_unit.Statement.{statement}
 use Rattle.geometry.proofs.rules.is_unit.Tie as tie
-use Rattle.geometry.proofs.rules.is_unit.Reads as reads
-use Rattle.geometry.proofs.rules.is_unit.Lts as lts
 
 abbrev Inv-loop : tie.InvT-loop
 Inv-loop n power₀ k₀ power k = (k ≤ 13) × ((power ≡ 2 ^ k) × (anyBelow k (λ (j : ℕ). eqb n (2 ^ j)) ≡ false))
@@ -21,20 +19,11 @@ Inv-loop n power₀ k₀ power k = (k ≤ 13) × ((power ≡ 2 ^ k) × (anyBelow
 abbrev μ-loop : tie.MeasureT-loop
 μ-loop n power₀ k₀ power k = 13 - k
 
-loop-holds : tie.Need-loop-holds Inv-loop μ-loop
-loop-holds c = search needs
-
 returns : tie.Need-returns Inv-loop μ-loop
 returns c = sym (power-found (c .before .before .before .args .n) (c .before .before .loop .k) (omega arith) (cc))
 
 mul-power : tie.Need-mul-power Inv-loop μ-loop
 mul-power c = record { fits = omega (arith, pow-le-pow-right {n = 2} (lit< tt) {i = c .before .before .loop .k} {j = 12} (omega arith)) }
-
-add-k : tie.Need-add-k Inv-loop μ-loop
-add-k c = search needs
-
-loop-less : tie.Need-loop-less Inv-loop μ-loop
-loop-less c = search needs
 
 loop-again : tie.Need-loop-again Inv-loop μ-loop
 loop-again c =
@@ -52,4 +41,4 @@ returns-2 c =
 pub is-unit-spec : {M : Type 1} → statement M
 is-unit-spec =
     tie.close
-    (tie.spec Inv-loop μ-loop loop-holds returns mul-power add-k loop-less loop-again returns-2)
+    (tie.spec Inv-loop μ-loop (λ c. search needs) returns mul-power (λ c. search needs) (λ c. search needs) loop-again returns-2)

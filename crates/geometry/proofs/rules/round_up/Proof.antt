@@ -1,24 +1,11 @@
 -- `geometry::rules::round_up` meets its contract. Assumes nothing.
 use mathlib.Core.Path.{refl}
-use Prim.Native.Nat.{_-_}
 use native.Mathlib.Omega.{arith}
 use borrow.Author.Needs.{needs}
 use Rattle.geometry.specs.Geometry.{roundUp}
 use Rattle.geometry.proofs.Laws.{round-below}
-use borrow.Author.Needs.{needs}
 use Rattle.geometry.proofs.rules.round_up.Statement.{statement}
 use Rattle.geometry.proofs.rules.round_up.Tie as tie
-use Rattle.geometry.proofs.rules.round_up.Reads as reads
-use Rattle.geometry.proofs.rules.round_up.Lts as lts
-
-sub-result : tie.Need-sub-result
-sub-result c = search needs
-
-add-result : tie.Need-add-result
-add-result c = search needs
-
-div-result : tie.Need-div-result
-div-result c = search needs
 
 mul-result : tie.Need-mul-result
 unfolding roundUp
@@ -29,4 +16,4 @@ unfolding roundUp
 returns c = (refl, round-below (c .args .m) (c .args .x) (omega arith))
 
 pub round-up-spec : {M : Type 1} → statement M
-round-up-spec = tie.close (tie.spec sub-result add-result div-result mul-result returns)
+round-up-spec = tie.close (tie.spec (λ c. search needs) (λ c. search needs) (λ c. search needs) mul-result returns)

@@ -1,72 +1,18 @@
 -- `geometry::slip::read_slip` meets its contract. Assumes nothing.
-use mathlib.Core.Path.{_≡_, sym, _∙_}
-use Prim.Native.Nat.{_-_}
-use native.Mathlib.Omega.{arith}
+use mathlib.Core.Path.{_∙_}
 use borrow.Author.Needs.{needs}
-use mathlib.Core.Bool.{true}
-use lib.ListN.{length}
-use borrow.Author.Tests.{not-true, not-false}
-use Rattle.geometry.specs.Slip.{valueAt, wellFormed, slipGeometry}
-use Rattle.geometry.proofs.Laws.{slip-length}
-use borrow.Author.Needs.{needs}
+use Rattle.base.proofs.Answers.{was-false, was-true}
+use Rattle.geometry.proofs.Laws.{no-tail, head-decides}
 use Rattle.geometry.proofs.slip.read_slip.Statement.{statement}
 use Rattle.geometry.proofs.slip.read_slip.Tie as tie
-use Rattle.geometry.proofs.slip.read_slip.Reads as reads
-use Rattle.geometry.proofs.slip.read_slip.Lts as lts
-use Rattle.field.proofs.read.Reads as read-reads
-use Rattle.geometry.proofs.rules.check_geometry.Reads as check-geometry-reads
-use Rattle.geometry.proofs.slip.well_formed.Reads as well-formed-reads
-
-well-formed-requires : tie.Need-well-formed-requires
-well-formed-requires c κs = search needs
-
--- past the test the slip is well formed
-formed : (c : tie.Else1) → wellFormed (c .before .before .before .args .slip .now) ≡ true
-formed c = sym (c .before .well-formed .ensures) ∙ not-false (c .before .well-formed .result) (c .if1 .left)
-
-twenty : (c : tie.Else1) → length (c .before .before .before .args .slip .now) ≡ 20
-twenty c = slip-length (c .before .before .before .args .slip .now) (formed c)
 
 returns : tie.Need-returns
-unfolding slipGeometry
-returns c = rw (← (c .before .well-formed .ensures), not-true (c .before .well-formed .result) (c .if1 .taken))
-
-read-requires : tie.Need-read-requires
-read-requires c κs = omega (arith, twenty c)
-
-cast-peb-size : tie.Need-cast-peb-size
-cast-peb-size c = search needs
-
-read-requires-2 : tie.Need-read-requires-2
-read-requires-2 c κs = omega (arith, twenty (c .before))
-
-cast-unit : tie.Need-cast-unit
-cast-unit c = search needs
-
-read-requires-3 : tie.Need-read-requires-3
-read-requires-3 c κs = omega (arith, twenty (c .before .before))
-
-cast-sub-unit : tie.Need-cast-sub-unit
-cast-sub-unit c = search needs
-
-check-geometry-requires : tie.Need-check-geometry-requires
-check-geometry-requires c κs = search needs
+returns c = no-tail (c .before .before .before .args .slip .now) (was-false (c .before .ends-at .ensures) (c .if1 .taken))
 
 returns-2 : tie.Need-returns-2
-unfolding slipGeometry valueAt
-returns-2 c = c .check-geometry .ensures ∙ rw (formed (c .before .before .before .before), c .before .before .before .read .ensures .0, c .before .before .read2 .ensures .0, c .before .read3 .ensures .0)
+returns-2 c =
+    let d = c .before in
+    c .read-head .ensures ∙ head-decides (d .before .before .before .args .slip .now) (was-true (d .before .ends-at .ensures) (d .if1 .left))
 
 pub read-slip-spec : {M : Type 1} → statement M
-read-slip-spec =
-    tie.close
-    (tie.spec
-    well-formed-requires
-    returns
-    read-requires
-    cast-peb-size
-    read-requires-2
-    cast-unit
-    read-requires-3
-    cast-sub-unit
-    check-geometry-requires
-    returns-2)
+read-slip-spec = tie.close (tie.spec (λ c κs. search needs) returns (λ c κs. search needs) returns-2)

@@ -1,13 +1,10 @@
 -- `header::ec_header::ec_readable` meets its contract. Assumes nothing.
 use mathlib.Core.Path.{sym, _∙_}
-use Prim.Native.Nat.{_-_}
 use mathlib.Core.Bool.{and-true}
 use Rattle.header.specs.Ec.{ecRules, judgeEc}
 use Rattle.header.proofs.Laws.{not-version-one, version-one, good-if}
 use Rattle.header.proofs.ec_header.ec_readable.Statement.{statement}
 use Rattle.header.proofs.ec_header.ec_readable.Tie as tie
-use Rattle.header.proofs.ec_header.ec_readable.Reads as reads
-use Rattle.header.proofs.ec_header.ec_readable.Lts as lts
 
 returns : tie.Need-returns
 unfolding judgeEc ecRules

@@ -1,12 +1,9 @@
 -- `header::ec_header::judge_ec` meets its contract. Assumes nothing.
-use Prim.Native.Nat.{_-_}
 use borrow.Author.Tests.{le-leb, lt-leb}
 use Rattle.header.specs.Ec.{ecRules, judgeEc}
 use Rattle.header.proofs.Laws.{version-zero, version-newer, version-one}
 use Rattle.header.proofs.ec_header.judge_ec.Statement.{statement}
 use Rattle.header.proofs.ec_header.judge_ec.Tie as tie
-use Rattle.header.proofs.ec_header.judge_ec.Reads as reads
-use Rattle.header.proofs.ec_header.judge_ec.Lts as lts
 
 returns : tie.Need-returns
 unfolding judgeEc ecRules

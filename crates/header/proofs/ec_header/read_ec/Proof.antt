@@ -1,37 +1,18 @@
 -- `header::ec_header::read_ec` meets its contract. Assumes nothing.
 use mathlib.Core.Path.{_∙_}
-use Prim.Native.Nat.{_-_}
 use borrow.Author.Needs.{needs}
 use borrow.Author.Tests.{lt-ltb, le-ltb, not-true, not-false}
 use Rattle.header.specs.Ec.{readEc, ecRead}
-use borrow.Author.Needs.{needs}
 use Rattle.header.proofs.ec_header.read_ec.Statement.{statement}
 use Rattle.header.proofs.ec_header.read_ec.Tie as tie
-use Rattle.header.proofs.ec_header.read_ec.Reads as reads
-use Rattle.header.proofs.ec_header.read_ec.Lts as lts
-use Rattle.header.proofs.ec_header.ec_fields.Reads as ec-fields-reads
-use Rattle.header.proofs.ec_header.judge_ec.Reads as judge-ec-reads
-use Rattle.header.proofs.fields.is_header.Reads as is-header-reads
 
 returns : tie.Need-returns
 unfolding ecRead
 returns c = rw (lt-ltb _ _ (c .if1 .taken))
 
-slice-aggregate-is-header : tie.Need-slice-aggregate-is-header
-slice-aggregate-is-header c = search needs
-
-is-header-requires : tie.Need-is-header-requires
-is-header-requires c κs = search needs
-
 returns-2 : tie.Need-returns-2
 unfolding ecRead readEc
 returns-2 c = rw (le-ltb _ _ (c .before .before .before .if1 .left), ← (c .before .is-header .ensures), not-true (c .before .is-header .result) (c .if2 .taken))
-
-ec-fields-requires : tie.Need-ec-fields-requires
-ec-fields-requires c κs = search needs
-
-judge-ec-requires : tie.Need-judge-ec-requires
-judge-ec-requires c κs = search needs
 
 returns-3 : tie.Need-returns-3
 unfolding ecRead readEc
@@ -42,9 +23,9 @@ read-ec-spec =
     tie.close
     (tie.spec
     returns
-    slice-aggregate-is-header
-    is-header-requires
+    (λ c. search needs)
+    (λ c κs. search needs)
     returns-2
-    ec-fields-requires
-    judge-ec-requires
+    (λ c κs. search needs)
+    (λ c κs. search needs)
     returns-3)

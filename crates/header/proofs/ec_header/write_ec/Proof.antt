@@ -1,28 +1,18 @@
 -- `header::ec_header::write_ec` meets its contract. Assumes nothing.
 use mathlib.Core.Path.{sym, _∙_}
-use Prim.Native.Nat.{_≤_, _-_}
+use Prim.Native.Nat.{_≤_}
 use native.Mathlib.Omega.{arith}
 use borrow.Author.Needs.{needs}
 use lib.ListN.{length}
 use borrow.Author.Tests.{lt-ltb, le-ltb, not-true, not-false}
 use Rattle.header.specs.Ec.{ecWritten, ecOut}
 use Rattle.header.proofs.Writes.{ec-wrote}
-use borrow.Author.Needs.{needs}
 use Rattle.header.proofs.ec_header.write_ec.Statement.{statement}
 use Rattle.header.proofs.ec_header.write_ec.Tie as tie
-use Rattle.header.proofs.ec_header.write_ec.Reads as reads
-use Rattle.header.proofs.ec_header.write_ec.Lts as lts
-use Rattle.header.proofs.ec_header.ec_readable.Reads as ec-readable-reads
-use Rattle.header.proofs.ec_header.set_ec_fields.Reads as set-ec-fields-reads
-use Rattle.header.proofs.fields.begin.Reads as begin-reads
-use Rattle.header.proofs.fields.finish.Reads as finish-reads
 
 returns : tie.Need-returns
 unfolding ecWritten ecOut
 returns c = (rw (lt-ltb _ _ (c .if1 .taken)), rw (lt-ltb _ _ (c .if1 .taken)))
-
-ec-readable-requires : tie.Need-ec-readable-requires
-ec-readable-requires c κs = search needs
 
 returns-2 : tie.Need-returns-2
 unfolding ecWritten ecOut
@@ -30,21 +20,6 @@ returns-2 c =
     let s : 64 ≤ length (c .before .before .before .before .args .out .now) = omega arith in
     let g = not-true (c .before .ec-readable .result) (c .if2 .taken) in
     (rw (le-ltb _ _ s, ← (c .before .ec-readable .ensures), g), rw (le-ltb _ _ s, ← (c .before .ec-readable .ensures), g))
-
-slice-aggregate-begin : tie.Need-slice-aggregate-begin
-slice-aggregate-begin c = search needs
-
-begin-requires : tie.Need-begin-requires
-begin-requires c κs = search needs
-
-set-ec-fields-requires : tie.Need-set-ec-fields-requires
-set-ec-fields-requires c κs = search needs
-
-finish-requires : tie.Need-finish-requires
-finish-requires c κs = search needs
-
-same-length : tie.Need-same-length
-same-length c = search needs
 
 returns-3 : tie.Need-returns-3
 unfolding ecWritten
@@ -59,11 +34,11 @@ write-ec-spec =
     tie.close
     (tie.spec
     returns
-    ec-readable-requires
+    (λ c κs. search needs)
     returns-2
-    slice-aggregate-begin
-    begin-requires
-    set-ec-fields-requires
-    finish-requires
-    same-length
+    (λ c. search needs)
+    (λ c κs. search needs)
+    (λ c κs. search needs)
+    (λ c κs. search needs)
+    (λ c. search needs)
     returns-3)

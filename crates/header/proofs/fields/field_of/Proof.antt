@@ -1,24 +1,12 @@
 -- `header::fields::field_of` meets its contract: the constant is the table, and every field fits. Assumes nothing.
 use mathlib.Core.Path.{refl}
-use Prim.Native.Nat.{_-_}
 use borrow.Author.Needs.{needs}
-use Rattle.header.specs.Fields.{fieldOf}
 use Rattle.header.proofs.Laws.{fits}
-use borrow.Author.Needs.{needs}
 use Rattle.header.proofs.fields.field_of.Statement.{statement}
 use Rattle.header.proofs.fields.field_of.Tie as tie
-use Rattle.header.proofs.fields.field_of.Reads as reads
-use Rattle.header.proofs.fields.field_of.Lts as lts
-
-mul-result : tie.Need-mul-result
-mul-result c = search needs
-
-array-copy-out-result : tie.Need-array-copy-out-result
-array-copy-out-result c = search needs
 
 returns : tie.Need-returns
-unfolding fieldOf
 returns c = (refl, fits (c .before .args .i))
 
 pub field-of-spec : {M : Type 1} → statement M
-field-of-spec = tie.close (tie.spec mul-result array-copy-out-result returns)
+field-of-spec = tie.close (tie.spec (λ c. search needs) (λ c. search needs) returns)

@@ -1,35 +1,8 @@
 -- `header::fields::finish` meets its contract. Assumes nothing.
-use Prim.Native.Nat.{_-_}
 use borrow.Author.Needs.{needs}
 use Rattle.header.specs.Stores.{withSum}
-use borrow.Author.Needs.{needs}
 use Rattle.header.proofs.fields.finish.Statement.{statement}
 use Rattle.header.proofs.fields.finish.Tie as tie
-use Rattle.header.proofs.fields.finish.Reads as reads
-use Rattle.header.proofs.fields.finish.Lts as lts
-use Rattle.crc32.proofs.crc32.Reads as crc32-reads
-use Rattle.header.proofs.fields.set.Reads as set-reads
-
-sub-crc32 : tie.Need-sub-crc32
-sub-crc32 c = search needs
-
-part-crc32-start : tie.Need-part-crc32-start
-part-crc32-start c = search needs
-
-part-crc32-end : tie.Need-part-crc32-end
-part-crc32-end c = search needs
-
-crc32-requires : tie.Need-crc32-requires
-crc32-requires c κs = search needs
-
-cast-set : tie.Need-cast-set
-cast-set c = search needs
-
-set-requires : tie.Need-set-requires
-set-requires c κs = search needs
-
-same-length : tie.Need-same-length
-same-length c = search needs
 
 returns : tie.Need-returns
 unfolding withSum
@@ -39,11 +12,11 @@ pub finish-spec : {M : Type 1} → statement M
 finish-spec =
     tie.close
     (tie.spec
-    sub-crc32
-    part-crc32-start
-    part-crc32-end
-    crc32-requires
-    cast-set
-    set-requires
-    same-length
+    (λ c. search needs)
+    (λ c. search needs)
+    (λ c. search needs)
+    (λ c κs. search needs)
+    (λ c. search needs)
+    (λ c κs. search needs)
+    (λ c. search needs)
     returns)

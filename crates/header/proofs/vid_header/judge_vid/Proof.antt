@@ -1,15 +1,10 @@
 -- `header::vid_header::judge_vid` meets its contract. Assumes nothing.
-use Prim.Native.Nat.{_-_}
 use borrow.Author.Needs.{needs}
 use borrow.Author.Tests.{not-true, not-false}
 use Rattle.header.specs.Vid.{judgeVid}
 use Rattle.header.proofs.Laws.{version-zero, version-newer, version-one}
-use borrow.Author.Needs.{needs}
 use Rattle.header.proofs.vid_header.judge_vid.Statement.{statement}
 use Rattle.header.proofs.vid_header.judge_vid.Tie as tie
-use Rattle.header.proofs.vid_header.judge_vid.Reads as reads
-use Rattle.header.proofs.vid_header.judge_vid.Lts as lts
-use Rattle.header.proofs.vid_rules.rules_hold.Reads as rules-hold-reads
 
 returns : tie.Need-returns
 unfolding judgeVid
@@ -18,9 +13,6 @@ returns c = rw (version-zero _ (c .before .before .args .h .version) (c .if1 .ta
 returns-2 : tie.Need-returns-2
 unfolding judgeVid
 returns-2 c = rw (version-newer _ (c .before .before .before .before .args .h .version) (c .before .before .if1 .left) (c .if2 .taken))
-
-rules-hold-requires : tie.Need-rules-hold-requires
-rules-hold-requires c κs = search needs
 
 returns-3 : tie.Need-returns-3
 unfolding judgeVid
@@ -31,4 +23,4 @@ unfolding judgeVid
 returns-4 c = rw (version-one _ (c .before .before .before .before .before .before .args .h .version) (c .before .before .if2 .left), ← (c .before .rules-hold .ensures), not-false (c .before .rules-hold .result) (c .if3 .left))
 
 pub judge-vid-spec : {M : Type 1} → statement M
-judge-vid-spec = tie.close (tie.spec returns returns-2 rules-hold-requires returns-3 returns-4)
+judge-vid-spec = tie.close (tie.spec returns returns-2 (λ c κs. search needs) returns-3 returns-4)

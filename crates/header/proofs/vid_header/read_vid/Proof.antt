@@ -1,37 +1,18 @@
 -- `header::vid_header::read_vid` meets its contract. Assumes nothing.
 use mathlib.Core.Path.{_∙_}
-use Prim.Native.Nat.{_-_}
 use borrow.Author.Needs.{needs}
 use borrow.Author.Tests.{lt-ltb, le-ltb, not-true, not-false}
 use Rattle.header.specs.Vid.{readVid, vidRead}
-use borrow.Author.Needs.{needs}
 use Rattle.header.proofs.vid_header.read_vid.Statement.{statement}
 use Rattle.header.proofs.vid_header.read_vid.Tie as tie
-use Rattle.header.proofs.vid_header.read_vid.Reads as reads
-use Rattle.header.proofs.vid_header.read_vid.Lts as lts
-use Rattle.header.proofs.fields.is_header.Reads as is-header-reads
-use Rattle.header.proofs.vid_header.judge_vid.Reads as judge-vid-reads
-use Rattle.header.proofs.vid_header.vid_fields.Reads as vid-fields-reads
 
 returns : tie.Need-returns
 unfolding vidRead
 returns c = rw (lt-ltb _ _ (c .if1 .taken))
 
-slice-aggregate-is-header : tie.Need-slice-aggregate-is-header
-slice-aggregate-is-header c = search needs
-
-is-header-requires : tie.Need-is-header-requires
-is-header-requires c κs = search needs
-
 returns-2 : tie.Need-returns-2
 unfolding vidRead readVid
 returns-2 c = rw (le-ltb _ _ (c .before .before .before .if1 .left), ← (c .before .is-header .ensures), not-true (c .before .is-header .result) (c .if2 .taken))
-
-vid-fields-requires : tie.Need-vid-fields-requires
-vid-fields-requires c κs = search needs
-
-judge-vid-requires : tie.Need-judge-vid-requires
-judge-vid-requires c κs = search needs
 
 returns-3 : tie.Need-returns-3
 unfolding vidRead readVid
@@ -42,9 +23,9 @@ read-vid-spec =
     tie.close
     (tie.spec
     returns
-    slice-aggregate-is-header
-    is-header-requires
+    (λ c. search needs)
+    (λ c κs. search needs)
     returns-2
-    vid-fields-requires
-    judge-vid-requires
+    (λ c κs. search needs)
+    (λ c κs. search needs)
     returns-3)

@@ -1,40 +1,8 @@
 -- `header::vid_header::set_data` meets its contract. Assumes nothing.
-use Prim.Native.Nat.{_-_}
 use borrow.Author.Needs.{needs}
 use Rattle.header.specs.Stores.{dataStored}
-use borrow.Author.Needs.{needs}
 use Rattle.header.proofs.vid_header.set_data.Statement.{statement}
 use Rattle.header.proofs.vid_header.set_data.Tie as tie
-use Rattle.header.proofs.vid_header.set_data.Reads as reads
-use Rattle.header.proofs.vid_header.set_data.Lts as lts
-use Rattle.header.proofs.fields.set.Reads as set-reads
-
-cast-set : tie.Need-cast-set
-cast-set c = search needs
-
-set-requires : tie.Need-set-requires
-set-requires c κs = search needs
-
-cast-set-2 : tie.Need-cast-set-2
-cast-set-2 c = search needs
-
-set-requires-2 : tie.Need-set-requires-2
-set-requires-2 c κs = search needs
-
-cast-set-3 : tie.Need-cast-set-3
-cast-set-3 c = search needs
-
-set-requires-3 : tie.Need-set-requires-3
-set-requires-3 c κs = search needs
-
-cast-set-4 : tie.Need-cast-set-4
-cast-set-4 c = search needs
-
-set-requires-4 : tie.Need-set-requires-4
-set-requires-4 c κs = search needs
-
-same-length : tie.Need-same-length
-same-length c = search needs
 
 returns : tie.Need-returns
 unfolding dataStored
@@ -44,13 +12,13 @@ pub set-data-spec : {M : Type 1} → statement M
 set-data-spec =
     tie.close
     (tie.spec
-    cast-set
-    set-requires
-    cast-set-2
-    set-requires-2
-    cast-set-3
-    set-requires-3
-    cast-set-4
-    set-requires-4
-    same-length
+    (λ c. search needs)
+    (λ c κs. search needs)
+    (λ c. search needs)
+    (λ c κs. search needs)
+    (λ c. search needs)
+    (λ c κs. search needs)
+    (λ c. search needs)
+    (λ c κs. search needs)
+    (λ c. search needs)
     returns)

@@ -1,31 +1,8 @@
 -- `header::vid_header::set_place` meets its contract. Assumes nothing.
-use Prim.Native.Nat.{_-_}
 use borrow.Author.Needs.{needs}
 use Rattle.header.specs.Stores.{placeStored}
-use borrow.Author.Needs.{needs}
 use Rattle.header.proofs.vid_header.set_place.Statement.{statement}
 use Rattle.header.proofs.vid_header.set_place.Tie as tie
-use Rattle.header.proofs.vid_header.set_place.Reads as reads
-use Rattle.header.proofs.vid_header.set_place.Lts as lts
-use Rattle.header.proofs.fields.set.Reads as set-reads
-
-cast-set : tie.Need-cast-set
-cast-set c = search needs
-
-set-requires : tie.Need-set-requires
-set-requires c κs = search needs
-
-cast-set-2 : tie.Need-cast-set-2
-cast-set-2 c = search needs
-
-set-requires-2 : tie.Need-set-requires-2
-set-requires-2 c κs = search needs
-
-set-requires-3 : tie.Need-set-requires-3
-set-requires-3 c κs = search needs
-
-same-length : tie.Need-same-length
-same-length c = search needs
 
 returns : tie.Need-returns
 unfolding placeStored
@@ -34,4 +11,4 @@ returns c = cc
 pub set-place-spec : {M : Type 1} → statement M
 set-place-spec =
     tie.close
-    (tie.spec cast-set set-requires cast-set-2 set-requires-2 set-requires-3 same-length returns)
+    (tie.spec (λ c. search needs) (λ c κs. search needs) (λ c. search needs) (λ c κs. search needs) (λ c κs. search needs) (λ c. search needs) returns)

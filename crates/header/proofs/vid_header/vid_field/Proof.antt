@@ -4,12 +4,6 @@ use borrow.Author.Needs.{needs}
 use Rattle.header.proofs.Laws.{vid-field-at}
 use Rattle.header.proofs.vid_header.vid_field.Statement.{statement}
 use Rattle.header.proofs.vid_header.vid_field.Tie as tie
-use Rattle.header.proofs.vid_header.vid_field.Reads as reads
-use Rattle.header.proofs.vid_header.vid_field.Lts as lts
-use Rattle.header.proofs.fields.get.Reads as get-reads
-
-get-requires : tie.Need-get-requires
-get-requires c κs = search needs
 
 returns : tie.Need-returns
 returns c =
@@ -17,4 +11,4 @@ returns c =
     c .get .ensures .0 ∙ vid-field-at (d .args .i) (d .args .header .now) (d .pre .0)
 
 pub vid-field-spec : {M : Type 1} → statement M
-vid-field-spec = tie.close (tie.spec get-requires returns)
+vid-field-spec = tie.close (tie.spec (λ c κs. search needs) returns)

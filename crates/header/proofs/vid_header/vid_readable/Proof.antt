@@ -1,26 +1,18 @@
 -- `header::vid_header::vid_readable` meets its contract. Assumes nothing.
 use mathlib.Core.Path.{sym, _∙_}
-use Prim.Native.Nat.{_-_}
 use borrow.Author.Needs.{needs}
 use Rattle.header.specs.Vid.{judgeVid}
 use Rattle.header.proofs.Laws.{not-version-one, version-one, good-if}
-use borrow.Author.Needs.{needs}
 use Rattle.header.proofs.vid_header.vid_readable.Statement.{statement}
 use Rattle.header.proofs.vid_header.vid_readable.Tie as tie
-use Rattle.header.proofs.vid_header.vid_readable.Reads as reads
-use Rattle.header.proofs.vid_header.vid_readable.Lts as lts
-use Rattle.header.proofs.vid_rules.rules_hold.Reads as rules-hold-reads
 
 returns : tie.Need-returns
 unfolding judgeVid
 returns c = sym (not-version-one _ (c .before .before .args .h .version) (c .if1 .taken))
-
-rules-hold-requires : tie.Need-rules-hold-requires
-rules-hold-requires c κs = search needs
 
 returns-2 : tie.Need-returns-2
 unfolding judgeVid
 returns-2 c = c .rules-hold .ensures ∙ rw (version-one _ (c .before .before .before .args .h .version) (c .before .if1 .left)) (sym (good-if _ _))
 
 pub vid-readable-spec : {M : Type 1} → statement M
-vid-readable-spec = tie.close (tie.spec returns rules-hold-requires returns-2)
+vid-readable-spec = tie.close (tie.spec returns (λ c κs. search needs) returns-2)

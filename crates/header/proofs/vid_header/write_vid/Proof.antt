@@ -1,30 +1,18 @@
 -- `header::vid_header::write_vid` meets its contract. Assumes nothing.
 use mathlib.Core.Path.{sym, _∙_}
-use Prim.Native.Nat.{_≤_, _-_}
+use Prim.Native.Nat.{_≤_}
 use native.Mathlib.Omega.{arith}
 use borrow.Author.Needs.{needs}
 use lib.ListN.{length}
 use borrow.Author.Tests.{lt-ltb, le-ltb, not-true, not-false}
 use Rattle.header.specs.Vid.{vidWritten, vidOut}
 use Rattle.header.proofs.Writes.{vid-wrote}
-use borrow.Author.Needs.{needs}
 use Rattle.header.proofs.vid_header.write_vid.Statement.{statement}
 use Rattle.header.proofs.vid_header.write_vid.Tie as tie
-use Rattle.header.proofs.vid_header.write_vid.Reads as reads
-use Rattle.header.proofs.vid_header.write_vid.Lts as lts
-use Rattle.header.proofs.fields.begin.Reads as begin-reads
-use Rattle.header.proofs.fields.finish.Reads as finish-reads
-use Rattle.header.proofs.vid_header.set_data.Reads as set-data-reads
-use Rattle.header.proofs.vid_header.set_kind.Reads as set-kind-reads
-use Rattle.header.proofs.vid_header.set_place.Reads as set-place-reads
-use Rattle.header.proofs.vid_header.vid_readable.Reads as vid-readable-reads
 
 returns : tie.Need-returns
 unfolding vidWritten vidOut
 returns c = (rw (lt-ltb _ _ (c .if1 .taken)), rw (lt-ltb _ _ (c .if1 .taken)))
-
-vid-readable-requires : tie.Need-vid-readable-requires
-vid-readable-requires c κs = search needs
 
 returns-2 : tie.Need-returns-2
 unfolding vidWritten vidOut
@@ -32,27 +20,6 @@ returns-2 c =
     let s : 64 ≤ length (c .before .before .before .before .args .out .now) = omega arith in
     let g = not-true (c .before .vid-readable .result) (c .if2 .taken) in
     (rw (le-ltb _ _ s, ← (c .before .vid-readable .ensures), g), rw (le-ltb _ _ s, ← (c .before .vid-readable .ensures), g))
-
-slice-aggregate-begin : tie.Need-slice-aggregate-begin
-slice-aggregate-begin c = search needs
-
-begin-requires : tie.Need-begin-requires
-begin-requires c κs = search needs
-
-set-kind-requires : tie.Need-set-kind-requires
-set-kind-requires c κs = search needs
-
-set-place-requires : tie.Need-set-place-requires
-set-place-requires c κs = search needs
-
-set-data-requires : tie.Need-set-data-requires
-set-data-requires c κs = search needs
-
-finish-requires : tie.Need-finish-requires
-finish-requires c κs = search needs
-
-same-length : tie.Need-same-length
-same-length c = search needs
 
 returns-3 : tie.Need-returns-3
 unfolding vidWritten
@@ -67,13 +34,13 @@ write-vid-spec =
     tie.close
     (tie.spec
     returns
-    vid-readable-requires
+    (λ c κs. search needs)
     returns-2
-    slice-aggregate-begin
-    begin-requires
-    set-kind-requires
-    set-place-requires
-    set-data-requires
-    finish-requires
-    same-length
+    (λ c. search needs)
+    (λ c κs. search needs)
+    (λ c κs. search needs)
+    (λ c κs. search needs)
+    (λ c κs. search needs)
+    (λ c κs. search needs)
+    (λ c. search needs)
     returns-3)

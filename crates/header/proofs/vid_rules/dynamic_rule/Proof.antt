@@ -1,13 +1,10 @@
 -- `header::vid_rules::dynamic_rule` meets its contract. Assumes nothing.
 use mathlib.Core.Path.{sym}
-use Prim.Native.Nat.{_-_}
 use borrow.Author.Tests.{eq-eqb, ne-eqb}
 use mathlib.Core.Bool.{and-true}
 use Rattle.header.specs.Vid.{dynamicRule}
 use Rattle.header.proofs.vid_rules.dynamic_rule.Statement.{statement}
 use Rattle.header.proofs.vid_rules.dynamic_rule.Tie as tie
-use Rattle.header.proofs.vid_rules.dynamic_rule.Reads as reads
-use Rattle.header.proofs.vid_rules.dynamic_rule.Lts as lts
 
 returns : tie.Need-returns
 unfolding dynamicRule

@@ -1,10 +1,7 @@
 -- `header::vid_rules::is_internal` meets its contract. Assumes nothing.
-use Prim.Native.Nat.{_-_}
 use borrow.Author.Tests.{ne-eqb}
 use Rattle.header.proofs.vid_rules.is_internal.Statement.{statement}
 use Rattle.header.proofs.vid_rules.is_internal.Tie as tie
-use Rattle.header.proofs.vid_rules.is_internal.Reads as reads
-use Rattle.header.proofs.vid_rules.is_internal.Lts as lts
 
 returns : tie.Need-returns
 returns c = rw (c .if1 .taken)

@@ -1,10 +1,7 @@
 -- `header::vid_rules::is_type` meets its contract. Assumes nothing.
-use Prim.Native.Nat.{_-_}
 use borrow.Author.Tests.{eq-eqb, ne-eqb}
 use Rattle.header.proofs.vid_rules.is_type.Statement.{statement}
 use Rattle.header.proofs.vid_rules.is_type.Tie as tie
-use Rattle.header.proofs.vid_rules.is_type.Reads as reads
-use Rattle.header.proofs.vid_rules.is_type.Lts as lts
 
 returns : tie.Need-returns
 returns c = rw (eq-eqb _ _ (c .if1 .taken))

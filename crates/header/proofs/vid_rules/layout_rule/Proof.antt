@@ -1,11 +1,8 @@
 -- `header::vid_rules::layout_rule` meets its contract. Assumes nothing.
-use Prim.Native.Nat.{_-_}
 use borrow.Author.Tests.{eq-eqb, ne-eqb}
 use Rattle.header.specs.Vid.{layoutRule}
 use Rattle.header.proofs.vid_rules.layout_rule.Statement.{statement}
 use Rattle.header.proofs.vid_rules.layout_rule.Tie as tie
-use Rattle.header.proofs.vid_rules.layout_rule.Reads as reads
-use Rattle.header.proofs.vid_rules.layout_rule.Lts as lts
 
 returns : tie.Need-returns
 unfolding layoutRule

@@ -1,35 +1,20 @@
 -- `header::vid_rules::rules_hold` meets its contract: one broken rule is enough, and past all others the last decides. Assumes nothing.
 use mathlib.Core.Path.{sym, _∙_}
-use Prim.Native.Nat.{_-_}
 use borrow.Author.Needs.{needs}
 use borrow.Author.Tests.{lt-ltb, le-ltb, le-leb, lt-leb, not-true, not-false}
 use mathlib.Core.Bool.{and-true}
 use Rattle.base.proofs.Answers.{one-broken}
 use Rattle.header.specs.Vid.{layoutRule, vidRules}
-use borrow.Author.Needs.{needs}
 use Rattle.header.proofs.vid_rules.rules_hold.Statement.{statement}
 use Rattle.header.proofs.vid_rules.rules_hold.Tie as tie
-use Rattle.header.proofs.vid_rules.rules_hold.Reads as reads
-use Rattle.header.proofs.vid_rules.rules_hold.Lts as lts
-use Rattle.header.proofs.vid_rules.dynamic_rule.Reads as dynamic-rule-reads
-use Rattle.header.proofs.vid_rules.is_type.Reads as is-type-reads
-use Rattle.header.proofs.vid_rules.layout_rule.Reads as layout-rule-reads
-use Rattle.header.proofs.vid_rules.static_rule.Reads as static-rule-reads
-use Rattle.header.proofs.vid_rules.volume_rule.Reads as volume-rule-reads
 
 returns : tie.Need-returns
 unfolding vidRules
 returns c = sym (one-broken (vidRules (c .before .before .args .leb-size) (c .before .before .args .h)) 0 (lt-leb _ _ (c .if1 .taken)))
 
-is-type-requires : tie.Need-is-type-requires
-is-type-requires c κs = search needs
-
 returns-2 : tie.Need-returns-2
 unfolding vidRules
 returns-2 c = sym (one-broken (vidRules (c .before .before .before .before .args .leb-size) (c .before .before .before .before .args .h)) 1 (sym (c .before .is-type .ensures) ∙ not-true (c .before .is-type .result) (c .if2 .taken)))
-
-volume-rule-requires : tie.Need-volume-rule-requires
-volume-rule-requires c κs = search needs
 
 returns-3 : tie.Need-returns-3
 unfolding vidRules
@@ -43,39 +28,21 @@ returns-5 : tie.Need-returns-5
 unfolding vidRules
 returns-5 c = sym (one-broken (vidRules (c .before .before .before .before .before .before .before .before .before .before .args .leb-size) (c .before .before .before .before .before .before .before .before .before .before .args .h)) 4 (lt-leb _ _ (c .if5 .taken)))
 
-cast-if6 : tie.Need-cast-if6
-cast-if6 c = search needs
-
-mul-if6 : tie.Need-mul-if6
-mul-if6 c = search needs
-
 returns-6 : tie.Need-returns-6
 unfolding vidRules
 returns-6 c = sym (one-broken (vidRules (c .before .before .before .before .before .before .before .before .before .before .before .before .args .leb-size) (c .before .before .before .before .before .before .before .before .before .before .before .before .args .h)) 5 (le-ltb _ _ (c .if6 .taken)))
-
-sub-if7 : tie.Need-sub-if7
-sub-if7 c = search needs
 
 returns-7 : tie.Need-returns-7
 unfolding vidRules
 returns-7 c = sym (one-broken (vidRules (c .before .before .before .before .before .before .before .before .before .before .before .before .before .before .before .args .leb-size) (c .before .before .before .before .before .before .before .before .before .before .before .before .before .before .before .args .h)) 6 (lt-leb _ _ (c .if7 .taken)))
 
-static-rule-requires : tie.Need-static-rule-requires
-static-rule-requires c κs = search needs
-
 returns-8 : tie.Need-returns-8
 unfolding vidRules
 returns-8 c = sym (one-broken (vidRules (c .before .before .before .before .before .before .before .before .before .before .before .before .before .before .before .before .before .args .leb-size) (c .before .before .before .before .before .before .before .before .before .before .before .before .before .before .before .before .before .args .h)) 7 (sym (c .before .static-rule .ensures) ∙ not-true (c .before .static-rule .result) (c .if8 .taken)))
 
-dynamic-rule-requires : tie.Need-dynamic-rule-requires
-dynamic-rule-requires c κs = search needs
-
 returns-9 : tie.Need-returns-9
 unfolding vidRules
 returns-9 c = sym (one-broken (vidRules (c .before .before .before .before .before .before .before .before .before .before .before .before .before .before .before .before .before .before .before .args .leb-size) (c .before .before .before .before .before .before .before .before .before .before .before .before .before .before .before .before .before .before .before .args .h)) 8 (sym (c .before .dynamic-rule .ensures) ∙ not-true (c .before .dynamic-rule .result) (c .if9 .taken)))
-
-layout-rule-requires : tie.Need-layout-rule-requires
-layout-rule-requires c κs = search needs
 
 returns-10 : tie.Need-returns-10
 unfolding vidRules
@@ -102,20 +69,20 @@ rules-hold-spec =
     tie.close
     (tie.spec
     returns
-    is-type-requires
+    (λ c κs. search needs)
     returns-2
-    volume-rule-requires
+    (λ c κs. search needs)
     returns-3
     returns-4
     returns-5
-    cast-if6
-    mul-if6
+    (λ c. search needs)
+    (λ c. search needs)
     returns-6
-    sub-if7
+    (λ c. search needs)
     returns-7
-    static-rule-requires
+    (λ c κs. search needs)
     returns-8
-    dynamic-rule-requires
+    (λ c κs. search needs)
     returns-9
-    layout-rule-requires
+    (λ c κs. search needs)
     returns-10)

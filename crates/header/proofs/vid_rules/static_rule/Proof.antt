@@ -1,14 +1,11 @@
 -- `header::vid_rules::static_rule` meets its contract. Assumes nothing.
-use Prim.Native.Nat.{_<_, _-_}
+use Prim.Native.Nat.{_<_}
 use native.Mathlib.Omega.{arith}
 use borrow.Author.Needs.{needs}
 use borrow.Author.Tests.{lt-ltb, le-ltb, eq-eqb, ne-eqb}
 use Rattle.header.specs.Vid.{staticRule}
-use borrow.Author.Needs.{needs}
 use Rattle.header.proofs.vid_rules.static_rule.Statement.{statement}
 use Rattle.header.proofs.vid_rules.static_rule.Tie as tie
-use Rattle.header.proofs.vid_rules.static_rule.Reads as reads
-use Rattle.header.proofs.vid_rules.static_rule.Lts as lts
 
 returns : tie.Need-returns
 unfolding staticRule
@@ -22,17 +19,11 @@ returns-3 : tie.Need-returns-3
 unfolding staticRule
 returns-3 c = rw (eq-eqb _ _ (c .before .before .before .before .if1 .left), lt-ltb _ _ (c .before .before .if2 .left), c .if3 .taken)
 
-add-if4 : tie.Need-add-if4
-add-if4 c = search needs
-
 returns-4 : tie.Need-returns-4
 unfolding staticRule
 returns-4 c =
     let z : 0 < c .before .before .before .before .before .before .before .before .before .args .h .«data_size» = omega arith in
     rw (eq-eqb _ _ (c .before .before .before .before .before .before .before .if1 .left), lt-ltb _ _ (c .before .before .before .before .before .if2 .left), lt-ltb _ _ z, eq-eqb _ _ (c .if4 .taken))
-
-sub-result : tie.Need-sub-result
-sub-result c = search needs
 
 returns-5 : tie.Need-returns-5
 unfolding staticRule
@@ -42,4 +33,4 @@ returns-5 c =
 
 pub static-rule-spec : {M : Type 1} → statement M
 static-rule-spec =
-    tie.close (tie.spec returns returns-2 returns-3 add-if4 returns-4 sub-result returns-5)
+    tie.close (tie.spec returns returns-2 returns-3 (λ c. search needs) returns-4 (λ c. search needs) returns-5)

@@ -8,8 +8,6 @@ use Rattle.report.specs.View.{allFF}
 use Rattle.scan.proofs.Laws.{ff-go, ff-stop, ff-end}
 use Rattle.scan.proofs.peb.all_ff.Statement.{statement}
 use Rattle.scan.proofs.peb.all_ff.Tie as tie
-use Rattle.scan.proofs.peb.all_ff.Reads as reads
-use Rattle.scan.proofs.peb.all_ff.Lts as lts
 
 abbrev Inv-loop : tie.InvT-loop
 Inv-loop s i₀ i = (i ≤ length s) × (allFF (drop i s) ≡ allFF s)
@@ -17,23 +15,16 @@ Inv-loop s i₀ i = (i ≤ length s) × (allFF (drop i s) ≡ allFF s)
 abbrev μ-loop : tie.MeasureT-loop
 μ-loop s i₀ i = length s - i
 
-loop-holds : tie.Need-loop-holds Inv-loop μ-loop
-loop-holds c = search needs
-
-shared-slice-read-if1 : tie.Need-shared-slice-read-if1 Inv-loop μ-loop
-shared-slice-read-if1 c = search needs
-
 returns : tie.Need-returns Inv-loop μ-loop
-returns c = sym (ff-stop (c .before .before .before .before .args .s .now) (c .before .before .before .loop .i) (omega arith) (c .if1 .taken)) ∙ c .before .before .before .loop .inv .1
-
-add-i : tie.Need-add-i Inv-loop μ-loop
-add-i c = search needs
-
-loop-less : tie.Need-loop-less Inv-loop μ-loop
-loop-less c = search needs
+returns c =
+    let l = c .before .before .before .loop in
+    sym (ff-stop (c .before .before .before .before .args .s .now) (l .i) (omega arith) (c .if1 .taken)) ∙ l .inv .1
 
 loop-again : tie.Need-loop-again Inv-loop μ-loop
-loop-again c = (omega arith, sym (ff-go (c .before .before .before .before .args .s .now) (c .before .before .before .loop .i) (omega arith) (c .if1 .left)) ∙ c .before .before .before .loop .inv .1)
+loop-again c =
+    let l = c .before .before .before .loop in
+    let s = c .before .before .before .before .args .s .now in
+    (omega arith, sym (ff-go s (l .i) (omega arith) (c .if1 .left)) ∙ l .inv .1)
 
 returns-2 : tie.Need-returns-2 Inv-loop μ-loop
 returns-2 c =
@@ -46,10 +37,10 @@ all-ff-spec =
     (tie.spec
     Inv-loop
     μ-loop
-    loop-holds
-    shared-slice-read-if1
+    (λ c. search needs)
+    (λ c. search needs)
     returns
-    add-i
-    loop-less
+    (λ c. search needs)
+    (λ c. search needs)
     loop-again
     returns-2)

@@ -1,15 +1,7 @@
 -- `scan::peb::blank_or_lost` meets its contract. Assumes nothing.
-use Prim.Native.Nat.{_-_}
-use borrow.Author.Needs.{needs}
 use borrow.Author.Needs.{needs}
 use Rattle.scan.proofs.peb.blank_or_lost.Statement.{statement}
 use Rattle.scan.proofs.peb.blank_or_lost.Tie as tie
-use Rattle.scan.proofs.peb.blank_or_lost.Reads as reads
-use Rattle.scan.proofs.peb.blank_or_lost.Lts as lts
-use Rattle.scan.proofs.peb.all_ff.Reads as all-ff-reads
-
-all-ff-requires : tie.Need-all-ff-requires
-all-ff-requires c κs = search needs
 
 returns : tie.Need-returns
 returns c = rw (← (c .before .all-ff .ensures), c .if1 .taken)
@@ -18,4 +10,4 @@ returns-2 : tie.Need-returns-2
 returns-2 c = rw (← (c .before .all-ff .ensures), c .if1 .left)
 
 pub blank-or-lost-spec : {M : Type 1} → statement M
-blank-or-lost-spec = tie.close (tie.spec all-ff-requires returns returns-2)
+blank-or-lost-spec = tie.close (tie.spec (λ c κs. search needs) returns returns-2)

@@ -1,85 +1,46 @@
 -- `scan::peb::see_ec` meets its contract. Assumes nothing.
-use mathlib.Core.Path.{_≡_, ap, _∙_}
-use Prim.Native.Nat.{_-_}
-use native.Mathlib.Omega.{arith}
+use mathlib.Core.Path.{_≡_, _∙_}
 use borrow.Author.Needs.{needs}
-use lib.ListN.{length, take}
-use Rattle.base.proofs.Lists.{length-part}
+use lib.ListN.{take}
 use Rattle.report.specs.View.{allFF, viewOf}
-use Rattle.scan.specs.Seen.{ecSeen}
-use Rattle.scan.specs.declared.EcSeen.the-variants.{Blank, Lost}
-use Rattle.scan.proofs.Laws.{ec-good, ec-newer, ec-bad, ec-not-short, through}
-use borrow.Author.Needs.{needs}
+use Rattle.scan.proofs.Laws.{ecFrom, ec-from, ec-long}
 use Rattle.scan.proofs.peb.see_ec.Statement.{statement}
 use Rattle.scan.proofs.peb.see_ec.Tie as tie
-use Rattle.scan.proofs.peb.see_ec.Reads as reads
-use Rattle.scan.proofs.peb.see_ec.Lts as lts
-use Rattle.header.proofs.read_ec.Reads as read-ec-reads
-use Rattle.scan.proofs.peb.blank_or_lost.Reads as blank-or-lost-reads
 
-sub-s : tie.Need-sub-s
-sub-s c = search needs
-
-part-s-start : tie.Need-part-s-start
-part-s-start c = search needs
-
-part-s-end : tie.Need-part-s-end
-part-s-end c = search needs
-
-read-ec-requires : tie.Need-read-ec-requires
-read-ec-requires c κs = search needs
-
-enum-known-r : tie.Need-enum-known-r
-enum-known-r c = search needs
-
--- the header has its 64 bytes
-sixty-four : (c : tie.After-shared-slice-known) → length (take 64 (c .before .args .p .now)) ≡ 64
-sixty-four c = length-part 0 64 (c .before .args .p .now) (omega (arith, c .before .pre .0 .vid-after-ec, c .before .pre .0 .data-after-vid, c .before .pre .0 .leb-fills))
+-- what the reader answers gives the view
+from : (c : tie.After-read-ec) → let a = c .before .before .before .args in
+    ecFrom (allFF (take 64 (a .p .now))) (c .read-ec .result) ≡ viewOf (a .g) (a .p .now) .ec
+unfolding viewOf
+from c =
+    let b = c .before .before .before in
+    ec-from _ (ec-long (b .pre .0) (b .args .p .now) (b .pre .1)) (c .read-ec .result) (c .read-ec .ensures)
 
 returns : tie.Need-returns
-unfolding viewOf
-returns c = ec-good (take 64 (c .before .before .before .before .before .before .args .p .now)) (sixty-four (c .before .before .before .before .before)) (c .before .r .given .0 .0) (rw (c .before .r .given .1) at (c .before .before .before .read-ec .ensures))
-
-enum-told : tie.Need-enum-told
-enum-told c = search needs
+returns c = rw (c .before .r .given .1) at (from (c .before .before .before))
 
 returns-2 : tie.Need-returns-2
-unfolding viewOf
-returns-2 c = ec-newer (take 64 (c .before .before .before .before .before .args .p .now)) (sixty-four (c .before .before .before .before)) (rw (c .enum-told .given .1) at (c .before .before .read-ec .ensures))
-
-enum-told-2 : tie.Need-enum-told-2
-enum-told-2 c = search needs
-
-blank-or-lost-requires : tie.Need-blank-or-lost-requires
-blank-or-lost-requires c κs = search needs
+returns-2 c = rw (c .enum-told .given .1) at (from (c .before .before))
 
 returns-3 : tie.Need-returns-3
-unfolding viewOf
-returns-3 c =
-    ap ecSeen (c .blank-or-lost .ensures) ∙ through ecSeen Blank Lost (allFF (take 64 (c .before .before .before .before .before .before .args .p .now)))
-    ∙ ec-bad (take 64 (c .before .before .before .before .before .before .args .p .now)) (sixty-four (c .before .before .before .before .before)) (rw (c .before .enum-told2 .given .1) at (c .before .before .before .read-ec .ensures))
-
-enum-told-3 : tie.Need-enum-told-3
-enum-told-3 c = search needs
+returns-3 c = c .blank-or-lost .ensures ∙ rw (c .before .enum-told2 .given .1) at (from (c .before .before .before))
 
 returns-4 : tie.Need-returns-4
-unfolding viewOf
-returns-4 c = ec-not-short (take 64 (c .before .before .before .before .before .args .p .now)) (sixty-four (c .before .before .before .before)) (rw (c .enum-told3 .given .1) at (c .before .before .read-ec .ensures))
+returns-4 c = rw (c .enum-told3 .given .1) at (from (c .before .before))
 
 pub see-ec-spec : {M : Type 1} → statement M
 see-ec-spec =
     tie.close
     (tie.spec
-    sub-s
-    part-s-start
-    part-s-end
-    read-ec-requires
-    enum-known-r
+    (λ c. search needs)
+    (λ c. search needs)
+    (λ c. search needs)
+    (λ c κs. search needs)
+    (λ c. search needs)
     returns
-    enum-told
+    (λ c. search needs)
     returns-2
-    enum-told-2
-    blank-or-lost-requires
+    (λ c. search needs)
+    (λ c κs. search needs)
     returns-3
-    enum-told-3
+    (λ c. search needs)
     returns-4)

@@ -1,110 +1,53 @@
 -- `scan::peb::see_vid` meets its contract. Assumes nothing.
-use mathlib.Core.Path.{_≡_, ap, _∙_}
-use Prim.Native.Nat.{_≤_, _-_, _+_}
-use native.Mathlib.Omega.{arith}
+use mathlib.Core.Path.{_≡_, _∙_}
 use borrow.Author.Needs.{needs}
-use mathlib.Core.List.{List}
-use Prim.Native.Nat.{ℕ}
-use lib.ListN.{length, take, drop}
-use Rattle.base.proofs.Lists.{length-part}
+use Rattle.base.proofs.Lists.{lent-part}
 use Rattle.report.specs.View.{allFF, viewOf, vidPart}
-use Rattle.scan.specs.Seen.{vidSeen}
-use Rattle.scan.specs.declared.VidSeen.the-variants.{Blank, Bad}
-use Rattle.scan.proofs.Laws.{vid-good, vid-newer, vid-bad, vid-not-short, through}
-use borrow.Author.Needs.{needs}
+use Rattle.scan.proofs.Laws.{vidFrom, vid-from, vid-long}
 use Rattle.scan.proofs.peb.see_vid.Statement.{statement}
 use Rattle.scan.proofs.peb.see_vid.Tie as tie
-use Rattle.scan.proofs.peb.see_vid.Reads as reads
-use Rattle.scan.proofs.peb.see_vid.Lts as lts
-use Rattle.header.proofs.read_vid.Reads as read-vid-reads
-use Rattle.scan.proofs.peb.blank_or_bad.Reads as blank-or-bad-reads
 
-cast-at : tie.Need-cast-at
-cast-at c = search needs
-
-add-s : tie.Need-add-s
-add-s c = search needs
-
-sub-s : tie.Need-sub-s
-sub-s c = search needs
-
-part-s-start : tie.Need-part-s-start
-part-s-start c = search needs
-
-part-s-end : tie.Need-part-s-end
-part-s-end c = search needs
-
-read-vid-requires : tie.Need-read-vid-requires
-read-vid-requires c κs = search needs
-
-enum-known-r : tie.Need-enum-known-r
-enum-known-r c = search needs
-
--- the header lies within the PEB
-within : (c : tie.After-shared-slice-known) → c .before .args .g .«vid_start» + 64 ≤ length (c .before .args .p .now)
-within c = omega (arith, c .before .pre .0 .data-after-vid, c .before .pre .0 .leb-fills)
-
-sixty-four : (c : tie.After-shared-slice-known) → length (vidPart (c .before .args .g) (c .before .args .p .now)) ≡ 64
-sixty-four c = length-part (c .before .args .g .«vid_start») 64 (c .before .args .p .now) (within c)
-
--- the part that is lent is the header's
-lent : (at : ℕ) (p : List ℕ) → take (at + 64 - at) (drop at p) ≡ take 64 (drop at p)
-lent at p = let e : at + 64 - at ≡ 64 = omega arith in rw e
+-- what the reader answers gives the view
+from : (c : tie.After-read-vid) → let a = c .before .before .before .before .args in
+    vidFrom (a .g) (a .p .now) (allFF (vidPart (a .g) (a .p .now))) (c .read-vid .result) ≡ viewOf (a .g) (a .p .now) .vid
+unfolding viewOf
+from c =
+    let b = c .before .before .before .before in
+    let a = b .args in
+    vid-from (a .g) (a .p .now) _ (vid-long (b .pre .0) (a .p .now) (b .pre .1)) (c .read-vid .result)
+    (rw (lent-part (a .g .«vid_start») 64 (a .p .now)) at (c .read-vid .ensures))
 
 returns : tie.Need-returns
-unfolding viewOf
-returns c =
-    let a = c .before .before .before .before .before .before .before .args in
-    vid-good (a .g) (a .p .now) (vidPart (a .g) (a .p .now)) (sixty-four (c .before .before .before .before .before .before)) (c .before .r .given .0 .0) (rw (c .before .r .given .1, lent (a .g .«vid_start») (a .p .now)) at (c .before .before .before .read-vid .ensures))
-
-enum-told : tie.Need-enum-told
-enum-told c = search needs
+returns c = rw (c .before .r .given .1) at (from (c .before .before .before))
 
 returns-2 : tie.Need-returns-2
-unfolding viewOf
-returns-2 c =
-    let a = c .before .before .before .before .before .before .args in
-    vid-newer (a .g) (a .p .now) (vidPart (a .g) (a .p .now)) (sixty-four (c .before .before .before .before .before)) (rw (c .enum-told .given .1, lent (a .g .«vid_start») (a .p .now)) at (c .before .before .read-vid .ensures))
-
-enum-told-2 : tie.Need-enum-told-2
-enum-told-2 c = search needs
-
-blank-or-bad-requires : tie.Need-blank-or-bad-requires
-blank-or-bad-requires c κs = search needs
+returns-2 c = rw (c .enum-told .given .1) at (from (c .before .before))
 
 returns-3 : tie.Need-returns-3
-unfolding viewOf
 returns-3 c =
     let a = c .before .before .before .before .before .before .before .args in
-    ap (vidSeen (a .g) (a .p .now)) (rw (lent (a .g .«vid_start») (a .p .now)) at (c .blank-or-bad .ensures))
-    ∙ through (vidSeen (a .g) (a .p .now)) Blank Bad (allFF (vidPart (a .g) (a .p .now)))
-    ∙ vid-bad (a .g) (a .p .now) (vidPart (a .g) (a .p .now)) (sixty-four (c .before .before .before .before .before .before)) (rw (c .before .enum-told2 .given .1, lent (a .g .«vid_start») (a .p .now)) at (c .before .before .before .read-vid .ensures))
-
-enum-told-3 : tie.Need-enum-told-3
-enum-told-3 c = search needs
+    rw (lent-part (a .g .«vid_start») 64 (a .p .now)) at (c .blank-or-bad .ensures (a .g) (a .p .now))
+    ∙ rw (c .before .enum-told2 .given .1) at (from (c .before .before .before))
 
 returns-4 : tie.Need-returns-4
-unfolding viewOf
-returns-4 c =
-    let a = c .before .before .before .before .before .before .args in
-    vid-not-short (a .g) (a .p .now) (vidPart (a .g) (a .p .now)) (sixty-four (c .before .before .before .before .before)) (rw (c .enum-told3 .given .1, lent (a .g .«vid_start») (a .p .now)) at (c .before .before .read-vid .ensures))
+returns-4 c = rw (c .enum-told3 .given .1) at (from (c .before .before))
 
 pub see-vid-spec : {M : Type 1} → statement M
 see-vid-spec =
     tie.close
     (tie.spec
-    cast-at
-    add-s
-    sub-s
-    part-s-start
-    part-s-end
-    read-vid-requires
-    enum-known-r
+    (λ c. search needs)
+    (λ c. search needs)
+    (λ c. search needs)
+    (λ c. search needs)
+    (λ c. search needs)
+    (λ c κs. search needs)
+    (λ c. search needs)
     returns
-    enum-told
+    (λ c. search needs)
     returns-2
-    enum-told-2
-    blank-or-bad-requires
+    (λ c. search needs)
+    (λ c κs. search needs)
     returns-3
-    enum-told-3
+    (λ c. search needs)
     returns-4)

@@ -1,134 +1,116 @@
--- `scan::run::pass` meets its contract: the PEBs passed so far have given no refusal, and their sums and words are there. Assumes nothing.
+-- `scan::run::pass` meets its contract: the PEBs passed so far have given no refusal, and their totals and words are
+-- there. Assumes nothing.
 use mathlib.Core.Path.{_≡_, refl}
-use Prim.Native.Nat.{_≤_, _-_, _+_}
+use Prim.Native.Nat.{_≤_, _-_, _+_, _*_}
+use native.Mathlib.Nat.{mul-le-mul, mul-le-mul-right}
 use native.Mathlib.Omega.{arith}
 use borrow.Author.Needs.{needs}
-use Prim.Native.Nat.{_*_}
-use native.Mathlib.Nat.{mul-le-mul, mul-le-mul-right}
 use lib.ListN.{length}
-use Rattle.report.specs.View.{viewsOf, pebAt}
-use Rattle.scan.proofs.Turns.{small-view}
-use Rattle.scan.proofs.Passes.{Passing, passing-none, pass-on, pass-refused, pass-whole, peb-part}
+use Rattle.base.proofs.Lists.{lent-length}
+use Rattle.words.specs.Words.{mostPebs}
+use Rattle.report.specs.View.{viewsOf, mediumOf}
+use Rattle.scan.proofs.Passes.{Passing, passing-none, pass-on, pass-refused, pass-whole}
 use Rattle.scan.proofs.run.pass.Statement.{statement}
 use Rattle.scan.proofs.run.pass.Tie as tie
-use Rattle.scan.proofs.run.pass.Reads as reads
-use Rattle.scan.proofs.run.pass.Lts as lts
-use Rattle.scan.proofs.run.no_sums.Reads as no-sums-reads
-use Rattle.scan.proofs.run.pass_peb.Reads as pass-peb-reads
 
 abbrev Inv-loop : tie.InvT-loop
 Inv-loop image g n pebs₀ map₀ size s₀ i₀ pebs map s i =
-    (i ≤ n) × ((length pebs ≡ length pebs₀) × ((length map ≡ length map₀) × Passing g n i (viewsOf g image) s pebs₀ pebs map₀ map))
+    (i ≤ n) × (length pebs ≡ length pebs₀) × (length map ≡ length map₀)
+    × Passing (mediumOf g n image) i s pebs₀ pebs map₀ map
 
 abbrev μ-loop : tie.MeasureT-loop
 μ-loop image g n pebs₀ map₀ size s₀ i₀ pebs map s i = n - i
 
-cast-size : tie.Need-cast-size Inv-loop μ-loop
-cast-size c = search needs
-
-no-sums-requires : tie.Need-no-sums-requires Inv-loop μ-loop
-no-sums-requires c κs = search needs
-
 loop-holds : tie.Need-loop-holds Inv-loop μ-loop
 loop-holds c =
     let a = c .before .before .before .before .before .args in
-    (omega arith, (refl, (refl, passing-none (a .g) (a .n) (viewsOf (a .g) (a .image .now)) (c .no-sums .result) (a .pebs .now) (a .map .now) (c .no-sums .ensures (viewsOf (a .g) (a .image .now))))))
+    let m = mediumOf (a .g) (a .n) (a .image .now) in
+    (omega arith, refl, refl, passing-none m (c .no-totals .ensures (viewsOf (a .g) (a .image .now))))
 
 -- PEB i lies within the image
-small-place : (c : tie.In-loop Inv-loop μ-loop) → c .before .loop .i * c .before .before .before .before .before .before .before .args .g .«peb_size» ≤ 4096 * 262144
-small-place c = mul-le-mul {n₁ = c .before .loop .i} {n₂ = 4096} (omega arith) (c .before .before .before .before .before .before .before .pre .0 .peb-most)
+small-place : (c : tie.In-loop Inv-loop μ-loop)
+    → let a = c .before .before .before .before .before .before .before .args in c .before .loop .i * a .g .«peb_size» ≤ mostPebs * 262144
+small-place c =
+    let p = c .before .before .before .before .before .before .before .pre in
+    mul-le-mul {n₁ = c .before .loop .i} {n₂ = mostPebs} (omega arith) (p .placed .peb-most)
 
-within : (c : tie.In-loop Inv-loop μ-loop) → c .before .loop .i * c .before .before .before .before .before .before .before .args .g .«peb_size» + c .before .before .before .before .before .before .before .args .g .«peb_size» ≤ length (c .before .before .before .before .before .before .before .args .image .now)
-within c = omega (arith, mul-le-mul-right {m = c .before .loop .i + 1} {n = c .before .before .before .before .before .before .before .args .n} (c .before .before .before .before .before .before .before .args .g .«peb_size») (omega arith))
+within : (c : tie.In-loop Inv-loop μ-loop)
+    → let a = c .before .before .before .before .before .before .before .args in
+    c .before .loop .i * a .g .«peb_size» + a .g .«peb_size» ≤ length (a .image .now)
+within c =
+    let a = c .before .before .before .before .before .before .before .args in
+    omega (arith, mul-le-mul-right {m = c .before .loop .i + 1} {n = a .n} (a .g .«peb_size») (omega arith))
 
 mul-at : tie.Need-mul-at Inv-loop μ-loop
 mul-at c = record { fits = omega (arith, small-place c) }
 
 add-pass-peb : tie.Need-add-pass-peb Inv-loop μ-loop
-add-pass-peb c = record { fits = omega (arith, small-place c, c .before .before .before .before .before .before .before .pre .0 .peb-most) }
-
-sub-pass-peb : tie.Need-sub-pass-peb Inv-loop μ-loop
-sub-pass-peb c = search needs
-
-part-pass-peb-start : tie.Need-part-pass-peb-start Inv-loop μ-loop
-part-pass-peb-start c = search needs
+add-pass-peb c =
+    let p = c .before .before .before .before .before .before .before .pre in
+    record { fits = omega (arith, small-place c, p .placed .peb-most) }
 
 part-pass-peb-end : tie.Need-part-pass-peb-end Inv-loop μ-loop
 part-pass-peb-end c = omega (arith, within c)
 
 pass-peb-requires : tie.Need-pass-peb-requires Inv-loop μ-loop
 pass-peb-requires c κs =
-    let a = c .before .before .before .before .before .before .before .before .before .before .args in
-    let l = c .before .before .before .before .loop in (
-      c .before .before .before .before .before .before .before .before .before .before .pre .0,
-      (
-        peb-part (a .image .now) (l .i * a .g .«peb_size») (a .g .«peb_size») (within (c .before .before .before)),
-        (
-          omega arith,
-          (
-            omega arith,
-            (
-              omega arith,
-              (omega (arith, l .inv .1 .1 .1 .sums .counters-small), omega (arith, l .inv .1 .1 .1 .sums .good-few)),
-            ),
-          ),
-        ),
-      ),
-    )
+    let b = c .before .before .before in
+    let d = b .before .before .before .before .before .before .before in
+    let a = d .args in
+    let t = b .before .loop .inv .3 .totals in
+    record {
+      placed = d .pre .placed;
+      whole = lent-length (b .before .loop .i * a .g .«peb_size») (a .g .«peb_size») (a .image .now) (within b);
+      few = omega arith;
+      has-peb = omega arith;
+      has-entry = omega arith;
+      small = record {
+        counters-small = omega (arith, t .counters-small, t .good-few);
+        good-few = omega (arith, t .good-few);
+      };
+    }
+
+-- i is below n, which is small
+few : (c : tie.After-pass-peb Inv-loop μ-loop) → c .before .before .before .before .before .loop .i + 1 ≤ mostPebs
+few c =
+    let l = c .before .before .before .before in
+    omega (arith, l .loop-test .taken, l .before .before .before .before .before .before .before .pre .few)
 
 cast-t22 : tie.Need-cast-t22 Inv-loop μ-loop
-cast-t22 c = omega (arith, c .before .before .before .before .before .before .before .before .before .before .before .loop-test .taken, c .before .before .before .before .before .before .before .before .before .before .before .before .before .before .before .before .before .before .pre .1 .1 .0)
-
-same-length : tie.Need-same-length Inv-loop μ-loop
-same-length c = search needs
-
-same-length-2 : tie.Need-same-length-2 Inv-loop μ-loop
-same-length-2 c = search needs
+cast-t22 c = omega (arith, few (c .before .before .before .before .before .before .before))
 
 returns : tie.Need-returns Inv-loop μ-loop
 returns c =
-    let a = c .before .before .before .before .before .before .before .before .before .before .before .before .before .before .before .before .before .before .args in
-    let l = c .before .before .before .before .before .before .before .before .before .before .before .before .loop in
-    let vs = viewsOf (a .g) (a .image .now) in
-    let e : l .i * a .g .«peb_size» + a .g .«peb_size» - l .i * a .g .«peb_size» ≡ a .g .«peb_size» = omega arith in
-    pass-refused (a .g) (a .n) (l .i) vs (omega arith) (l .s) (a .pebs .now) (l .pebs) (a .map .now) (l .map) (l .inv .1 .1 .1)
-    (small-view (a .g) (pebAt (a .g) (a .image .now) (l .i))) (c .before .before .before .before .before .before .before .pass-peb .result) _ _ (rw e at (c .before .before .before .before .before .before .before .pass-peb .ensures)) (c .if1 .taken)
+    let d = c .before .before .before .before .before .before .before in
+    let a = d .before .before .before .before .before .before .before .before .before .before .before .args in
+    pass-refused (a .g) (a .n) (a .image .now) (d .before .before .before .before .before .loop .inv .3) (omega arith)
+    (d .pass-peb .ensures) (c .if1 .taken)
 
 add-i : tie.Need-add-i Inv-loop μ-loop
-add-i c = record { fits = omega (arith, c .before .before .before .before .before .before .before .before .before .before .before .loop-test .taken, c .before .before .before .before .before .before .before .before .before .before .before .before .before .before .before .before .before .before .pre .1 .1 .0) }
-
-loop-less : tie.Need-loop-less Inv-loop μ-loop
-loop-less c = search needs
+add-i c = record { fits = omega (arith, few (c .before .before .before .before .before .before .before)) }
 
 loop-again : tie.Need-loop-again Inv-loop μ-loop
 loop-again c =
-    let a = c .before .before .before .before .before .before .before .before .before .before .before .before .before .before .before .before .before .before .args in
-    let l = c .before .before .before .before .before .before .before .before .before .before .before .before .loop in
-    let vs = viewsOf (a .g) (a .image .now) in
-    let e : l .i * a .g .«peb_size» + a .g .«peb_size» - l .i * a .g .«peb_size» ≡ a .g .«peb_size» = omega arith in (
+    let d = c .before .before .before .before .before .before .before in
+    let a = d .before .before .before .before .before .before .before .before .before .before .before .args in
+    let o = d .before .before .before .before .before .loop .inv .3 in (
       omega arith,
-      (
-        search needs,
-        (
-          search needs,
-          pass-on (a .g) (a .n) (l .i) vs (omega arith) (l .s) (a .pebs .now) (l .pebs) (a .map .now) (l .map) (l .inv .1 .1 .1)
-              (small-view (a .g) (pebAt (a .g) (a .image .now) (l .i))) (c .before .before .before .before .before .before .before .pass-peb .result) _ _ (rw e at (c .before .before .before .before .before .before .before .pass-peb .ensures)) (c .if1 .left),
-        ),
-      ),
+      search needs,
+      search needs,
+      pass-on (a .g) (a .n) (a .image .now) o (omega arith) (d .pass-peb .ensures) (c .if1 .left),
     )
 
 same-length-3 : tie.Need-same-length-3 Inv-loop μ-loop
-same-length-3 c = c .before .loop .inv .1 .0
+same-length-3 c = c .before .loop .inv .1
 
 same-length-4 : tie.Need-same-length-4 Inv-loop μ-loop
-same-length-4 c = c .before .loop .inv .1 .1 .0
+same-length-4 c = c .before .loop .inv .2
 
 returns-2 : tie.Need-returns-2 Inv-loop μ-loop
 returns-2 c =
-    let a = c .before .before .before .before .before .before .before .args in
     let l = c .before .loop in
-    let e : l .i ≡ a .n = omega arith in
-    pass-whole (a .g) (a .n) (viewsOf (a .g) (a .image .now)) (l .s) (a .pebs .now) (l .pebs) (a .map .now) (l .map) (rw e at (l .inv .1 .1 .1))
+    let e : l .i ≡ c .before .before .before .before .before .before .before .args .n = omega arith in
+    pass-whole (rw e at (l .inv .3))
 
 pub pass-spec : {M : Type 1} → statement M
 pass-spec =
@@ -136,21 +118,21 @@ pass-spec =
     (tie.spec
     Inv-loop
     μ-loop
-    cast-size
-    no-sums-requires
+    (λ c. search needs)
+    (λ c κs. search needs)
     loop-holds
     mul-at
     add-pass-peb
-    sub-pass-peb
-    part-pass-peb-start
+    (λ c. search needs)
+    (λ c. search needs)
     part-pass-peb-end
     pass-peb-requires
     cast-t22
-    same-length
-    same-length-2
+    (λ c. search needs)
+    (λ c. search needs)
     returns
     add-i
-    loop-less
+    (λ c. search needs)
     loop-again
     same-length-3
     same-length-4

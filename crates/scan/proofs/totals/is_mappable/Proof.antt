@@ -1,10 +1,7 @@
 -- `scan::totals::is_mappable` meets its contract. Assumes nothing.
-use Prim.Native.Nat.{_-_}
 use borrow.Author.Tests.{lt-ltb, le-ltb}
 use Rattle.scan.proofs.totals.is_mappable.Statement.{statement}
 use Rattle.scan.proofs.totals.is_mappable.Tie as tie
-use Rattle.scan.proofs.totals.is_mappable.Reads as reads
-use Rattle.scan.proofs.totals.is_mappable.Lts as lts
 
 returns : tie.Need-returns
 returns c = rw (lt-ltb _ _ (c .if1 .taken))

@@ -1,36 +1,21 @@
 -- `scan::totals::with_ec` meets its contract. Assumes nothing.
-use Prim.Native.Nat.{_-_}
-use borrow.Author.Needs.{needs}
 use borrow.Author.Needs.{needs}
 use Rattle.scan.proofs.totals.with_ec.Statement.{statement}
 use Rattle.scan.proofs.totals.with_ec.Tie as tie
-use Rattle.scan.proofs.totals.with_ec.Reads as reads
-use Rattle.scan.proofs.totals.with_ec.Lts as lts
-use Rattle.scan.proofs.totals.with_good_ec.Reads as with-good-ec-reads
-
-enum-known-e : tie.Need-enum-known-e
-enum-known-e c = search needs
 
 with-good-ec-requires : tie.Need-with-good-ec-requires
-with-good-ec-requires c κs = (c .before .before .before .pre .0, (c .before .before .before .pre .1 .0, rw (c .before .e .given .1) at (c .before .before .before .pre .1 .1)))
+with-good-ec-requires c κs =
+    let p = c .before .before .before .pre in
+    (p .0, rw (c .before .e .given .1) at (p .1))
 
 returns : tie.Need-returns
 returns c = rw (c .before .before .e .given .1) (c .with-good-ec .ensures)
 
-enum-told : tie.Need-enum-told
-enum-told c = search needs
-
 returns-2 : tie.Need-returns-2
 returns-2 c = rw (c .enum-told .given .1)
 
-enum-told-2 : tie.Need-enum-told-2
-enum-told-2 c = search needs
-
 returns-3 : tie.Need-returns-3
 returns-3 c = rw (c .enum-told2 .given .1)
-
-enum-told-3 : tie.Need-enum-told-3
-enum-told-3 c = search needs
 
 returns-4 : tie.Need-returns-4
 returns-4 c = rw (c .enum-told3 .given .1)
@@ -39,12 +24,12 @@ pub with-ec-spec : {M : Type 1} → statement M
 with-ec-spec =
     tie.close
     (tie.spec
-    enum-known-e
+    (λ c. search needs)
     with-good-ec-requires
     returns
-    enum-told
+    (λ c. search needs)
     returns-2
-    enum-told-2
+    (λ c. search needs)
     returns-3
-    enum-told-3
+    (λ c. search needs)
     returns-4)

@@ -4,17 +4,9 @@ use borrow.Author.Needs.{needs}
 use Rattle.volume_table.proofs.Records.{fits}
 use Rattle.volume_table.proofs.fields.field_of.Statement.{statement}
 use Rattle.volume_table.proofs.fields.field_of.Tie as tie
-use Rattle.volume_table.proofs.fields.field_of.Reads as reads
-use Rattle.volume_table.proofs.fields.field_of.Lts as lts
-
-mul-result : tie.Need-mul-result
-mul-result c = search needs
-
-array-copy-out-result : tie.Need-array-copy-out-result
-array-copy-out-result c = search needs
 
 returns : tie.Need-returns
 returns c = (refl, fits (c .before .args .i))
 
 pub field-of-spec : {M : Type 1} → statement M
-field-of-spec = tie.close (tie.spec mul-result array-copy-out-result returns)
+field-of-spec = tie.close (tie.spec (λ c. search needs) (λ c. search needs) returns)

@@ -4,13 +4,6 @@ use borrow.Author.Needs.{needs}
 use Rattle.volume_table.proofs.Records.{fits}
 use Rattle.volume_table.proofs.fields.get_field.Statement.{statement}
 use Rattle.volume_table.proofs.fields.get_field.Tie as tie
-use Rattle.volume_table.proofs.fields.get_field.Reads as reads
-use Rattle.volume_table.proofs.fields.get_field.Lts as lts
-use Rattle.field.proofs.read.Reads as read-reads
-use Rattle.volume_table.proofs.fields.field_of.Reads as field-of-reads
-
-field-of-requires : tie.Need-field-of-requires
-field-of-requires c κs = search needs
 
 read-requires : tie.Need-read-requires
 read-requires c κs = let i = c .before .before .args .i in rw (c .field-of .ensures .0) (omega (arith, fits i), c .before .before .pre .1 .0)
@@ -19,4 +12,4 @@ returns : tie.Need-returns
 returns c = rw (← (c .before .field-of .ensures .0)) (c .read .ensures)
 
 pub get-field-spec : {M : Type 1} → statement M
-get-field-spec = tie.close (tie.spec field-of-requires read-requires returns)
+get-field-spec = tie.close (tie.spec (λ c κs. search needs) read-requires returns)

@@ -5,8 +5,6 @@ use borrow.Author.Tests.{eq-eqb, ne-eqb}
 use Rattle.volume_table.proofs.Records.{not-aligned}
 use Rattle.volume_table.proofs.record.is_aligned.Statement.{statement}
 use Rattle.volume_table.proofs.record.is_aligned.Tie as tie
-use Rattle.volume_table.proofs.record.is_aligned.Reads as reads
-use Rattle.volume_table.proofs.record.is_aligned.Lts as lts
 
 returns : tie.Need-returns
 returns c = rw (eq-eqb _ _ (c .if1 .taken))
@@ -14,11 +12,8 @@ returns c = rw (eq-eqb _ _ (c .if1 .taken))
 returns-2 : tie.Need-returns-2
 returns-2 c = rw (c .if2 .taken) (not-aligned (c .before .before .args .alignment) (omega arith) (c .before .if1 .left))
 
-rem-result : tie.Need-rem-result
-rem-result c = search needs
-
 returns-3 : tie.Need-returns-3
 returns-3 c = rw (ne-eqb _ _ (c .before .if1 .left))
 
 pub is-aligned-spec : {M : Type 1} → statement M
-is-aligned-spec = tie.close (tie.spec returns returns-2 rem-result returns-3)
+is-aligned-spec = tie.close (tie.spec returns returns-2 (λ c. search needs) returns-3)

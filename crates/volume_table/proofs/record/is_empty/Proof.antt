@@ -3,16 +3,10 @@ use borrow.Author.Needs.{needs}
 use Rattle.volume_table.specs.Record.{isEmpty}
 use Rattle.volume_table.proofs.record.is_empty.Statement.{statement}
 use Rattle.volume_table.proofs.record.is_empty.Tie as tie
-use Rattle.volume_table.proofs.record.is_empty.Reads as reads
-use Rattle.volume_table.proofs.record.is_empty.Lts as lts
-use Rattle.base.proofs.same.Reads as same-reads
-
-same-requires : tie.Need-same-requires
-same-requires c κs = search needs
 
 returns : tie.Need-returns
 unfolding isEmpty
 returns c = rw (c .before .before .before .pre .1) at (c .same .ensures)
 
 pub is-empty-spec : {M : Type 1} → statement M
-is-empty-spec = tie.close (tie.spec same-requires returns)
+is-empty-spec = tie.close (tie.spec (λ c κs. search needs) returns)

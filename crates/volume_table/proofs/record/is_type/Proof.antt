@@ -2,8 +2,6 @@
 use borrow.Author.Tests.{eq-eqb, ne-eqb}
 use Rattle.volume_table.proofs.record.is_type.Statement.{statement}
 use Rattle.volume_table.proofs.record.is_type.Tie as tie
-use Rattle.volume_table.proofs.record.is_type.Reads as reads
-use Rattle.volume_table.proofs.record.is_type.Lts as lts
 
 returns : tie.Need-returns
 returns c = rw (eq-eqb _ _ (c .if1 .taken))

@@ -8,8 +8,6 @@ use Rattle.base.specs.Below.{allBelow}
 use Rattle.volume_table.proofs.Records.{named, name-more, name-cut, name-whole}
 use Rattle.volume_table.proofs.record.name_ends.Statement.{statement}
 use Rattle.volume_table.proofs.record.name_ends.Tie as tie
-use Rattle.volume_table.proofs.record.name_ends.Reads as reads
-use Rattle.volume_table.proofs.record.name_ends.Lts as lts
 
 abbrev Inv-loop : tie.InvT-loop
 Inv-loop n name i₀ i = (i ≤ n) × (allBelow i (named name) ≡ true)
@@ -17,26 +15,11 @@ Inv-loop n name i₀ i = (i ≤ n) × (allBelow i (named name) ≡ true)
 abbrev μ-loop : tie.MeasureT-loop
 μ-loop n name i₀ i = n - i
 
-loop-holds : tie.Need-loop-holds Inv-loop μ-loop
-loop-holds c = search needs
-
-array-read-if1 : tie.Need-array-read-if1 Inv-loop μ-loop
-array-read-if1 c = search needs
-
 returns : tie.Need-returns Inv-loop μ-loop
 returns c = name-cut (c .before .before .before .args .t1) (c .before .before .before .args .n) (c .before .before .loop .i) (omega arith) (c .if1 .taken)
 
-add-i : tie.Need-add-i Inv-loop μ-loop
-add-i c = search needs
-
-loop-less : tie.Need-loop-less Inv-loop μ-loop
-loop-less c = search needs
-
 loop-again : tie.Need-loop-again Inv-loop μ-loop
 loop-again c = (omega arith, name-more (c .before .before .before .args .t1) (c .before .before .loop .i) (c .before .before .loop .inv .1) (c .if1 .left))
-
-array-read-result : tie.Need-array-read-result Inv-loop μ-loop
-array-read-result c = search needs
 
 returns-2 : tie.Need-returns-2 Inv-loop μ-loop
 returns-2 c =
@@ -49,11 +32,11 @@ name-ends-spec =
     (tie.spec
     Inv-loop
     μ-loop
-    loop-holds
-    array-read-if1
+    (λ c. search needs)
+    (λ c. search needs)
     returns
-    add-i
-    loop-less
+    (λ c. search needs)
+    (λ c. search needs)
     loop-again
-    array-read-result
+    (λ c. search needs)
     returns-2)

@@ -7,26 +7,13 @@ use Rattle.base.proofs.Lists.{length-part}
 use Rattle.base.proofs.Stores.{put-all}
 use Rattle.volume_table.proofs.record.name_field.Statement.{statement}
 use Rattle.volume_table.proofs.record.name_field.Tie as tie
-use Rattle.volume_table.proofs.record.name_field.Reads as reads
-use Rattle.volume_table.proofs.record.name_field.Lts as lts
-use Rattle.base.proofs.store.Reads as store-reads
-use Rattle.volume_table.proofs.fields.field_bytes.Reads as field-bytes-reads
 
 -- the field is as long as the array
 long : (c : tie.After-field-bytes) → length (c .field-bytes .result .now) ≡ 128
 long c = rw (c .field-bytes .ensures) (length-part 16 128 (c .before .before .before .args .r .now) (omega arith))
 
-slice-aggregate-store : tie.Need-slice-aggregate-store
-slice-aggregate-store c = search needs
-
-field-bytes-requires : tie.Need-field-bytes-requires
-field-bytes-requires c κs = search needs
-
-store-requires : tie.Need-store-requires
-store-requires c κs = omega (arith, long c)
-
 returns : tie.Need-returns
 returns c = c .before .store .ensures ∙ put-all _ _ (long (c .before .before)) ∙ c .before .before .field-bytes .ensures
 
 pub name-field-spec : {M : Type 1} → statement M
-name-field-spec = tie.close (tie.spec slice-aggregate-store field-bytes-requires store-requires returns)
+name-field-spec = tie.close (tie.spec (λ c. search needs) (λ c κs. search needs) (λ c κs. omega (arith, long c)) returns)

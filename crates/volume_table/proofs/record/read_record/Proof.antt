@@ -3,50 +3,14 @@ use borrow.Author.Needs.{needs}
 use Rattle.volume_table.proofs.Records.{read-short, read-empty, read-good, read-bad}
 use Rattle.volume_table.proofs.record.read_record.Statement.{statement}
 use Rattle.volume_table.proofs.record.read_record.Tie as tie
-use Rattle.volume_table.proofs.record.read_record.Reads as reads
-use Rattle.volume_table.proofs.record.read_record.Lts as lts
-use Rattle.volume_table.proofs.record.is_empty.Reads as is-empty-reads
-use Rattle.volume_table.proofs.record.empty_record.Reads as empty-record-reads
-use Rattle.volume_table.proofs.record.is_good.Reads as is-good-reads
-use Rattle.volume_table.proofs.record.parse.Reads as parse-reads
-
-slice-aggregate-parse : tie.Need-slice-aggregate-parse
-slice-aggregate-parse c = search needs
-
-parse-requires : tie.Need-parse-requires
-parse-requires c κs = search needs
 
 returns : tie.Need-returns
 returns c = let a = c .before .before .before .before .args in read-short (a .leb-size) (a .unit) (a .bytes .now) (c .before .before .if1 .taken) (c .parse .ensures)
-
-sub-r : tie.Need-sub-r
-sub-r c = search needs
-
-part-r-start : tie.Need-part-r-start
-part-r-start c = search needs
-
-part-r-end : tie.Need-part-r-end
-part-r-end c = search needs
-
-parse-requires-2 : tie.Need-parse-requires-2
-parse-requires-2 c κs = search needs
-
-empty-record-requires : tie.Need-empty-record-requires
-empty-record-requires c κs = search needs
-
-slice-aggregate-is-empty : tie.Need-slice-aggregate-is-empty
-slice-aggregate-is-empty c = search needs
-
-is-empty-requires : tie.Need-is-empty-requires
-is-empty-requires c κs = search needs
 
 returns-2 : tie.Need-returns-2
 returns-2 c =
     let a = c .before .before .before .before .before .before .before .before .args in
     read-empty (a .leb-size) (a .unit) (a .bytes .now) (c .before .before .before .before .before .before .if1 .left) (c .before .before .before .before .parse2 .ensures) (c .before .is-empty .ensures) (c .if2 .taken)
-
-is-good-requires : tie.Need-is-good-requires
-is-good-requires c κs = search needs
 
 returns-3 : tie.Need-returns-3
 returns-3 c =
@@ -64,17 +28,17 @@ pub read-record-spec : {M : Type 1} → statement M
 read-record-spec =
     tie.close
     (tie.spec
-    slice-aggregate-parse
-    parse-requires
+    (λ c. search needs)
+    (λ c κs. search needs)
     returns
-    sub-r
-    part-r-start
-    part-r-end
-    parse-requires-2
-    empty-record-requires
-    slice-aggregate-is-empty
-    is-empty-requires
+    (λ c. search needs)
+    (λ c. search needs)
+    (λ c. search needs)
+    (λ c κs. search needs)
+    (λ c κs. search needs)
+    (λ c. search needs)
+    (λ c κs. search needs)
     returns-2
-    is-good-requires
+    (λ c κs. search needs)
     returns-3
     returns-4)

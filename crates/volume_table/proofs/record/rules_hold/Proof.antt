@@ -6,11 +6,6 @@ use Rattle.volume_table.proofs.Laws.{was-false, was-true, not-above}
 use Rattle.volume_table.proofs.Records.{broken, flags-decide}
 use Rattle.volume_table.proofs.record.rules_hold.Statement.{statement}
 use Rattle.volume_table.proofs.record.rules_hold.Tie as tie
-use Rattle.volume_table.proofs.record.rules_hold.Reads as reads
-use Rattle.volume_table.proofs.record.rules_hold.Lts as lts
-use Rattle.volume_table.proofs.record.is_aligned.Reads as is-aligned-reads
-use Rattle.volume_table.proofs.record.is_type.Reads as is-type-reads
-use Rattle.volume_table.proofs.record.name_ends.Reads as name-ends-reads
 
 returns : tie.Need-returns
 unfolding recordRules
@@ -24,22 +19,13 @@ returns-3 : tie.Need-returns-3
 unfolding recordRules
 returns-3 c = let a = c .before .before .before .before .before .before .args in broken (a .leb-size) (a .unit) (a .v) 2 (lt-leb _ _ (c .if3 .taken))
 
-is-aligned-requires : tie.Need-is-aligned-requires
-is-aligned-requires c κs = search needs
-
 returns-4 : tie.Need-returns-4
 unfolding recordRules
 returns-4 c = let a = c .before .before .before .before .before .before .before .before .args in broken (a .leb-size) (a .unit) (a .v) 3 (was-false (c .before .is-aligned .ensures) (c .if4 .taken))
 
-rem-if5 : tie.Need-rem-if5
-rem-if5 c = search needs
-
 returns-5 : tie.Need-returns-5
 unfolding recordRules
 returns-5 c = let a = c .before .before .before .before .before .before .before .before .before .before .before .args in broken (a .leb-size) (a .unit) (a .v) 4 (ne-eqb _ _ (c .if5 .taken))
-
-is-type-requires : tie.Need-is-type-requires
-is-type-requires c κs = search needs
 
 returns-6 : tie.Need-returns-6
 unfolding recordRules
@@ -56,12 +42,6 @@ returns-8 c = let a = c .before .before .before .before .before .before .before 
 returns-9 : tie.Need-returns-9
 unfolding recordRules
 returns-9 c = let a = c .before .before .before .before .before .before .before .before .before .before .before .before .before .before .before .before .before .before .before .args in broken (a .leb-size) (a .unit) (a .v) 8 (lt-leb _ _ (c .if9 .taken))
-
-cast-name-ends : tie.Need-cast-name-ends
-cast-name-ends c = search needs
-
-name-ends-requires : tie.Need-name-ends-requires
-name-ends-requires c κs = search needs
 
 returns-10 : tie.Need-returns-10
 unfolding recordRules
@@ -86,16 +66,16 @@ rules-hold-spec =
     returns
     returns-2
     returns-3
-    is-aligned-requires
+    (λ c κs. search needs)
     returns-4
-    rem-if5
+    (λ c. search needs)
     returns-5
-    is-type-requires
+    (λ c κs. search needs)
     returns-6
     returns-7
     returns-8
     returns-9
-    cast-name-ends
-    name-ends-requires
+    (λ c. search needs)
+    (λ c κs. search needs)
     returns-10
     returns-11)

@@ -5,20 +5,6 @@ use lib.Bits.{and-le-r}
 use Rattle.volume_table.proofs.Records.{fine-empty, fine-other, tallied-as}
 use Rattle.volume_table.proofs.record.tally_record.Statement.{statement}
 use Rattle.volume_table.proofs.record.tally_record.Tie as tie
-use Rattle.volume_table.proofs.record.tally_record.Reads as reads
-use Rattle.volume_table.proofs.record.tally_record.Lts as lts
-use Rattle.volume_table.proofs.record.is_empty.Reads as is-empty-reads
-use Rattle.volume_table.proofs.record.is_good.Reads as is-good-reads
-use Rattle.volume_table.proofs.record.parse.Reads as parse-reads
-
-parse-requires : tie.Need-parse-requires
-parse-requires c κs = search needs
-
-cast-reserved : tie.Need-cast-reserved
-cast-reserved c = search needs
-
-add-reserved : tie.Need-add-reserved
-add-reserved c = search needs
 
 cast-autoresize : tie.Need-cast-autoresize
 cast-autoresize c = omega (arith, and-le-r (c .before .before .before .parse .result .flags) 1)
@@ -26,16 +12,10 @@ cast-autoresize c = omega (arith, and-le-r (c .before .before .before .parse .re
 add-autoresize : tie.Need-add-autoresize
 add-autoresize c = omega (arith, and-le-r (c .before .before .before .before .parse .result .flags) 1)
 
-is-empty-requires : tie.Need-is-empty-requires
-is-empty-requires c κs = search needs
-
 returns : tie.Need-returns
 returns c =
     let a = c .before .before .before .before .before .before .before .before .before .args in
     (tallied-as (a .leb-size) (a .unit) (a .sum) (a .r .now) (c .before .before .before .before .before .before .parse .ensures) (fine-empty (a .leb-size) (a .unit) (a .r .now) (c .before .is-empty .ensures) (c .if1 .taken)), (omega arith, omega (arith, and-le-r (c .before .before .before .before .before .before .parse .result .flags) 1)))
-
-is-good-requires : tie.Need-is-good-requires
-is-good-requires c κs = search needs
 
 returns-2 : tie.Need-returns-2
 returns-2 c =
@@ -46,12 +26,12 @@ pub tally-record-spec : {M : Type 1} → statement M
 tally-record-spec =
     tie.close
     (tie.spec
-    parse-requires
-    cast-reserved
-    add-reserved
+    (λ c κs. search needs)
+    (λ c. search needs)
+    (λ c. search needs)
     cast-autoresize
     add-autoresize
-    is-empty-requires
+    (λ c κs. search needs)
     returns
-    is-good-requires
+    (λ c κs. search needs)
     returns-2)

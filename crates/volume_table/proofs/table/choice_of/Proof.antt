@@ -2,20 +2,6 @@
 use borrow.Author.Needs.{needs}
 use Rattle.volume_table.proofs.table.choice_of.Statement.{statement}
 use Rattle.volume_table.proofs.table.choice_of.Tie as tie
-use Rattle.volume_table.proofs.table.choice_of.Reads as reads
-use Rattle.volume_table.proofs.table.choice_of.Lts as lts
-
-returns : tie.Need-returns
-returns c = search needs
-
-returns-2 : tie.Need-returns-2
-returns-2 c = search needs
-
-returns-3 : tie.Need-returns-3
-returns-3 c = search needs
-
-returns-4 : tie.Need-returns-4
-returns-4 c = search needs
 
 pub choice-of-spec : {M : Type 1} → statement M
-choice-of-spec = tie.close (tie.spec returns returns-2 returns-3 returns-4)
+choice-of-spec = tie.close (tie.spec (λ c. search needs) (λ c. search needs) (λ c. search needs) (λ c. search needs))

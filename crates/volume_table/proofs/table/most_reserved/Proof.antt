@@ -2,17 +2,6 @@
 use borrow.Author.Needs.{needs}
 use Rattle.volume_table.proofs.table.most_reserved.Statement.{statement}
 use Rattle.volume_table.proofs.table.most_reserved.Tie as tie
-use Rattle.volume_table.proofs.table.most_reserved.Reads as reads
-use Rattle.volume_table.proofs.table.most_reserved.Lts as lts
-
-returns : tie.Need-returns
-returns c = search needs
-
-cast-result : tie.Need-cast-result
-cast-result c = search needs
-
-returns-2 : tie.Need-returns-2
-returns-2 c = search needs
 
 pub most-reserved-spec : {M : Type 1} → statement M
-most-reserved-spec = tie.close (tie.spec returns cast-result returns-2)
+most-reserved-spec = tie.close (tie.spec (λ c. search needs) (λ c. search needs) (λ c. search needs))

@@ -11,10 +11,6 @@ use Rattle.volume_table.proofs.Laws.{any-more, lent-length}
 use Rattle.volume_table.proofs.Tables.{empty-at, repeats, none-repeats, repeats-as}
 use Rattle.volume_table.proofs.table.name_repeats.Statement.{statement}
 use Rattle.volume_table.proofs.table.name_repeats.Tie as tie
-use Rattle.volume_table.proofs.table.name_repeats.Reads as reads
-use Rattle.volume_table.proofs.table.name_repeats.Lts as lts
-use Rattle.volume_table.proofs.record.is_empty.Reads as is-empty-reads
-use Rattle.volume_table.proofs.table.names_clash.Reads as names-clash-reads
 
 abbrev Inv-loop : tie.InvT-loop
 Inv-loop t j empty b s i₀ i = (i ≤ j) × (anyBelow i (repeats t j) ≡ false)
@@ -32,21 +28,6 @@ judged c =
     let a = d .args in
     repeats-as (a .t .now) (a .j) (l .loop .i) (empty-at (172 * a .j) (a .t .now) (s .is-empty .ensures)) (l .before .if1 .left) (rw (add-sub-cancel-left, add-sub-cancel-left) at (c .names-clash .ensures))
 
-mul-b : tie.Need-mul-b Inv-loop μ-loop
-mul-b c = search needs
-
-add-s : tie.Need-add-s Inv-loop μ-loop
-add-s c = search needs
-
-sub-s : tie.Need-sub-s Inv-loop μ-loop
-sub-s c = search needs
-
-part-s-start : tie.Need-part-s-start Inv-loop μ-loop
-part-s-start c = search needs
-
-part-s-end : tie.Need-part-s-end Inv-loop μ-loop
-part-s-end c = search needs
-
 is-empty-requires : tie.Need-is-empty-requires Inv-loop μ-loop
 is-empty-requires c κs =
     let d = c .before .before .before in
@@ -54,24 +35,6 @@ is-empty-requires c κs =
 
 returns : tie.Need-returns Inv-loop μ-loop
 returns c = let d = c .before .before .before .before .before in let a = d .args in none-repeats (a .t .now) (a .j) (empty-at (172 * a .j) (a .t .now) (c .before .is-empty .ensures)) (c .if1 .taken)
-
-loop-holds : tie.Need-loop-holds Inv-loop μ-loop
-loop-holds c = search needs
-
-mul-a : tie.Need-mul-a Inv-loop μ-loop
-mul-a c = search needs
-
-add-names-clash : tie.Need-add-names-clash Inv-loop μ-loop
-add-names-clash c = search needs
-
-sub-names-clash : tie.Need-sub-names-clash Inv-loop μ-loop
-sub-names-clash c = search needs
-
-part-names-clash-start : tie.Need-part-names-clash-start Inv-loop μ-loop
-part-names-clash-start c = search needs
-
-part-names-clash-end : tie.Need-part-names-clash-end Inv-loop μ-loop
-part-names-clash-end c = search needs
 
 names-clash-requires : tie.Need-names-clash-requires Inv-loop μ-loop
 names-clash-requires c κs =
@@ -85,12 +48,6 @@ returns-2 c =
     let l = c .before .before .before .before in
     let a = l .before .before .before .before .before .before .args in
     sym (any-intro (a .j) (repeats (a .t .now) (a .j)) (l .loop .i) (omega arith) (sym (judged (c .before)) ∙ c .if2 .taken))
-
-add-i : tie.Need-add-i Inv-loop μ-loop
-add-i c = search needs
-
-loop-less : tie.Need-loop-less Inv-loop μ-loop
-loop-less c = search needs
 
 loop-again : tie.Need-loop-again Inv-loop μ-loop
 loop-again c =
@@ -107,22 +64,22 @@ name-repeats-spec =
     (tie.spec
     Inv-loop
     μ-loop
-    mul-b
-    add-s
-    sub-s
-    part-s-start
-    part-s-end
+    (λ c. search needs)
+    (λ c. search needs)
+    (λ c. search needs)
+    (λ c. search needs)
+    (λ c. search needs)
     is-empty-requires
     returns
-    loop-holds
-    mul-a
-    add-names-clash
-    sub-names-clash
-    part-names-clash-start
-    part-names-clash-end
+    (λ c. search needs)
+    (λ c. search needs)
+    (λ c. search needs)
+    (λ c. search needs)
+    (λ c. search needs)
+    (λ c. search needs)
     names-clash-requires
     returns-2
-    add-i
-    loop-less
+    (λ c. search needs)
+    (λ c. search needs)
     loop-again
     returns-3)

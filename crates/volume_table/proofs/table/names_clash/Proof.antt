@@ -6,28 +6,11 @@ use Rattle.volume_table.proofs.Laws.{was-false, was-true}
 use Rattle.volume_table.proofs.Tables.{other-name, one-name}
 use Rattle.volume_table.proofs.table.names_clash.Statement.{statement}
 use Rattle.volume_table.proofs.table.names_clash.Tie as tie
-use Rattle.volume_table.proofs.table.names_clash.Reads as reads
-use Rattle.volume_table.proofs.table.names_clash.Lts as lts
-use Rattle.base.proofs.same.Reads as same-reads
-use Rattle.volume_table.proofs.record.is_empty.Reads as is-empty-reads
-use Rattle.volume_table.proofs.table.name_of.Reads as name-of-reads
-
-name-of-requires : tie.Need-name-of-requires
-name-of-requires c κs = search needs
-
-name-of-requires-2 : tie.Need-name-of-requires-2
-name-of-requires-2 c κs = search needs
-
-same-requires : tie.Need-same-requires
-same-requires c κs = search needs
 
 returns : tie.Need-returns
 returns c =
     let a = c .before .before .before .before .before .before .before .args in
     other-name (a .r .now) (a .s .now) (was-false (c .before .same .ensures ∙ ap₂ eqs (c .before .before .before .name-of .ensures) (c .before .before .name-of2 .ensures)) (c .if1 .taken))
-
-is-empty-requires : tie.Need-is-empty-requires
-is-empty-requires c κs = search needs
 
 returns-2 : tie.Need-returns-2
 returns-2 c =
@@ -36,4 +19,4 @@ returns-2 c =
     (c .is-empty .ensures)
 
 pub names-clash-spec : {M : Type 1} → statement M
-names-clash-spec = tie.close (tie.spec name-of-requires name-of-requires-2 same-requires returns is-empty-requires returns-2)
+names-clash-spec = tie.close (tie.spec (λ c κs. search needs) (λ c κs. search needs) (λ c κs. search needs) returns (λ c κs. search needs) returns-2)

@@ -10,9 +10,6 @@ use Rattle.volume_table.proofs.Laws.{any-more}
 use Rattle.volume_table.proofs.Tables.{repeats}
 use Rattle.volume_table.proofs.table.names_differ.Statement.{statement}
 use Rattle.volume_table.proofs.table.names_differ.Tie as tie
-use Rattle.volume_table.proofs.table.names_differ.Reads as reads
-use Rattle.volume_table.proofs.table.names_differ.Lts as lts
-use Rattle.volume_table.proofs.table.name_repeats.Reads as name-repeats-reads
 
 abbrev Inv-loop : tie.InvT-loop
 Inv-loop t n empty j₀ j = (j ≤ n) × (anyBelow j (λ (k : ℕ). anyBelow k (repeats t k)) ≡ false)
@@ -20,20 +17,8 @@ Inv-loop t n empty j₀ j = (j ≤ n) × (anyBelow j (λ (k : ℕ). anyBelow k (
 abbrev μ-loop : tie.MeasureT-loop
 μ-loop t n empty j₀ j = n - j
 
-loop-holds : tie.Need-loop-holds Inv-loop μ-loop
-loop-holds c = search needs
-
-name-repeats-requires : tie.Need-name-repeats-requires Inv-loop μ-loop
-name-repeats-requires c κs = search needs
-
 returns : tie.Need-returns Inv-loop μ-loop
 returns c = let t = c .before .before .before .before .before .before .args .t .now in rw (any-intro (c .before .before .before .before .before .before .args .n) (λ (k : ℕ). anyBelow k (repeats t k)) (c .before .before .before .loop .j) (omega arith) (sym (c .before .name-repeats .ensures) ∙ c .if1 .taken))
-
-add-j : tie.Need-add-j Inv-loop μ-loop
-add-j c = search needs
-
-loop-less : tie.Need-loop-less Inv-loop μ-loop
-loop-less c = search needs
 
 loop-again : tie.Need-loop-again Inv-loop μ-loop
 loop-again c = let t = c .before .before .before .before .before .before .args .t .now in (omega arith, any-more (λ (k : ℕ). anyBelow k (repeats t k)) (c .before .before .before .loop .j) (c .before .before .before .loop .inv .1) (sym (c .before .name-repeats .ensures) ∙ c .if1 .left))
@@ -47,10 +32,10 @@ names-differ-spec =
     (tie.spec
     Inv-loop
     μ-loop
-    loop-holds
-    name-repeats-requires
+    (λ c. search needs)
+    (λ c κs. search needs)
     returns
-    add-j
-    loop-less
+    (λ c. search needs)
+    (λ c. search needs)
     loop-again
     returns-2)

@@ -3,8 +3,6 @@ use borrow.Author.Needs.{needs}
 use Rattle.volume_table.specs.Table.{recordCount}
 use Rattle.volume_table.proofs.table.record_count.Statement.{statement}
 use Rattle.volume_table.proofs.table.record_count.Tie as tie
-use Rattle.volume_table.proofs.table.record_count.Reads as reads
-use Rattle.volume_table.proofs.table.record_count.Lts as lts
 
 returns : tie.Need-returns
 unfolding recordCount

@@ -4,17 +4,10 @@ use native.Mathlib.Omega.{arith}
 use borrow.Author.Needs.{needs}
 use borrow.Author.Tests.{not-true, not-false}
 use lib.ListN.{length}
-use Rattle.volume_table.proofs.Tables.{count-small, all-there, no-records, too-short, Summed, not-fine, too-many, too-much, names-decide}
+use Rattle.volume_table.proofs.Tables.{count-small, all-there, no-records, too-short, Summed, not-fine, too-many}
+use Rattle.volume_table.proofs.Tables.{too-much, names-decide}
 use Rattle.volume_table.proofs.table.table_good.Statement.{statement}
 use Rattle.volume_table.proofs.table.table_good.Tie as tie
-use Rattle.volume_table.proofs.table.table_good.Reads as reads
-use Rattle.volume_table.proofs.table.table_good.Lts as lts
-use Rattle.volume_table.proofs.record.empty_record.Reads as empty-record-reads
-use Rattle.volume_table.proofs.table.most_reserved.Reads as most-reserved-reads
-use Rattle.volume_table.proofs.table.names_differ.Reads as names-differ-reads
-use Rattle.volume_table.proofs.table.record_count.Reads as record-count-reads
-use Rattle.volume_table.proofs.table.records_part.Reads as records-part-reads
-use Rattle.volume_table.proofs.table.tally.Reads as tally-reads
 
 -- the records are all there
 whole : (c : tie.After-records-part) → 172 * c .before .before .before .record-count .result ≤ length (c .records-part .result .now)
@@ -25,9 +18,6 @@ summed : (c : tie.After-tally)
     → Summed (c .before .before .before .before .before .before .before .before .args .leb-size) (c .before .before .before .before .before .before .before .before .args .unit) (c .before .before .before .before .before .before .before .before .args .content .now) (c .before .before .before .before .before .before .record-count .result) (c .before .before .before .records-part .result .now) (c .tally .result)
 summed c = record { count = c .before .before .before .before .before .before .record-count .ensures; records = c .before .before .before .records-part .ensures; sums = c .tally .ensures }
 
-record-count-requires : tie.Need-record-count-requires
-record-count-requires c κs = search needs
-
 returns : tie.Need-returns
 returns c = let a = c .before .before .before .args in no-records (a .leb-size) (a .unit) (a .peb-count) (a .content .now) (c .before .record-count .ensures) (c .if1 .taken)
 
@@ -36,15 +26,6 @@ mul-if2 c = omega (arith, count-small (c .before .before .before .args .leb-size
 
 returns-2 : tie.Need-returns-2
 returns-2 c = let a = c .before .before .before .before .args in too-short (a .leb-size) (a .unit) (a .peb-count) (a .content .now) (c .before .before .record-count .ensures) (c .if2 .taken)
-
-records-part-requires : tie.Need-records-part-requires
-records-part-requires c κs = search needs
-
-empty-record-requires : tie.Need-empty-record-requires
-empty-record-requires c κs = search needs
-
-slice-aggregate-tally : tie.Need-slice-aggregate-tally
-slice-aggregate-tally c = search needs
 
 tally-requires : tie.Need-tally-requires
 tally-requires c κs = (omega (arith, count-small (c .before .before .before .before .before .before .before .args .leb-size)), (whole (c .before .before), c .before .empty-record .ensures))
@@ -59,16 +40,10 @@ returns-4 c =
     let a = c .before .before .before .before .before .before .before .before .before .before .before .before .args in
     too-many (a .leb-size) (a .unit) (a .peb-count) (a .content .now) (summed (c .before .before .before .before)) (not-false (c .before .before .before .before .tally .result .fine) (c .before .before .if3 .left)) (c .if4 .taken)
 
-most-reserved-requires : tie.Need-most-reserved-requires
-most-reserved-requires c κs = search needs
-
 returns-5 : tie.Need-returns-5
 returns-5 c =
     let a = c .before .before .before .before .before .before .before .before .before .before .before .before .before .before .before .args in
     too-much (a .leb-size) (a .unit) (a .peb-count) (a .content .now) (summed (c .before .before .before .before .before .before .before)) (not-false (c .before .before .before .before .before .before .before .tally .result .fine) (c .before .before .before .before .before .if3 .left)) (rw (c .before .before .most-reserved .ensures) at (c .if5 .taken))
-
-slice-aggregate-names-differ : tie.Need-slice-aggregate-names-differ
-slice-aggregate-names-differ c = search needs
 
 names-differ-requires : tie.Need-names-differ-requires
 names-differ-requires c κs = (omega (arith, count-small (c .before .before .before .before .before .before .before .before .before .before .before .before .before .before .before .before .args .leb-size)), (whole (c .before .before .before .before .before .before .before .before .before .before .before), c .before .before .before .before .before .before .before .before .before .before .empty-record .ensures))
@@ -83,18 +58,18 @@ pub table-good-spec : {M : Type 1} → statement M
 table-good-spec =
     tie.close
     (tie.spec
-    record-count-requires
+    (λ c κs. search needs)
     returns
     mul-if2
     returns-2
-    records-part-requires
-    empty-record-requires
-    slice-aggregate-tally
+    (λ c κs. search needs)
+    (λ c κs. search needs)
+    (λ c. search needs)
     tally-requires
     returns-3
     returns-4
-    most-reserved-requires
+    (λ c κs. search needs)
     returns-5
-    slice-aggregate-names-differ
+    (λ c. search needs)
     names-differ-requires
     returns-6)

@@ -12,9 +12,6 @@ use Rattle.volume_table.proofs.Laws.{lent-length}
 use Rattle.volume_table.proofs.Tables.{tally-none, tally-more, tally-stop}
 use Rattle.volume_table.proofs.table.tally.Statement.{statement}
 use Rattle.volume_table.proofs.table.tally.Tie as tie
-use Rattle.volume_table.proofs.table.tally.Reads as reads
-use Rattle.volume_table.proofs.table.tally.Lts as lts
-use Rattle.volume_table.proofs.record.tally_record.Reads as tally-record-reads
 
 abbrev Inv-loop : tie.InvT-loop
 Inv-loop t n leb-size unit empty sum₀ i₀ sum i =
@@ -30,21 +27,6 @@ next c = rw add-sub-cancel-left at (c .tally-record .ensures .0)
 loop-holds : tie.Need-loop-holds Inv-loop μ-loop
 loop-holds c = let a = c .before .before .args in (omega arith, (refl, (omega arith, (omega arith, tally-none (a .leb-size) (a .unit) (a .t .now)))))
 
-mul-at : tie.Need-mul-at Inv-loop μ-loop
-mul-at c = search needs
-
-add-tally-record : tie.Need-add-tally-record Inv-loop μ-loop
-add-tally-record c = search needs
-
-sub-tally-record : tie.Need-sub-tally-record Inv-loop μ-loop
-sub-tally-record c = search needs
-
-part-tally-record-start : tie.Need-part-tally-record-start Inv-loop μ-loop
-part-tally-record-start c = search needs
-
-part-tally-record-end : tie.Need-part-tally-record-end Inv-loop μ-loop
-part-tally-record-end c = search needs
-
 tally-record-requires : tie.Need-tally-record-requires Inv-loop μ-loop
 tally-record-requires c κs = (lent-length (172 * c .before .before .loop .i) 172 (c .before .before .before .before .before .args .t .now) (omega arith), (c .before .before .before .before .before .pre .1 .1, (omega arith, omega arith)))
 
@@ -53,12 +35,6 @@ returns c =
     let a = c .before .before .before .before .before .before .before .before .args in
     let l = c .before .before .before .before .before .loop in
     tally-stop (a .leb-size) (a .unit) (a .t .now) (l .i) (l .sum) (c .before .before .tally-record .result) (next (c .before .before)) (a .n) (omega arith) (not-true (c .before .before .tally-record .result .fine) (c .if1 .taken))
-
-add-i : tie.Need-add-i Inv-loop μ-loop
-add-i c = search needs
-
-loop-less : tie.Need-loop-less Inv-loop μ-loop
-loop-less c = search needs
 
 loop-again : tie.Need-loop-again Inv-loop μ-loop
 loop-again c =
@@ -77,14 +53,14 @@ tally-spec =
     Inv-loop
     μ-loop
     loop-holds
-    mul-at
-    add-tally-record
-    sub-tally-record
-    part-tally-record-start
-    part-tally-record-end
+    (λ c. search needs)
+    (λ c. search needs)
+    (λ c. search needs)
+    (λ c. search needs)
+    (λ c. search needs)
     tally-record-requires
     returns
-    add-i
-    loop-less
+    (λ c. search needs)
+    (λ c. search needs)
     loop-again
     returns-2)

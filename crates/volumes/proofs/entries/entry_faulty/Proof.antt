@@ -1,59 +1,50 @@
 -- `volumes::entries::entry_faulty` meets its contract. Assumes nothing.
-use Prim.Native.Nat.{_-_}
+use mathlib.Core.Path.{_≡_}
+use mathlib.Core.Bool.{true}
 use borrow.Author.Needs.{needs}
-use Rattle.volumes.proofs.Faults.{fault-flagged, fault-unasked, fault-dynamic, fault-static}
+use borrow.Author.Tests.{eq-eqb, ne-eqb}
+use lib.Dec.{eqb}
+use Rattle.report.specs.View.{copyOf}
+use Rattle.copies.specs.InPlace.{headerAt}
+use Rattle.report.specs.Volumes.{Face, faceOf}
+use Rattle.volumes.specs.Sorted.{faceAt}
+use Rattle.volumes.proofs.Faces.{fault-unasked, fault-dynamic, fault-static}
 use Rattle.volumes.proofs.entries.entry_faulty.Statement.{statement}
 use Rattle.volumes.proofs.entries.entry_faulty.Tie as tie
-use Rattle.volumes.proofs.entries.entry_faulty.Reads as reads
-use Rattle.volumes.proofs.entries.entry_faulty.Lts as lts
-use Rattle.copies.proofs.header_field.Reads as header-field-reads
-use Rattle.copies.proofs.matches.Reads as matches-reads
 
-header-field-requires : tie.Need-header-field-requires
-header-field-requires c κs = search needs
-
-matches-requires : tie.Need-matches-requires
-matches-requires c κs = search needs
+abbrev face : tie.Start → Face
+face d = faceAt (d .args .g) (d .args .image .now) (d .args .i)
 
 returns : tie.Need-returns
-returns c =
-    let a = c .before .before .before .before .args in
-    fault-flagged (a .g) (a .image .now) (a .i) (c .before .before .header-field .ensures) (c .before .if1 .taken) (a .asks) (c .matches .ensures)
+unfolding faceOf
+returns c = let d = c .before .before .before in fault-unasked (d .args .asks) (face d) (c .before .if1 .taken) (c .is-sound .ensures)
 
 returns-2 : tie.Need-returns-2
+unfolding faceOf copyOf
 returns-2 c =
-    let a = c .before .before .before .before .args in
-    fault-unasked (a .g) (a .image .now) (a .i) (c .before .before .header-field .ensures) (c .before .if1 .left) (a .asks) (c .if2 .taken)
-
-header-field-requires-2 : tie.Need-header-field-requires-2
-header-field-requires-2 c κs = search needs
-
-cast-if3 : tie.Need-cast-if3
-cast-if3 c = search needs
+    let h = c .before .before in
+    let d = h .before .before .before in
+    let e : face d .right ≡ true = rw (← (h .header-field .ensures), ne-eqb _ _ (c .before .if2 .taken)) in
+    fault-dynamic (d .args .asks) (face d) e (c .is-sound2 .ensures)
 
 returns-3 : tie.Need-returns-3
+unfolding faceOf copyOf
 returns-3 c =
-    let a = c .before .before .before .before .before .before .args in
-    fault-dynamic (a .g) (a .image .now) (a .i) (c .before .before .before .before .header-field .ensures) (c .before .header-field2 .ensures) (c .before .before .before .if1 .left) (a .asks) (c .if3 .taken)
-
-matches-requires-2 : tie.Need-matches-requires-2
-matches-requires-2 c κs = search needs
-
-returns-4 : tie.Need-returns-4
-returns-4 c =
-    let a = c .before .before .before .before .before .before .before .args in
-    fault-static (a .g) (a .image .now) (a .i) (c .before .before .before .before .before .header-field .ensures) (c .before .before .header-field2 .ensures) (c .before .before .before .before .if1 .left) (a .asks) (c .before .before .before .if2 .left) (c .before .if3 .left) (c .matches2 .ensures)
+    let h = c .before .before in
+    let d = h .before .before .before in
+    let e : face d .right ≡ c .matches .result = rw (← (h .header-field .ensures), eq-eqb _ _ (c .before .if2 .left), c .matches .ensures) in
+    fault-static (d .args .asks) (face d) (eqb (headerAt (d .args .g) (d .args .image .now) (d .args .i) .«copy_flag») 0) (h .before .if1 .left) e
+    (rw (c .matches .ensures))
 
 pub entry-faulty-spec : {M : Type 1} → statement M
 entry-faulty-spec =
     tie.close
     (tie.spec
-    header-field-requires
-    matches-requires
+    (λ c κs. search needs)
     returns
+    (λ c κs. search needs)
+    (λ c. search needs)
+    (λ c κs. search needs)
     returns-2
-    header-field-requires-2
-    cast-if3
-    returns-3
-    matches-requires-2
-    returns-4)
+    (λ c κs. search needs)
+    returns-3)

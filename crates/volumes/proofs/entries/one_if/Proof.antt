@@ -1,11 +1,8 @@
 -- `volumes::entries::one_if` meets its contract. Assumes nothing.
-use Prim.Native.Nat.{_-_}
 use native.Mathlib.Omega.{arith}
 use borrow.Author.Tests.{eq-eqb, ne-eqb}
 use Rattle.volumes.proofs.entries.one_if.Statement.{statement}
 use Rattle.volumes.proofs.entries.one_if.Tie as tie
-use Rattle.volumes.proofs.entries.one_if.Reads as reads
-use Rattle.volumes.proofs.entries.one_if.Lts as lts
 
 returns : tie.Need-returns
 returns c = (rw (eq-eqb (c .before .args .a) (c .before .args .b) (c .if1 .taken)), omega arith)

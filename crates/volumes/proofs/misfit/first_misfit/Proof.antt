@@ -4,19 +4,17 @@ use mathlib.Core.Option.{none}
 use Prim.Native.Nat.{_≤_, _<_, _-_, ℕ}
 use native.Mathlib.Omega.{arith}
 use borrow.Author.Needs.{needs}
-use Rattle.report.specs.View.{viewsOf}
+use Rattle.report.specs.View.{mediumOf}
 use Rattle.report.specs.Volumes.{misfitIn}
 use Rattle.report.specs.Report.{faces, records}
 use Rattle.base.proofs.Below.{one-more}
+use Rattle.volumes.proofs.Words.{fs, rs}
 use Rattle.volumes.proofs.Misfits.{refused-here, not-refused}
 use Rattle.volumes.proofs.misfit.first_misfit.Statement.{statement}
 use Rattle.volumes.proofs.misfit.first_misfit.Tie as tie
-use Rattle.volumes.proofs.misfit.first_misfit.Reads as reads
-use Rattle.volumes.proofs.misfit.first_misfit.Lts as lts
-use Rattle.volumes.proofs.misfit.misfit_of.Reads as misfit-of-reads
 
 abbrev Inv-loop : tie.InvT-loop
-Inv-loop image g n map count t v₀ v = (v ≤ 128) × ((w : ℕ) → w < v → misfitIn (records g n (viewsOf g image)) (faces g n (viewsOf g image)) w ≡ none)
+Inv-loop image g n map count t v₀ v = (v ≤ 128) × ((w : ℕ) → w < v → misfitIn (records (mediumOf g n image)) (faces (mediumOf g n image)) w ≡ none)
 
 abbrev μ-loop : tie.MeasureT-loop
 μ-loop image g n map count t v₀ v = 128 - v
@@ -24,38 +22,23 @@ abbrev μ-loop : tie.MeasureT-loop
 loop-holds : tie.Need-loop-holds Inv-loop μ-loop
 loop-holds c = (omega arith, λ w h. absurd (omega arith))
 
-misfit-of-requires : tie.Need-misfit-of-requires Inv-loop μ-loop
-misfit-of-requires c κs = search needs
-
 returns : tie.Need-returns Inv-loop μ-loop
 returns c =
-    let d = c .before .before .before .before .before .before .before in
-    let l = c .before .before .before .loop in
-    let m = c .before .misfit-of in
-    (refused-here (d .args .g) (d .args .n) (d .args .image .now) (d .args .map .now) (d .args .t .now) (d .args .count) (d .pre) (l .v) (omega arith) (m .result) (m .ensures) (c .if1 .taken) (l .inv .1), m .ensures .within)
-
-add-v : tie.Need-add-v Inv-loop μ-loop
-add-v c = search needs
-
-loop-less : tie.Need-loop-less Inv-loop μ-loop
-loop-less c = search needs
+    let d = c .before .before .before in
+    let m = c .before .misfit-of .ensures in
+    (refused-here (d .before .before .before .before .pre) (omega arith) m (c .if1 .taken) (d .loop .inv .1), m .within)
 
 loop-again : tie.Need-loop-again Inv-loop μ-loop
 loop-again c =
-    let d = c .before .before .before .before .before .before .before in
-    let l = c .before .before .before .loop in
-    let vs = viewsOf (d .args .g) (d .args .image .now) in (
-      omega arith,
-      one-more (λ (w : ℕ). misfitIn (records (d .args .g) (d .args .n) vs) (faces (d .args .g) (d .args .n) vs) w ≡ none) (l .v) (l .inv .1)
-          (c .before .misfit-of .ensures .none-in (c .if1 .left)),
-    )
+    let d = c .before .before .before in
+    let s = d .before .before .before .before .pre in
+    (omega arith, one-more (λ (w : ℕ). misfitIn (rs s) (fs s) w ≡ none) (d .loop .volume) (d .loop .inv .1) (c .before .misfit-of .ensures .none-in (c .if1 .left)))
 
 returns-2 : tie.Need-returns-2 Inv-loop μ-loop
 returns-2 c =
-    let d = c .before .before .before .before .before in
     let l = c .before .loop in
-    let e : l .v ≡ 128 = omega arith in
-    (not-refused (d .args .g) (d .args .n) (d .args .image .now) (d .args .map .now) (d .args .t .now) (d .args .count) (d .pre) (rw e at (l .inv .1)), omega arith)
+    let e : l .volume ≡ 128 = omega arith in
+    (not-refused (c .before .before .before .before .before .pre) (rw e at (l .inv .1)), omega arith)
 
 pub first-misfit-spec : {M : Type 1} → statement M
 first-misfit-spec =
@@ -64,9 +47,9 @@ first-misfit-spec =
     Inv-loop
     μ-loop
     loop-holds
-    misfit-of-requires
+    (λ c κs. search needs)
     returns
-    add-v
-    loop-less
+    (λ c. search needs)
+    (λ c. search needs)
     loop-again
     returns-2)

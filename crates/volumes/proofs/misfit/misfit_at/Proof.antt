@@ -1,92 +1,41 @@
 -- `volumes::misfit::misfit_at` meets its contract. Assumes nothing.
-use Prim.Native.Nat.{_-_, _+_, _*_}
 use native.Mathlib.Omega.{arith}
 use borrow.Author.Needs.{needs}
-use Rattle.copies.specs.InPlace.{headerAt}
-use Rattle.volumes.specs.Sorted.{pebWord, misfitBy}
-use Rattle.volumes.proofs.Passes.{of-other, of-this}
+use borrow.Author.Tests.{eq-eqb, ne-eqb}
 use Rattle.volumes.proofs.misfit.misfit_at.Statement.{statement}
 use Rattle.volumes.proofs.misfit.misfit_at.Tie as tie
-use Rattle.volumes.proofs.misfit.misfit_at.Reads as reads
-use Rattle.volumes.proofs.misfit.misfit_at.Lts as lts
-use Rattle.copies.proofs.header_field.Reads as header-field-reads
-use Rattle.volumes.proofs.misfit.misfits.Reads as misfits-reads
-
-mul-if1 : tie.Need-mul-if1
-mul-if1 c = search needs
-
-mul-if1-2 : tie.Need-mul-if1-2
-mul-if1-2 c = search needs
-
-shared-slice-read-if1 : tie.Need-shared-slice-read-if1
-shared-slice-read-if1 c = search needs
 
 returns : tie.Need-returns
-returns c =
-    let a = c .before .before .before .before .args in
-    of-other (a .map .now) (a .v) (a .k) (misfitBy (a .r) (headerAt (a .g) (a .image .now) (pebWord (a .map .now) (a .first)) .«used_lebs») (headerAt (a .g) (a .image .now) (pebWord (a .map .now) (a .k)))) (c .if1 .taken)
-
-mul-header-field : tie.Need-mul-header-field
-mul-header-field c = search needs
-
-add-header-field : tie.Need-add-header-field
-add-header-field c = search needs
-
-mul-header-field-2 : tie.Need-mul-header-field-2
-mul-header-field-2 c = search needs
-
-shared-slice-read-header-field : tie.Need-shared-slice-read-header-field
-shared-slice-read-header-field c = search needs
-
-cast-header-field : tie.Need-cast-header-field
-cast-header-field c = omega (arith, c .shared-slice-known4 .given (c .before .before .before .before .before .args .first * 3 + 2))
+returns c = rw (← (c .before .volume-word .ensures), ne-eqb _ _ (c .if1 .taken))
 
 header-field-requires : tie.Need-header-field-requires
 header-field-requires c κs =
-    let m = c .before .before .before .before .before .pre .0 .mapped (c .before .before .before .before .before .args .first) (c .before .before .before .before .before .pre .1 .0) in
-    (m .placed, (m .bytes, (omega arith, omega arith)))
-
-mul-misfits : tie.Need-mul-misfits
-mul-misfits c = search needs
-
-add-misfits : tie.Need-add-misfits
-add-misfits c = search needs
-
-mul-misfits-2 : tie.Need-mul-misfits-2
-mul-misfits-2 c = search needs
-
-shared-slice-read-misfits : tie.Need-shared-slice-read-misfits
-shared-slice-read-misfits c = search needs
-
-cast-misfits : tie.Need-cast-misfits
-cast-misfits c = omega (arith, c .shared-slice-known5 .given (c .before .before .before .before .before .before .before .args .k * 3 + 2))
+    let d = c .before .before .before .before .before in
+    let m = d .pre .0 .mapped (d .args .first) (d .pre .1 .0) in
+    rw (c .peb-word .ensures) (m .placed, (m .bytes, (omega arith, omega arith)))
 
 misfits-requires : tie.Need-misfits-requires
-misfits-requires c κs = c .before .before .before .before .before .before .before .pre .0 .mapped (c .before .before .before .before .before .before .before .args .k) (c .before .before .before .before .before .before .before .pre .1 .1)
+misfits-requires c κs =
+    let d = c .before .before .before .before .before .before .before in
+    rw (c .peb-word2 .ensures) (d .pre .0 .mapped (d .args .k) (d .pre .1 .1))
 
 returns-2 : tie.Need-returns-2
 returns-2 c =
-    let a = c .before .before .before .before .before .before .before .before .args in
-    of-this (a .map .now) (a .v) (a .k) (misfitBy (a .r) (headerAt (a .g) (a .image .now) (pebWord (a .map .now) (a .first)) .«used_lebs») (headerAt (a .g) (a .image .now) (pebWord (a .map .now) (a .k)))) (c .before .before .before .before .if1 .left) (rw (c .before .before .header-field .ensures) at (c .misfits .ensures))
+    let h = c .before .before in
+    let b = h .before .before in
+    rw (← (b .before .volume-word .ensures), eq-eqb _ _ (b .if1 .left), ← (h .before .peb-word .ensures), ← (h .header-field .ensures), ← (c .before .peb-word2 .ensures))
+    (c .misfits .ensures)
 
 pub misfit-at-spec : {M : Type 1} → statement M
 misfit-at-spec =
     tie.close
     (tie.spec
-    mul-if1
-    mul-if1-2
-    shared-slice-read-if1
+    (λ c κs. search needs)
     returns
-    mul-header-field
-    add-header-field
-    mul-header-field-2
-    shared-slice-read-header-field
-    cast-header-field
+    (λ c κs. search needs)
+    (λ c. search needs)
     header-field-requires
-    mul-misfits
-    add-misfits
-    mul-misfits-2
-    shared-slice-read-misfits
-    cast-misfits
+    (λ c κs. search needs)
+    (λ c. search needs)
     misfits-requires
     returns-2)

@@ -4,18 +4,14 @@ use mathlib.Core.Bool.{false}
 use Prim.Native.Nat.{_≤_, _<_, _-_, ℕ}
 use native.Mathlib.Omega.{arith}
 use borrow.Author.Needs.{needs}
-use Rattle.volumes.specs.Sorted.{misfitWord}
+use Rattle.volumes.specs.Sorted.{misfitEntry}
 use Rattle.base.proofs.Below.{one-more}
-use Rattle.volumes.proofs.Passes.{before-first}
+use borrow.Author.Tests.{ne-eqb}
 use Rattle.volumes.proofs.misfit.misfit_in.Statement.{statement}
 use Rattle.volumes.proofs.misfit.misfit_in.Tie as tie
-use Rattle.volumes.proofs.misfit.misfit_in.Reads as reads
-use Rattle.volumes.proofs.misfit.misfit_in.Lts as lts
-use Rattle.volumes.proofs.entries.first_of.Reads as first-of-reads
-use Rattle.volumes.proofs.misfit.misfit_at.Reads as misfit-at-reads
 
 abbrev Inv-loop : tie.InvT-loop
-Inv-loop image g map count v r first k₀ k = (k ≤ count) × ((first ≤ k) × ((j : ℕ) → j < k → misfitWord g image map v r first j ≡ false))
+Inv-loop image g map count v r first k₀ k = (k ≤ count) × ((first ≤ k) × ((j : ℕ) → j < k → misfitEntry g image map v r first j ≡ false))
 
 abbrev μ-loop : tie.MeasureT-loop
 μ-loop image g map count v r first k₀ k = count - k
@@ -25,12 +21,8 @@ first-of-requires c κs = c .before .before .pre .words
 
 loop-holds : tie.Need-loop-holds Inv-loop μ-loop
 loop-holds c =
-    let a = c .before .before .before .args in
-    let f = c .first-of in
-    (f .ensures .within, (omega arith, before-first (a .g) (a .image .now) (a .map .now) (a .count) (a .v) (a .r) (f .result) (f .ensures)))
-
-misfit-at-requires : tie.Need-misfit-at-requires Inv-loop μ-loop
-misfit-at-requires c κs = search needs
+    let f = c .first-of .ensures in
+    (f .within, (omega arith, λ j h. rw (ne-eqb _ _ (f .before j h))))
 
 returns : tie.Need-returns Inv-loop μ-loop
 returns c =
@@ -44,18 +36,13 @@ returns c =
       here = λ _. sym (m .ensures) ∙ c .if1 .taken;
     }
 
-add-k : tie.Need-add-k Inv-loop μ-loop
-add-k c = search needs
-
-loop-less : tie.Need-loop-less Inv-loop μ-loop
-loop-less c = search needs
-
 loop-again : tie.Need-loop-again Inv-loop μ-loop
 loop-again c =
     let a = c .before .before .before .before .before .before .before .args in
     let l = c .before .before .before .loop in
     let f = c .before .before .before .before .first-of .result in
-    (omega arith, (omega arith, one-more (λ (j : ℕ). misfitWord (a .g) (a .image .now) (a .map .now) (a .v) (a .r) f j ≡ false) (l .k) (l .inv .1 .1) (sym (c .before .misfit-at .ensures) ∙ c .if1 .left)))
+    let P : ℕ → Type 0 = λ j. misfitEntry (a .g) (a .image .now) (a .map .now) (a .volume) (a .r) f j ≡ false in
+    (omega arith, (omega arith, one-more P (l .k) (l .inv .1 .1) (sym (c .before .misfit-at .ensures) ∙ c .if1 .left)))
 
 returns-2 : tie.Need-returns-2 Inv-loop μ-loop
 returns-2 c =
@@ -76,9 +63,9 @@ misfit-in-spec =
     μ-loop
     first-of-requires
     loop-holds
-    misfit-at-requires
+    (λ c κs. search needs)
     returns
-    add-k
-    loop-less
+    (λ c. search needs)
+    (λ c. search needs)
     loop-again
     returns-2)

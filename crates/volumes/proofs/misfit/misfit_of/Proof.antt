@@ -1,29 +1,23 @@
 -- `volumes::misfit::misfit_of` meets its contract. Assumes nothing.
-use Prim.Native.Nat.{_-_}
 use Rattle.volumes.proofs.Words.{table-long, entries-there}
 use Rattle.volumes.proofs.Misfits.{no-record, misfit-told}
 use Rattle.volumes.proofs.misfit.misfit_of.Statement.{statement}
 use Rattle.volumes.proofs.misfit.misfit_of.Tie as tie
-use Rattle.volumes.proofs.misfit.misfit_of.Reads as reads
-use Rattle.volumes.proofs.misfit.misfit_of.Lts as lts
-use Rattle.volumes.proofs.misfit.misfit_in.Reads as misfit-in-reads
-use Rattle.volumes.proofs.record.kept.Reads as kept-reads
 
-kept-requires : tie.Need-kept-requires
-kept-requires c κs = let d = c .before .before .before in (table-long (d .args .g) (d .args .n) (d .args .image .now) (d .args .map .now) (d .args .t .now) (d .args .count) (d .pre .0), d .pre .1)
+record-numbers-requires : tie.Need-record-numbers-requires
+record-numbers-requires c κs = let p = c .before .before .before .pre in (table-long (p .0), p .1)
 
 returns : tie.Need-returns
-returns c =
-    let d = c .before .before .before .before .before .before in
-    no-record (d .args .g) (d .args .n) (d .args .image .now) (d .args .map .now) (d .args .t .now) (d .args .count) (d .pre .0) (d .args .v) (c .before .before .kept .result) (c .before .before .kept .ensures) (c .if1 .taken)
+returns c = no-record (c .before .before .before .before .before .before .pre .0) (c .before .before .record-numbers .ensures) (c .if1 .taken)
 
 misfit-in-requires : tie.Need-misfit-in-requires
-misfit-in-requires c κs = let d = c .before .before .before .before .before .before in entries-there (d .args .g) (d .args .n) (d .args .image .now) (d .args .map .now) (d .args .t .now) (d .args .count) (d .pre .0)
+misfit-in-requires c κs = entries-there (c .before .before .before .before .before .before .pre .0)
 
 returns-2 : tie.Need-returns-2
 returns-2 c =
-    let d = c .before .before .before .before .before .before .before in
-    misfit-told (d .args .g) (d .args .n) (d .args .image .now) (d .args .map .now) (d .args .t .now) (d .args .count) (d .pre .0) (d .args .v) (d .pre .1) (c .before .before .before .kept .result) (c .before .before .before .kept .ensures) (c .misfit-in .result) (c .misfit-in .ensures)
+    let d = c .before .before .before in
+    let p = d .before .before .before .before .pre in
+    misfit-told (p .0) (p .1) (d .record-numbers .ensures) (c .misfit-in .ensures)
 
 pub misfit-of-spec : {M : Type 1} → statement M
-misfit-of-spec = tie.close (tie.spec kept-requires returns misfit-in-requires returns-2)
+misfit-of-spec = tie.close (tie.spec record-numbers-requires returns misfit-in-requires returns-2)

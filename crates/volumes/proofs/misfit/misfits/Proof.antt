@@ -1,69 +1,80 @@
 -- `volumes::misfit::misfits` meets its contract. Assumes nothing.
-use Prim.Native.Nat.{_-_}
 use borrow.Author.Needs.{needs}
-use Rattle.copies.specs.InPlace.{headerAt}
-use Rattle.volumes.proofs.Passes.{other-type, other-pad, fits-dynamic, other-used, used-within}
+use borrow.Author.Tests.{eq-eqb, ne-eqb}
+use Rattle.volumes.specs.Sorted.{misfitBy}
 use Rattle.volumes.proofs.misfit.misfits.Statement.{statement}
 use Rattle.volumes.proofs.misfit.misfits.Tie as tie
-use Rattle.volumes.proofs.misfit.misfits.Reads as reads
-use Rattle.volumes.proofs.misfit.misfits.Lts as lts
-use Rattle.copies.proofs.header_field.Reads as header-field-reads
-
-header-field-requires : tie.Need-header-field-requires
-header-field-requires c κs = search needs
-
-cast-if1 : tie.Need-cast-if1
-cast-if1 c = search needs
 
 returns : tie.Need-returns
-returns c = let a = c .before .before .before .before .args in other-type (a .r) (a .used) (headerAt (a .g) (a .image .now) (a .i)) (c .before .before .header-field .ensures) (c .if1 .taken)
-
-header-field-requires-2 : tie.Need-header-field-requires-2
-header-field-requires-2 c κs = search needs
-
-cast-if2 : tie.Need-cast-if2
-cast-if2 c = search needs
+unfolding misfitBy
+returns c = rw (← (c .before .before .header-field .ensures), ne-eqb _ _ (c .if1 .taken))
 
 returns-2 : tie.Need-returns-2
-returns-2 c = let a = c .before .before .before .before .before .before .before .args in other-pad (a .r) (a .used) (headerAt (a .g) (a .image .now) (a .i)) (c .before .before .before .before .before .header-field .ensures) (c .before .before .before .if1 .left) (c .before .before .header-field2 .ensures) (c .if2 .taken)
-
-cast-if3 : tie.Need-cast-if3
-cast-if3 c = search needs
+unfolding misfitBy
+returns-2 c =
+    let b = c .before .before .before in
+    rw (
+      ← (b .before .before .header-field .ensures),
+      ← (c .before .before .header-field2 .ensures),
+      eq-eqb _ _ (b .if1 .left),
+      ne-eqb _ _ (c .if2 .taken),
+    )
 
 returns-3 : tie.Need-returns-3
+unfolding misfitBy
 returns-3 c =
-    let a = c .before .before .before .before .before .before .before .before .args in
-    fits-dynamic (a .r) (a .used) (headerAt (a .g) (a .image .now) (a .i)) (c .before .before .before .before .before .before .header-field .ensures) (c .before .before .before .before .if1 .left) (c .before .before .before .header-field2 .ensures) (c .before .if2 .left) (c .if3 .taken)
-
-header-field-requires-3 : tie.Need-header-field-requires-3
-header-field-requires-3 c κs = search needs
+    let b = c .before .before .before .before in
+    rw (
+      ← (b .before .before .header-field .ensures),
+      ← (c .before .before .before .header-field2 .ensures),
+      eq-eqb _ _ (b .if1 .left),
+      eq-eqb _ _ (c .before .if2 .left),
+      ne-eqb _ _ (c .if3 .taken),
+    )
 
 returns-4 : tie.Need-returns-4
+unfolding misfitBy
 returns-4 c =
-    let a = c .before .before .before .before .before .before .before .before .before .before .args in
-    other-used (a .r) (a .used) (headerAt (a .g) (a .image .now) (a .i)) (c .before .before .before .before .before .before .before .before .header-field .ensures) (c .before .before .before .before .before .before .if1 .left) (c .before .before .before .before .before .header-field2 .ensures) (c .before .before .before .if2 .left) (c .before .before .if3 .left) (c .before .header-field3 .ensures) (c .if4 .taken)
-
-cast-result : tie.Need-cast-result
-cast-result c = search needs
+    let d = c .before .before .before in
+    let b = d .before .before .before in
+    rw (
+      ← (b .before .before .header-field .ensures),
+      ← (d .before .before .header-field2 .ensures),
+      ← (c .before .header-field3 .ensures),
+      eq-eqb _ _ (b .if1 .left),
+      eq-eqb _ _ (d .if2 .left),
+      eq-eqb _ _ (c .before .before .if3 .left),
+      ne-eqb _ _ (c .if4 .taken),
+    )
 
 returns-5 : tie.Need-returns-5
+unfolding misfitBy
 returns-5 c =
-    let a = c .before .before .before .before .before .before .before .before .before .before .before .args in
-    used-within (a .r) (a .used) (headerAt (a .g) (a .image .now) (a .i)) (c .before .before .before .before .before .before .before .before .before .header-field .ensures) (c .before .before .before .before .before .before .before .if1 .left) (c .before .before .before .before .before .before .header-field2 .ensures) (c .before .before .before .before .if2 .left) (c .before .before .before .if3 .left) (c .before .before .header-field3 .ensures) (c .before .if4 .left)
+    let d = c .before .before .before .before in
+    let b = d .before .before .before in
+    rw (
+      ← (b .before .before .header-field .ensures),
+      ← (d .before .before .header-field2 .ensures),
+      ← (c .before .before .header-field3 .ensures),
+      eq-eqb _ _ (b .if1 .left),
+      eq-eqb _ _ (d .if2 .left),
+      eq-eqb _ _ (c .before .before .before .if3 .left),
+      eq-eqb _ _ (c .before .if4 .left),
+    )
 
 pub misfits-spec : {M : Type 1} → statement M
 misfits-spec =
     tie.close
     (tie.spec
-    header-field-requires
-    cast-if1
+    (λ c κs. search needs)
+    (λ c. search needs)
     returns
-    header-field-requires-2
-    cast-if2
+    (λ c κs. search needs)
+    (λ c. search needs)
     returns-2
-    cast-if3
+    (λ c. search needs)
     returns-3
-    header-field-requires-3
+    (λ c κs. search needs)
     returns-4
-    cast-result
+    (λ c. search needs)
     returns-5)

@@ -1,10 +1,7 @@
 -- `volumes::state::asks_crc` meets its contract. Assumes nothing.
-use Prim.Native.Nat.{_-_}
 use borrow.Author.Tests.{eq-eqb, ne-eqb}
 use Rattle.volumes.proofs.state.asks_crc.Statement.{statement}
 use Rattle.volumes.proofs.state.asks_crc.Tie as tie
-use Rattle.volumes.proofs.state.asks_crc.Reads as reads
-use Rattle.volumes.proofs.state.asks_crc.Lts as lts
 
 returns : tie.Need-returns
 returns c = rw (ne-eqb (c .before .before .args .r .«vol_type») 2 (c .if1 .taken))

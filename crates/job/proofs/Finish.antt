@@ -1,0 +1,169 @@
+-- A job that is run to its end: done or refused, and the course to the end that the power-cut theorem speaks of. Assumes nothing.
+use mathlib.Core.Path.{_≡_, refl, sym, ap, _∙_}
+use mathlib.Core.Logic.{_⊎_, inl, inr}
+use mathlib.Core.Bool.{Bool, true, false, cond}
+use mathlib.Core.List.{List}
+use Prim.Native.Nat.{ℕ, zero, suc, _+_, _-_, _≤_, _<_}
+use native.Mathlib.Omega.{arith}
+use lib.Dec.{ltb}
+use borrow.Author.Tests.{ltb-true, ltb-false}
+use Rattle.base.specs.Answers.{Answer, given, refused}
+use Rattle.job.specs.Write.{nothing, appliedWhole}
+use Rattle.job.specs.Job.{Job, Progress, on, done, stepWrite, stepAnswer, Stepping, stepping, followed, runFor, finishing}
+use Rattle.job.specs.Course.{toEnd, planLeft, nextStep, oneStep, afterSteps, imageLeft}
+use Rattle.job.proofs.Writes.{whole-length}
+use Rattle.job.proofs.Runs.{Lawful}
+
+module _ {P : Type 0} (J : Job P) (L : Lawful J) where
+  abbrev Over : Answer (Progress P) → Type 0
+  Over a = (a ≡ given done) ⊎ (a ≡ refused 18 0)
+
+  module _ (p : P) (image : List ℕ) where
+    abbrev next : List ℕ
+    next = stepping J p image .image
+
+    abbrev left : ℕ
+    left = J .count p image - J .ran p
+
+    -- a step goes on, and one less is left; or it is done or refused, and changes nothing
+    data Next : Type 0 where
+      goes : (q : P) → stepping J p image .answer ≡ given (on q) → left ≡ suc (J .count q next - J .ran q) → Next
+      ends : Over (stepping J p image .answer) → next ≡ image → Next
+
+    next-step : Next
+    unfolding stepping stepAnswer stepWrite
+    next-step = go (J .runnable p image) refl (ltb (J .ran p) (J .count p image)) refl
+      where
+        y : List ℕ
+        y = appliedWhole (J .write p image (J .ran p)) image
+
+        go : (r : Bool) → J .runnable p image ≡ r → (b : Bool) → ltb (J .ran p) (J .count p image) ≡ b → Next
+        go true m true h =
+            let l = whole-length (J .write p image (J .ran p)) image (L .within p image m (J .ran p)) in
+            let e = L .same-count p y ∙ L .by-length p y image l .1 in
+            let c = L .counts p in
+            let b = ltb-true (J .ran p) (J .count p image) h in
+            goes (J .next p) (rw (m, h)) (rw m (omega arith))
+        go true m false h = ends (inl (rw (m, h))) (rw (m, L .late p image (J .ran p) (ltb-false (J .ran p) (J .count p image) h)))
+        go false m b h = ends (inr (rw m)) (rw m)
+
+  over-not-on : {A : Type 0} {q : P} {a : Answer (Progress P)} → Over a → given (on q) ≡ a → A
+  over-not-on (inl d) e = absurd (let z : _≡_ {A = ℕ} 0 1 = cc in omega arith)
+  over-not-on (inr d) e = absurd (let z : _≡_ {A = ℕ} 0 1 = cc in omega arith)
+
+  -- ---- for a loop that runs the steps
+
+  module _ (p q : P) (image : List ℕ) {y : List ℕ} (e : given (on q) ≡ stepping J p image .answer) (i : y ≡ stepping J p image .image) where
+    one-less : J .count p image - J .ran p ≡ suc (J .count q y - J .ran q)
+    one-less = go (next-step p image)
+      where
+        go : Next p image → J .count p image - J .ran p ≡ suc (J .count q y - J .ran q)
+        go (goes q′ a l) = let z : q′ ≡ q = same (sym a ∙ sym e) in rw i (rw z at l)
+          where
+            same : {a b : P} → _≡_ {A = Answer (Progress P)} (given (on a)) (given (on b)) → a ≡ b
+            same e = cc
+        go (ends o s) = over-not-on o e
+
+    pub fewer : J .count q y - J .ran q < J .count p image - J .ran p
+    fewer = let l = one-less in omega arith
+
+    pub finish-on : finishing J q y ≡ finishing J p image
+    unfolding finishing runFor
+    finish-on = rw (one-less, ← e, ← i)
+
+  -- the last step
+  module _ (p : P) (image : List ℕ) {a : Answer (Progress P)} {y : List ℕ} (e : a ≡ stepping J p image .answer)
+      (i : y ≡ stepping J p image .image) where
+    ended : Over a → finishing J p image ≡ record { answer = a; image = y }
+    unfolding finishing runFor
+    ended (inl d) = rw (← e, d, i)
+    ended (inr d) = rw (← e, d, i)
+
+    pub finish-last : {s : Stepping P} → Over a → finishing J p image ≡ s → (a ≡ s .answer) × (y ≡ s .image)
+    finish-last o f =
+        let z = sym (ended o) ∙ f in
+        (ap (λ (x : Stepping P). x .answer) z, ap (λ (x : Stepping P). x .image) z)
+
+  -- ---- the course to the end
+
+  -- the first step, then the others
+  first-step : (p : P) (image : List ℕ) (k : ℕ)
+      → afterSteps J p image (suc k) ≡ afterSteps J (planLeft J p (stepping J p image .answer)) (stepping J p image .image) k
+  unfolding afterSteps oneStep nextStep
+  first-step p image zero = refl
+  first-step p image (suc k) = ap (oneStep J) (first-step p image k)
+
+  -- where a step does not go on, no further one does
+  plan-stays : (p : P) {a : Answer (Progress P)} → Over a → planLeft J p a ≡ p
+  plan-stays p (inl d) = rw d
+  plan-stays p (inr d) = rw d
+
+  none-more : (p : P) (image : List ℕ) → Over (stepping J p image .answer) → stepping J p image .image ≡ image
+      → (k : ℕ) → afterSteps J p image k ≡ record { plan = p; image = image }
+  unfolding afterSteps oneStep nextStep
+  none-more p image o i zero = refl
+  none-more p image o i (suc k) = ap (oneStep J) (none-more p image o i k) ∙ (λ j. record { plan = plan-stays p o j; image = i j })
+
+  -- after k steps no more go on: the next step's answer and image are what running at most n steps gives, and it changes nothing
+  record Ended (n : ℕ) (p : P) (image : List ℕ) (k : ℕ) : Type 0 where
+    runs : runFor J n p image ≡ nextStep J (afterSteps J p image k)
+    stands : nextStep J (afterSteps J p image k) .image ≡ afterSteps J p image k .image
+    over : Over (runFor J n p image .answer)
+
+  none-follows : (more : P → List ℕ → Stepping P) (p : P) (image : List ℕ) → Over (stepping J p image .answer)
+      → followed J more (stepping J p image .image) (stepping J p image .answer) ≡ stepping J p image
+  unfolding stepping
+  none-follows more p image (inl d) = rw d
+  none-follows more p image (inr d) = rw d
+
+  by-next : (n : ℕ) (p : P) (image : List ℕ) (k : ℕ) → J .count p image - J .ran p ≤ k → Next p image
+      → ((q : P) (j : ℕ) → k ≡ suc j → J .count p image - J .ran p ≡ suc (J .count q (stepping J p image .image) - J .ran q)
+      → Ended n q (stepping J p image .image) j) → Ended (suc n) p image k
+  unfolding runFor nextStep
+  by-next n p image zero h (goes q e l) more = absurd (omega arith)
+  by-next n p image (suc k) h (goes q e l) more =
+      let z = first-step p image k ∙ ap (λ (b : Answer (Progress P)). afterSteps J (planLeft J p b) (stepping J p image .image) k) e in
+      let r = more q k refl l in
+      record { runs = rw (e, z) (r .runs); stands = rw z (r .stands); over = rw e (r .over) }
+  by-next n p image k h (ends o i) more =
+      let z = none-more p image o i k in
+      let f = none-follows (runFor J n) p image o in
+      record { runs = f ∙ ap (nextStep J) (sym z); stands = rw z i; over = rw f o }
+
+  -- with as many steps as are left
+  enough-steps : (n : ℕ) (p : P) (image : List ℕ) (k : ℕ) → J .count p image - J .ran p < n → J .count p image - J .ran p ≤ k → Ended n p image k
+  enough-steps zero p image k h l = absurd (omega arith)
+  enough-steps (suc n) p image k h l =
+      by-next n p image k l (next-step p image) (λ q j s e. enough-steps n q (stepping J p image .image) j (omega arith) (omega arith))
+
+  -- of every plan and image, whatever number of further steps the course has: the image is the one that the course to the end leaves, and
+  -- the answer that of a further step: done or refused
+  pub record ToEnd (p : P) (image : List ℕ) (further : ℕ) : Type 0 where
+    pub image-is : finishing J p image .image ≡ imageLeft J p image (toEnd further)
+    pub answer-is : finishing J p image .answer ≡ nextStep J (afterSteps J p image (J .count p image + further)) .answer
+    pub over : Over (finishing J p image .answer)
+
+  pub finish-is-to-end : (p : P) (image : List ℕ) (further : ℕ) → ToEnd p image further
+  unfolding finishing imageLeft
+  finish-is-to-end p image further =
+      let n : ℕ = J .count p image in
+      let x = enough-steps (suc (n - J .ran p)) p image (n + further) (omega arith) (omega arith) in
+      record {
+        image-is = ap (λ (s : Stepping P). s .image) (x .runs) ∙ x .stands;
+        answer-is = ap (λ (s : Stepping P). s .answer) (x .runs);
+        over = x .over;
+      }
+
+  -- and it is the same after any number of steps
+  finish-next : (p : P) (image : List ℕ) → Next p image
+      → finishing J (planLeft J p (stepping J p image .answer)) (stepping J p image .image) ≡ finishing J p image
+  finish-next p image (goes q e l) = rw e (finish-on p q image (sym e) refl)
+  finish-next p image (ends o i) = rw i (ap (λ (q : P). finishing J q image) (plan-stays p o))
+
+  pub finish-after : (p : P) (image : List ℕ) (k : ℕ)
+      → finishing J (afterSteps J p image k .plan) (afterSteps J p image k .image) ≡ finishing J p image
+  unfolding afterSteps oneStep nextStep
+  finish-after p image zero = refl
+  finish-after p image (suc k) =
+      let x = afterSteps J p image k in
+      finish-next (x .plan) (x .image) (next-step (x .plan) (x .image)) ∙ finish-after p image k

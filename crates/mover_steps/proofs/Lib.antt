@@ -1,0 +1,4 @@
+-- The laws that proofs here cite. Assumes nothing.
+pub mod Rules
+pub mod Units
+pub mod Whole

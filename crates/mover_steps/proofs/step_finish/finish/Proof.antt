@@ -1,0 +1,92 @@
+-- `mover_steps::step_finish::finish` meets its contract. Assumes nothing.
+use mathlib.Core.Path.{_≡_, refl, sym, ap, _∙_}
+use Prim.Native.Nat.{_-_}
+use borrow.Author.Needs.{needs}
+use lib.ListN.{length}
+use Rattle.job.specs.Job.{finishing}
+use Rattle.job.proofs.Finish.{fewer, finish-on, finish-last}
+use Rattle.plan.specs.Write.{stepCount}
+use Rattle.plan.specs.Step.{moverJob, steppedAnswer}
+use Rattle.plan.proofs.Steps.{mover-lawful}
+use mathlib.Core.Logic.{inl, inr}
+use Rattle.mover_steps.proofs.step_finish.finish.Statement.{statement}
+use Rattle.mover_steps.proofs.step_finish.finish.Tie as tie
+use Rattle.mover_steps.proofs.step_finish.finish.Reads as reads
+use Rattle.mover_steps.proofs.step_finish.finish.Lts as lts
+use Rattle.mover_steps.proofs.steps.step.Reads as step-reads
+
+abbrev Inv-loop : tie.InvT-loop
+Inv-loop image₀ p₀ image p = (length image ≡ length image₀) × (finishing moverJob p image ≡ finishing moverJob p₀ image₀)
+
+abbrev μ-loop : tie.MeasureT-loop
+μ-loop image₀ p₀ image p = stepCount p - p .steps
+
+loop-holds : tie.Need-loop-holds Inv-loop μ-loop
+loop-holds c = (refl, refl)
+
+step-requires : tie.Need-step-requires Inv-loop μ-loop
+step-requires c κs = search needs
+
+enum-known-s : tie.Need-enum-known-s Inv-loop μ-loop
+enum-known-s c = search needs
+
+loop-less : tie.Need-loop-less Inv-loop μ-loop
+loop-less c =
+    let s = c .before .before .before .before .before in
+    let l = s .before .before .loop in
+    let q = c .before .s .given in
+    fewer moverJob mover-lawful (l .p) (q .0 .0) (l .image) (sym (ap steppedAnswer (q .1)) ∙ s .step .ensures .0) (s .step .ensures .1)
+
+loop-again : tie.Need-loop-again Inv-loop μ-loop
+loop-again c =
+    let s = c .before .before .before .before .before in
+    let l = s .before .before .loop in
+    let q = c .before .s .given in (
+      c .before .before .before .before .image .given ∙ l .inv .0,
+      finish-on moverJob mover-lawful (l .p) (q .0 .0) (l .image) (sym (ap steppedAnswer (q .1)) ∙ s .step .ensures .0) (s .step .ensures .1)
+          ∙ l .inv .1,
+    )
+
+enum-told : tie.Need-enum-told Inv-loop μ-loop
+enum-told c = search needs
+
+same-length : tie.Need-same-length Inv-loop μ-loop
+same-length c = search needs
+
+returns : tie.Need-returns Inv-loop μ-loop
+returns c =
+    let s = c .before .before .before .before in
+    let l = s .before .before .loop in
+    finish-last moverJob mover-lawful (l .p) (l .image) (sym (ap steppedAnswer (c .enum-told .given .1)) ∙ s .step .ensures .0)
+    (s .step .ensures .1) (inl refl) (l .inv .1)
+
+enum-told-2 : tie.Need-enum-told-2 Inv-loop μ-loop
+enum-told-2 c = search needs
+
+same-length-2 : tie.Need-same-length-2 Inv-loop μ-loop
+same-length-2 c = search needs
+
+returns-2 : tie.Need-returns-2 Inv-loop μ-loop
+returns-2 c =
+    let s = c .before .before .before .before in
+    let l = s .before .before .loop in
+    finish-last moverJob mover-lawful (l .p) (l .image) (sym (ap steppedAnswer (c .enum-told2 .given .1)) ∙ s .step .ensures .0)
+    (s .step .ensures .1) (inr refl) (l .inv .1)
+
+pub finish-spec : {M : Type 1} → statement M
+finish-spec =
+    tie.close
+    (tie.spec
+    Inv-loop
+    μ-loop
+    loop-holds
+    step-requires
+    enum-known-s
+    loop-less
+    loop-again
+    enum-told
+    same-length
+    returns
+    enum-told-2
+    same-length-2
+    returns-2)

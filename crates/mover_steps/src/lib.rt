@@ -1,0 +1,6 @@
+// The steps of a move on the lent image, one by one or all that are left.
+mod step_finish;
+mod steps;
+
+pub use step_finish::finish;
+pub use steps::step;
