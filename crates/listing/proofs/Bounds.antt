@@ -10,7 +10,7 @@ use native.Mathlib.Nat.{mul-le-mul-left, div-mul-le-self}
 use native.Mathlib.Omega.{arith}
 use borrow.Author.Tests.{leb-true, le-leb, ltb-false}
 use lib.Dec.{eqb, leb, ltb}
-use lib.ListN.{length, getD, length-append, length-drop}
+use lib.ListN.{length, length-append, length-drop}
 use Rattle.base.specs.Answers.{Answer, given, refused, allOf}
 use Rattle.base.specs.Below.{concatBelow}
 use Rattle.base.proofs.Answers.{and-left, and-right, and-intro, or-right}
@@ -35,7 +35,25 @@ use Rattle.report.specs.Attach.{
   reportOf,
 }
 use Rattle.report.proofs.Tables.{entries-fit}
-use Rattle.listing.specs.Text.{ascii, labelled, numbersPart, marksPart, counterWord, pebLine, mapLine, volLine, pebLines, mapLines, volLines, reportText, refusedText}
+use Rattle.listing.specs.Text.{
+  ascii,
+  labelled,
+  pair,
+  numbersPart,
+  marksPart,
+  counterWord,
+  pebLine,
+  mapLine,
+  volLine,
+  pebLineAt,
+  mapLineAt,
+  volLineAt,
+  pebLines,
+  mapLines,
+  volLines,
+  reportText,
+  refusedText,
+}
 use Rattle.listing.specs.Listing.{slipPart, imagePart, tooMuch, afterSlip, pebTable, mapTable, stateTable, textFor, judging, listingOf}
 use Rattle.listing.proofs.Laws.{decimal-short}
 
@@ -45,15 +63,21 @@ labelled-short : (s : String) (n : ℕ) → length (labelled s n) ≤ length (as
 unfolding labelled
 labelled-short s n = simp length-append (omega (arith, decimal-short n))
 
+pair-short : (s : String) (m : ℕ) (t : String) (n : ℕ) → length (pair s m t n) ≤ length (ascii s) + (length (ascii t) + 40)
+unfolding pair
+pair-short s m t n = simp length-append (omega (arith, labelled-short s m, labelled-short t n))
+
 numbers-short : (r : Report) → length (numbersPart r) ≤ 113
 unfolding numbersPart
-numbers-short r = simp length-append (omega (arith, labelled-short "attached " (r .«peb_count»), labelled-short " entries " (r .entries), labelled-short " mean " (r .mean), labelled-short " highest " (r .highest)))
+numbers-short r =
+    simp length-append
+    (omega (arith, pair-short "attached " (r .«peb_count») " entries " (r .entries), pair-short " mean " (r .mean) " highest " (r .highest)))
 
 marks-short : (r : Report) → length (marksPart r) ≤ 113
 unfolding marksPart
 marks-short r =
     simp length-append
-    (omega (arith, labelled-short " readonly " (cond (r .«read_only») 1 0), labelled-short " table " (r .table), labelled-short " copies " (r .«copies_mark»), labelled-short " grade " (r .grade)))
+    (omega (arith, pair-short " readonly " (cond (r .«read_only») 1 0) " table " (r .table), pair-short " copies " (r .«copies_mark») " grade " (r .grade)))
 
 counter-short : (k : ℕ) → length (counterWord k) ≤ 21
 unfolding counterWord
@@ -65,19 +89,19 @@ counter-short k = go (eqb k noWord)
 
 peb-short : (i c k : ℕ) → length (pebLine i c k) ≤ 67
 unfolding pebLine
-peb-short i c k = simp length-append (omega (arith, labelled-short "peb " i, labelled-short " " c, counter-short k))
+peb-short i c k = simp length-append (omega (arith, pair-short "peb " i " " c, counter-short k))
 
 map-short : (v l p : ℕ) → length (mapLine v l p) ≤ 67
 unfolding mapLine
-map-short v l p = simp length-append (omega (arith, labelled-short "map " v, labelled-short " " l, labelled-short " " p))
+map-short v l p = simp length-append (omega (arith, pair-short "map " v " " l, labelled-short " " p))
 
 vol-short : (v s : ℕ) → length (volLine v s) ≤ 46
 unfolding volLine
 vol-short v s = go (eqb s 0)
   where
-    go : (b : Bool) → length (cond b [] (labelled "vol " v ++ (labelled " " s ++ ascii "\n"))) ≤ 46
+    go : (b : Bool) → length (cond b [] (pair "vol " v " " s ++ ascii "\n")) ≤ 46
     go true = omega arith
-    go false = simp length-append (omega (arith, labelled-short "vol " v, labelled-short " " s))
+    go false = simp length-append (omega (arith, pair-short "vol " v " " s))
 
 lines-short : (n k : ℕ) (f : ℕ → List ℕ) → ((i : ℕ) → length (f i) ≤ k) → length (concatBelow n f) ≤ n * k
 lines-short zero k f h = omega arith
@@ -96,7 +120,7 @@ record Fine (o : Outcome) : Type 0 where
 
 refused-short : (k p : ℕ) → length (refusedText k p) ≤ 53
 unfolding refusedText
-refused-short k p = simp length-append (omega (arith, labelled-short "refused " k, labelled-short " at " p))
+refused-short k p = simp length-append (omega (arith, pair-short "refused " k " at " p))
 
 fine-early : (k : ℕ) → k ≢ 4 → Fine (early k)
 fine-early k h = record { short = omega (arith, refused-short k 0); tables-suffice = h }
@@ -106,15 +130,15 @@ fine-late n r = record { short = omega (arith, refused-short (r .number) (r .pla
 
 peb-lines-short : (n : ℕ) (pebs : List ℕ) → length (pebLines n pebs) ≤ n * 67
 unfolding pebLines
-peb-lines-short n pebs = lines-short n 67 (λ (i : ℕ). pebLine i (getD pebs (i * 2) 0) (getD pebs (i * 2 + 1) 0)) (λ i. peb-short i _ _)
+peb-lines-short n pebs = lines-short n 67 (pebLineAt pebs) (λ i. peb-short i _ _)
 
 map-lines-short : (n : ℕ) (map : List ℕ) → length (mapLines n map) ≤ n * 67
 unfolding mapLines
-map-lines-short n map = lines-short n 67 (λ (i : ℕ). mapLine (getD map (i * 3) 0) (getD map (i * 3 + 1) 0) (getD map (i * 3 + 2) 0)) (λ i. map-short _ _ _)
+map-lines-short n map = lines-short n 67 (mapLineAt map) (λ i. map-short _ _ _)
 
 vol-lines-short : (n : ℕ) (states : List ℕ) → length (volLines n states) ≤ n * 46
 unfolding volLines
-vol-lines-short n states = lines-short n 46 (λ (v : ℕ). volLine v (getD states v 0)) (λ v. vol-short v _)
+vol-lines-short n states = lines-short n 46 (volLineAt states) (λ v. vol-short v _)
 
 report-short : (r : Report) (pebs map states : List ℕ) → r .«peb_count» ≤ 59 → r .entries ≤ 59 → length (reportText r pebs map states) ≤ 16384
 unfolding reportText

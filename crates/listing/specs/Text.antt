@@ -29,19 +29,22 @@ decimal n = digitsUpTo 20 n
 unfoldable pub labelled : String → ℕ → List ℕ
 labelled s n = ascii s ++ decimal n
 
+-- two of them
+unfoldable pub pair : String → ℕ → String → ℕ → List ℕ
+pair s m t n = labelled s m ++ labelled t n
+
 abbrev pub lineEnd : List ℕ
 lineEnd = ascii "\n"
 
 -- "The first line names its numbers (after attached, the PEB count)"
 unfoldable pub numbersPart : Report → List ℕ
 numbersPart r =
-    labelled "attached " (r .«peb_count»)
-    ++ (labelled " entries " (r .entries) ++ (labelled " mean " (r .mean) ++ labelled " highest " (r .highest)))
+    pair "attached " (r .«peb_count») " entries " (r .entries) ++ pair " mean " (r .mean) " highest " (r .highest)
 
 unfoldable pub marksPart : Report → List ℕ
 marksPart r =
-    labelled " readonly " (cond (r .«read_only») 1 0)
-    ++ (labelled " table " (r .table) ++ (labelled " copies " (r .«copies_mark») ++ (labelled " grade " (r .grade) ++ lineEnd)))
+    pair " readonly " (cond (r .«read_only») 1 0) " table " (r .table)
+    ++ (pair " copies " (r .«copies_mark») " grade " (r .grade) ++ lineEnd)
 
 abbrev pub attachedLine : Report → List ℕ
 attachedLine r = numbersPart r ++ marksPart r
@@ -51,33 +54,43 @@ unfoldable pub counterWord : ℕ → List ℕ
 counterWord k = cond (eqb k noWord) (ascii " lost") (labelled " " k)
 
 unfoldable pub pebLine : ℕ → ℕ → ℕ → List ℕ
-pebLine i c k = labelled "peb " i ++ (labelled " " c ++ (counterWord k ++ lineEnd))
+pebLine i c k = pair "peb " i " " c ++ (counterWord k ++ lineEnd)
 
 -- "map: volume, LEB, PEB"
 unfoldable pub mapLine : ℕ → ℕ → ℕ → List ℕ
-mapLine v l p = labelled "map " v ++ (labelled " " l ++ (labelled " " p ++ lineEnd))
+mapLine v l p = pair "map " v " " l ++ (labelled " " p ++ lineEnd)
 
 -- "vol: volume, state, nonzero only"
 unfoldable pub volLine : ℕ → ℕ → List ℕ
-volLine v s = cond (eqb s 0) [] (labelled "vol " v ++ (labelled " " s ++ lineEnd))
+volLine v s = cond (eqb s 0) [] (pair "vol " v " " s ++ lineEnd)
 
 -- the lines of each table
+abbrev pub pebLineAt : List ℕ → ℕ → List ℕ
+pebLineAt pebs i = pebLine i (getD pebs (i * 2) 0) (getD pebs (i * 2 + 1) 0)
+
 unfoldable pub pebLines : ℕ → List ℕ → List ℕ
-pebLines n pebs = concatBelow n (λ (i : ℕ). pebLine i (getD pebs (i * 2) 0) (getD pebs (i * 2 + 1) 0))
+pebLines n pebs = concatBelow n (pebLineAt pebs)
+
+abbrev pub mapLineAt : List ℕ → ℕ → List ℕ
+mapLineAt map i = mapLine (getD map (i * 3) 0) (getD map (i * 3 + 1) 0) (getD map (i * 3 + 2) 0)
 
 unfoldable pub mapLines : ℕ → List ℕ → List ℕ
-mapLines k map = concatBelow k (λ (i : ℕ). mapLine (getD map (i * 3) 0) (getD map (i * 3 + 1) 0) (getD map (i * 3 + 2) 0))
+mapLines k map = concatBelow k (mapLineAt map)
+
+abbrev pub volLineAt : List ℕ → ℕ → List ℕ
+volLineAt states v = volLine v (getD states v 0)
 
 unfoldable pub volLines : ℕ → List ℕ → List ℕ
-volLines k states = concatBelow k (λ (v : ℕ). volLine v (getD states v 0))
+volLines k states = concatBelow k (volLineAt states)
 
 -- "prints in full"
 unfoldable pub reportText : Report → List ℕ → List ℕ → List ℕ → List ℕ
-reportText r pebs map states = attachedLine r ++ (pebLines (r .«peb_count») pebs ++ (mapLines (r .entries) map ++ volLines 128 states))
+reportText r pebs map states =
+    attachedLine r ++ (pebLines (r .«peb_count») pebs ++ (mapLines (r .entries) map ++ volLines 128 states))
 
 -- "A refusal prints only `refused N at P`."
 unfoldable pub refusedText : ℕ → ℕ → List ℕ
-refusedText k p = labelled "refused " k ++ (labelled " at " p ++ lineEnd)
+refusedText k p = pair "refused " k " at " p ++ lineEnd
 
 abbrev pub textOf : Answer Report → List ℕ → List ℕ → List ℕ → List ℕ
 textOf (given r) pebs map states = reportText r pebs map states

@@ -3,10 +3,12 @@ ghost use mathlib.Core.Path.{_≡_};
 ghost use mathlib.Core.Bool.{cond};
 ghost use Prim.Native.Nat.{_+_, _*_, _≤_};
 ghost use lib.ListN.{length};
-ghost use Rattle.listing.specs.Text.{numbersPart, marksPart, attachedLine, counterWord, pebLine, mapLine, volLine, pebLines, mapLines, volLines, refusedText};
+ghost use Rattle.listing.specs.Text.{numbersPart, marksPart, attachedLine, counterWord, pebLine, mapLine, volLine};
+ghost use Rattle.listing.specs.Text.{pebLines, mapLines, volLines, refusedText};
 ghost use Rattle.listing.specs.Written.{Written};
 use crate::write::append;
 use crate::write::labelled;
+use crate::write::pair;
 use report::NO_WORD;
 use report::Report;
 use report::state::ABSENT;
@@ -16,10 +18,15 @@ fn numbers_part(out: &mut [u8], r: Report) -> usize
     ensures text { λ e. ⌜ Written (now (out .entry)) 0 (numbersPart r) e (now (out .exit)) ⌝ }
     ensures end { λ e. ⌜ e ≤ 256 ⌝ }
 {
-    let a = labelled(out, 0, b"attached ", r.peb_count as u64);
-    let b = labelled(out, a, b" entries ", r.entries as u64);
-    let c = labelled(out, b, b" mean ", r.mean as u64);
-    labelled(out, c, b" highest ", r.highest)
+    let a = pair(
+        out,
+        0,
+        b"attached ",
+        r.peb_count as u64,
+        b" entries ",
+        r.entries as u64,
+    );
+    pair(out, a, b" mean ", r.mean as u64, b" highest ", r.highest)
 }
 
 // The other four.
@@ -28,11 +35,23 @@ fn marks_part(out: &mut [u8], at: usize, r: Report) -> usize
     ensures text { λ e. ⌜ Written (now (out .entry)) at (marksPart r) e (now (out .exit)) ⌝ }
     ensures end { λ e. ⌜ e ≤ 512 ⌝ }
 {
-    let a = labelled(out, at, b" readonly ", bit(r.read_only));
-    let b = labelled(out, a, b" table ", r.table as u64);
-    let c = labelled(out, b, b" copies ", r.copies_mark as u64);
-    let d = labelled(out, c, b" grade ", r.grade as u64);
-    append(out, d, b"\n")
+    let a = pair(
+        out,
+        at,
+        b" readonly ",
+        bit(r.read_only),
+        b" table ",
+        r.table as u64,
+    );
+    let b = pair(
+        out,
+        a,
+        b" copies ",
+        r.copies_mark as u64,
+        b" grade ",
+        r.grade as u64,
+    );
+    append(out, b, b"\n")
 }
 
 // The report's numbers.
@@ -70,10 +89,9 @@ fn peb_line(out: &mut [u8], at: usize, peb: u32, class: u32, counter: u32) -> us
     ensures text { λ r. ⌜ Written (now (out .entry)) at (pebLine peb class counter) r (now (out .exit)) ⌝ }
     ensures end { λ r. ⌜ r ≤ at + 128 ⌝ }
 {
-    let a = labelled(out, at, b"peb ", peb as u64);
-    let b = labelled(out, a, b" ", class as u64);
-    let c = counter_word(out, b, counter);
-    append(out, c, b"\n")
+    let a = pair(out, at, b"peb ", peb as u64, b" ", class as u64);
+    let b = counter_word(out, a, counter);
+    append(out, b, b"\n")
 }
 
 fn map_line(out: &mut [u8], at: usize, volume: u32, lnum: u32, peb: u32) -> usize
@@ -81,10 +99,9 @@ fn map_line(out: &mut [u8], at: usize, volume: u32, lnum: u32, peb: u32) -> usiz
     ensures text { λ r. ⌜ Written (now (out .entry)) at (mapLine volume lnum peb) r (now (out .exit)) ⌝ }
     ensures end { λ r. ⌜ r ≤ at + 128 ⌝ }
 {
-    let a = labelled(out, at, b"map ", volume as u64);
-    let b = labelled(out, a, b" ", lnum as u64);
-    let c = labelled(out, b, b" ", peb as u64);
-    append(out, c, b"\n")
+    let a = pair(out, at, b"map ", volume as u64, b" ", lnum as u64);
+    let b = labelled(out, a, b" ", peb as u64);
+    append(out, b, b"\n")
 }
 
 fn vol_line(out: &mut [u8], at: usize, volume: u32, state: u32) -> usize
@@ -95,9 +112,8 @@ fn vol_line(out: &mut [u8], at: usize, volume: u32, state: u32) -> usize
     if state == ABSENT {
         return at;
     }
-    let a = labelled(out, at, b"vol ", volume as u64);
-    let b = labelled(out, a, b" ", state as u64);
-    append(out, b, b"\n")
+    let a = pair(out, at, b"vol ", volume as u64, b" ", state as u64);
+    append(out, a, b"\n")
 }
 
 // A line for each of the n PEBs.
@@ -150,7 +166,6 @@ pub fn vol_lines(out: &mut [u8], at: usize, states: &[u32]) -> usize
 pub fn refused_line(out: &mut [u8], refusal: u32, place: u32) -> usize
     ensures { λ r. ⌜ Written (now (out .entry)) 0 (refusedText refusal place) r (now (out .exit)) ⌝ }
 {
-    let a = labelled(out, 0, b"refused ", refusal as u64);
-    let b = labelled(out, a, b" at ", place as u64);
-    append(out, b, b"\n")
+    let a = pair(out, 0, b"refused ", refusal as u64, b" at ", place as u64);
+    append(out, a, b"\n")
 }

@@ -42,3 +42,14 @@ pub fn labelled(out: &mut [u8], at: usize, label: &[u8], n: u64) -> usize
     let after = append(out, at, label);
     number(out, after, n)
 }
+
+// Two words, each with a number.
+pub fn pair(out: &mut [u8], at: usize, label: &[u8], n: u64, second: &[u8], k: u64) -> usize
+    requires { ⌜ (at ≤ 0x1FFFFFFFFFFF) × ((length (now label) ≤ 16) × (length (now second) ≤ 16)) ⌝ }
+    ensures text { λ r. ⌜ Written (now (out .entry)) at
+        ((now (label .entry) ++ decimal n) ++ (now (second .entry) ++ decimal k)) r (now (out .exit)) ⌝ }
+    ensures end { λ r. ⌜ r ≤ at + 72 ⌝ }
+{
+    let after = labelled(out, at, label, n);
+    labelled(out, after, second, k)
+}

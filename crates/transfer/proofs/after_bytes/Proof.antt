@@ -7,8 +7,6 @@ use Rattle.transfer.specs.Transfer.{afterBytes}
 use Rattle.transfer.proofs.Laws.{beyond}
 use Rattle.transfer.proofs.after_bytes.Statement.{statement}
 use Rattle.transfer.proofs.after_bytes.Tie as tie
-use Rattle.transfer.proofs.after_bytes.Reads as reads
-use Rattle.transfer.proofs.after_bytes.Lts as lts
 
 returns : tie.Need-returns
 unfolding afterBytes
@@ -28,9 +26,6 @@ returns-4 c =
     let m = a .p .moved + a .n in
     rw (ne-eqb (a .n) 0 (c .before .before .before .if1 .left), le-ltb m (a .room) (omega arith), eq-eqb m (a .room) (omega arith))
 
-add-t7 : tie.Need-add-t7
-add-t7 c = search needs
-
 returns-5 : tie.Need-returns-5
 unfolding afterBytes
 returns-5 c =
@@ -39,4 +34,6 @@ returns-5 c =
     rw (ne-eqb (a .n) 0 (c .before .before .before .if1 .left), lt-ltb m (a .room) (omega (arith, c .if4 .left)))
 
 pub after-bytes-spec : {M : Type 1} → statement M
-after-bytes-spec = tie.close (tie.spec returns returns-2 returns-3 returns-4 add-t7 returns-5)
+after-bytes-spec =
+    tie.close
+    (tie.spec returns returns-2 returns-3 returns-4 (λ c. search needs) returns-5)

@@ -12,13 +12,6 @@ use Rattle.transfer.specs.Transfer.{afterBytes}
 use Rattle.transfer.proofs.Laws.{negative, not-negative, casts}
 use Rattle.transfer.proofs.after_call.Statement.{statement}
 use Rattle.transfer.proofs.after_call.Tie as tie
-use Rattle.transfer.proofs.after_call.Reads as reads
-use Rattle.transfer.proofs.after_call.Lts as lts
-use Rattle.transfer.proofs.after_bytes.Reads as after-bytes-reads
-use Rattle.transfer.proofs.after_error.Reads as after-error-reads
-
-after-error-requires : tie.Need-after-error-requires
-after-error-requires c κs = search needs
 
 returns : tie.Need-returns
 returns c =
@@ -34,9 +27,6 @@ cast-after-bytes c =
     subst (λ (z : ℤ). T (nonNeg z) × Fits w64 (natAbs z)) (sym back)
     (casts (a .got) (subst (λ (z : ℤ). ltZ z (pos 0) ≡ false) back (c .if1 .left)) (c .before .fits .got))
 
-after-bytes-requires : tie.Need-after-bytes-requires
-after-bytes-requires c κs = search needs
-
 returns-2 : tie.Need-returns-2
 returns-2 c =
     let a = c .before .before .args in
@@ -47,4 +37,4 @@ returns-2 c =
 pub after-call-spec : {M : Type 1} → statement M
 after-call-spec =
     tie.close
-    (tie.spec after-error-requires returns cast-after-bytes after-bytes-requires returns-2)
+    (tie.spec (λ c κs. search needs) returns cast-after-bytes (λ c κs. search needs) returns-2)

@@ -2,11 +2,6 @@
 use borrow.Author.Needs.{needs}
 use Rattle.transfer.proofs.after_error.Statement.{statement}
 use Rattle.transfer.proofs.after_error.Tie as tie
-use Rattle.transfer.proofs.after_error.Reads as reads
-use Rattle.transfer.proofs.after_error.Lts as lts
-
-after-interruption-requires : tie.Need-after-interruption-requires
-after-interruption-requires c κs = search needs
 
 returns : tie.Need-returns
 returns c = rw (c .before .if1 .taken) (c .after-interruption .ensures)
@@ -15,4 +10,6 @@ returns-2 : tie.Need-returns-2
 returns-2 c = rw (c .if1 .left)
 
 pub after-error-spec : {M : Type 1} → statement M
-after-error-spec = tie.close (tie.spec after-interruption-requires returns returns-2)
+after-error-spec =
+    tie.close
+    (tie.spec (λ c κs. search needs) returns returns-2)

@@ -1,55 +1,21 @@
 -- `listing::lines::peb_line` meets its contract. Assumes nothing.
-use Prim.Native.Nat.{_-_}
 use native.Mathlib.Omega.{arith}
 use borrow.Author.Needs.{needs}
 use Rattle.listing.proofs.Laws.{both-written}
-use Rattle.listing.specs.Text.{pebLine, labelled}
+use Rattle.listing.specs.Text.{pebLine, pair, labelled}
 use Rattle.listing.proofs.lines.peb_line.Statement.{statement}
 use Rattle.listing.proofs.lines.peb_line.Tie as tie
-use Rattle.listing.proofs.lines.peb_line.Reads as reads
-use Rattle.listing.proofs.lines.peb_line.Lts as lts
-use Rattle.listing.proofs.lines.counter_word.Reads as counter-word-reads
-use Rattle.listing.proofs.write.append.Reads as append-reads
-use Rattle.listing.proofs.write.labelled.Reads as labelled-reads
-
-slice-aggregate-labelled : tie.Need-slice-aggregate-labelled
-slice-aggregate-labelled c = search needs
-
-labelled-requires : tie.Need-labelled-requires
-labelled-requires c κs = search needs
-
-slice-aggregate-labelled-2 : tie.Need-slice-aggregate-labelled-2
-slice-aggregate-labelled-2 c = search needs
-
-labelled-requires-2 : tie.Need-labelled-requires-2
-labelled-requires-2 c κs = search needs
-
-counter-word-requires : tie.Need-counter-word-requires
-counter-word-requires c κs = search needs
-
-slice-aggregate-append : tie.Need-slice-aggregate-append
-slice-aggregate-append c = search needs
-
-append-requires : tie.Need-append-requires
-append-requires c κs = search needs
-
-same-length : tie.Need-same-length
-same-length c = search needs
 
 returns : tie.Need-returns
-unfolding pebLine labelled
-returns c = (both-written (c .before .before .before .before .before .before .before .before .before .before .before .before .before .before .before .before .labelled .ensures .0) (both-written (c .before .before .before .before .before .before .before .before .before .before .before .labelled2 .ensures .0) (both-written (c .before .before .before .before .before .before .before .counter-word .ensures .0) (c .before .before .append .ensures))), omega (arith, c .before .before .append .ensures .after))
+unfolding pebLine pair labelled
+returns c =
+    let e = c .before .before .append .ensures in
+    let k = c .before .before .before .before .before .before .before in
+    let w = k .before .before .before .before .pair .ensures .0 in
+    (both-written w (both-written (k .counter-word .ensures .0) e), omega (arith, e .after))
 
 pub peb-line-spec : {M : Type 1} → statement M
 peb-line-spec =
     tie.close
-    (tie.spec
-    slice-aggregate-labelled
-    labelled-requires
-    slice-aggregate-labelled-2
-    labelled-requires-2
-    counter-word-requires
-    slice-aggregate-append
-    append-requires
-    same-length
-    returns)
+    (tie.spec (λ c. search needs) (λ c. search needs) (λ c κs. search needs) (λ c κs. search needs)
+    (λ c. search needs) (λ c κs. search needs) (λ c. search needs) returns)

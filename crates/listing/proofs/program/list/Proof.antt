@@ -1,6 +1,5 @@
 -- `listing::program::list` meets its contract. Assumes nothing.
 use mathlib.Core.Path.{sym, ap, _∙_}
-use Prim.Native.Nat.{_-_}
 use borrow.Author.Needs.{needs}
 use mathlib.Core.Path.{ap₂}
 use mathlib.Core.List.{List}
@@ -12,40 +11,9 @@ use Rattle.listing.specs.Listing.{slipPart, imagePart, afterSlip, pebTab
 use Rattle.listing.proofs.Texts.{listed-by, long-judged, long-tables, short-judged, rest-is}
 use Rattle.listing.proofs.program.list.Statement.{statement}
 use Rattle.listing.proofs.program.list.Tie as tie
-use Rattle.listing.proofs.program.list.Reads as reads
-use Rattle.listing.proofs.program.list.Lts as lts
-use Rattle.attach.proofs.attach.Reads as attach-reads
-use Rattle.listing.proofs.program.refuse_long.Reads as refuse-long-reads
-use Rattle.listing.proofs.program.slip_end.Reads as slip-end-reads
-use Rattle.listing.proofs.program.too_much.Reads as too-much-reads
-use Rattle.listing.proofs.text.render.Reads as render-reads
-
-slip-end-requires : tie.Need-slip-end-requires
-slip-end-requires c κs = search needs
-
-too-much-requires : tie.Need-too-much-requires
-too-much-requires c κs = search needs
 
 slice-aggregate-refuse-long : tie.Need-slice-aggregate-refuse-long
 slice-aggregate-refuse-long c = sym (length-take-le (c .before .before .before .slip-end .result) (c .before .before .before .before .before .before .args .input .now) (c .before .before .before .slip-end .ensures .within))
-
-refuse-long-requires : tie.Need-refuse-long-requires
-refuse-long-requires c κs = search needs
-
-slice-aggregate-render : tie.Need-slice-aggregate-render
-slice-aggregate-render c = search needs
-
-slice-aggregate-render-2 : tie.Need-slice-aggregate-render-2
-slice-aggregate-render-2 c = search needs
-
-slice-aggregate-render-3 : tie.Need-slice-aggregate-render-3
-slice-aggregate-render-3 c = search needs
-
-render-requires : tie.Need-render-requires
-render-requires c κs = search needs
-
-same-length : tie.Need-same-length
-same-length c = search needs
 
 returns : tie.Need-returns
 unfolding pebTable mapTable stateTable
@@ -62,42 +30,6 @@ returns c = let a = c .before .before .before .before .before .before .before .b
 
 slice-aggregate-attach : tie.Need-slice-aggregate-attach
 slice-aggregate-attach c = sym (length-take-le (c .before .before .before .slip-end .result) (c .before .before .before .before .before .before .args .input .now) (c .before .before .before .slip-end .ensures .within))
-
-sub-attach : tie.Need-sub-attach
-sub-attach c = search needs
-
-part-attach-start : tie.Need-part-attach-start
-part-attach-start c = search needs
-
-part-attach-end : tie.Need-part-attach-end
-part-attach-end c = search needs
-
-slice-aggregate-attach-2 : tie.Need-slice-aggregate-attach-2
-slice-aggregate-attach-2 c = search needs
-
-slice-aggregate-attach-3 : tie.Need-slice-aggregate-attach-3
-slice-aggregate-attach-3 c = search needs
-
-slice-aggregate-attach-4 : tie.Need-slice-aggregate-attach-4
-slice-aggregate-attach-4 c = search needs
-
-attach-requires : tie.Need-attach-requires
-attach-requires c κs = search needs
-
-slice-aggregate-render-4 : tie.Need-slice-aggregate-render-4
-slice-aggregate-render-4 c = search needs
-
-slice-aggregate-render-5 : tie.Need-slice-aggregate-render-5
-slice-aggregate-render-5 c = search needs
-
-slice-aggregate-render-6 : tie.Need-slice-aggregate-render-6
-slice-aggregate-render-6 c = search needs
-
-render-requires-2 : tie.Need-render-requires-2
-render-requires-2 c κs = search needs
-
-same-length-2 : tie.Need-same-length-2
-same-length-2 c = search needs
 
 returns-2 : tie.Need-returns-2
 unfolding pebTable mapTable stateTable
@@ -120,28 +52,8 @@ returns-2 c = let a = c .before .before .before .before .before .before .before 
 pub list-spec : {M : Type 1} → statement M
 list-spec =
     tie.close
-    (tie.spec
-    slip-end-requires
-    too-much-requires
-    slice-aggregate-refuse-long
-    refuse-long-requires
-    slice-aggregate-render
-    slice-aggregate-render-2
-    slice-aggregate-render-3
-    render-requires
-    same-length
-    returns
-    slice-aggregate-attach
-    sub-attach
-    part-attach-start
-    part-attach-end
-    slice-aggregate-attach-2
-    slice-aggregate-attach-3
-    slice-aggregate-attach-4
-    attach-requires
-    slice-aggregate-render-4
-    slice-aggregate-render-5
-    slice-aggregate-render-6
-    render-requires-2
-    same-length-2
-    returns-2)
+    (tie.spec (λ c κs. search needs) (λ c κs. search needs) slice-aggregate-refuse-long (λ c κs. search needs)
+    (λ c. search needs) (λ c. search needs) (λ c. search needs) (λ c κs. search needs) (λ c. search needs) returns
+    slice-aggregate-attach (λ c. search needs) (λ c. search needs) (λ c. search needs) (λ c. search needs)
+    (λ c. search needs) (λ c. search needs) (λ c κs. search needs) (λ c. search needs) (λ c. search needs)
+    (λ c. search needs) (λ c κs. search needs) (λ c. search needs) returns-2)

@@ -1,6 +1,5 @@
 -- `listing::text::render` meets its contract. Assumes nothing.
 use mathlib.Core.Path.{sym, _∙_}
-use Prim.Native.Nat.{_-_}
 use native.Mathlib.Omega.{arith}
 use borrow.Author.Needs.{needs}
 use borrow.Author.Tests.{not-true, not-false}
@@ -9,19 +8,9 @@ use Rattle.listing.proofs.Texts.{not-held, too-short, has-room}
 use Rattle.listing.proofs.Laws.{written-length}
 use Rattle.listing.proofs.text.render.Statement.{statement}
 use Rattle.listing.proofs.text.render.Tie as tie
-use Rattle.listing.proofs.text.render.Reads as reads
-use Rattle.listing.proofs.text.render.Lts as lts
-use Rattle.listing.proofs.text.tables_hold.Reads as tables-hold-reads
-use Rattle.listing.proofs.text.write_text.Reads as write-text-reads
-
-tables-hold-requires : tie.Need-tables-hold-requires
-tables-hold-requires c κs = search needs
 
 returns : tie.Need-returns
 returns c = let a = c .before .before .before .before .before .before .args in let q = not-held (attachedAnswer (a .a)) (a .pebs .now) (a .map .now) (a .states .now) (a .out .now) (sym (c .before .tables-hold .ensures) ∙ not-true _ (c .if1 .taken)) in (q .0, (q .1, tt))
-
-slice-aggregate-write-text : tie.Need-slice-aggregate-write-text
-slice-aggregate-write-text c = search needs
 
 write-text-requires : tie.Need-write-text-requires
 write-text-requires c κs = sym (c .before .before .tables-hold .ensures) ∙ not-false _ (c .before .if1 .left)
@@ -32,21 +21,11 @@ returns-2 c = let a = c .before .before .before .before .before .before .before 
 write-text-requires-2 : tie.Need-write-text-requires-2
 write-text-requires-2 c κs = sym (c .before .before .before .before .before .before .tables-hold .ensures) ∙ not-false _ (c .before .before .before .before .before .if1 .left)
 
-same-length : tie.Need-same-length
-same-length c = search needs
-
 returns-3 : tie.Need-returns-3
 returns-3 c = let a = c .before .before .before .before .before .before .before .before .before .before .before .before .before .before .args in let q = has-room (attachedAnswer (a .a)) (a .pebs .now) (a .map .now) (a .states .now) (a .out .now) (sym (c .before .before .before .before .before .before .before .before .before .tables-hold .ensures) ∙ not-false _ (c .before .before .before .before .before .before .before .before .if1 .left)) (omega (arith, c .before .before .before .before .before .before .write-text .ensures .after, c .before .before .before .before .if2 .left)) (c .before .before .write-text2 .ensures) in (q .0, (q .1, omega (arith, c .before .before .write-text2 .ensures .after, c .before .before .before .before .before .before .write-text .ensures .after, c .before .before .before .before .if2 .left, written-length (c .before .before .write-text2 .ensures))))
 
 pub render-spec : {M : Type 1} → statement M
 render-spec =
     tie.close
-    (tie.spec
-    tables-hold-requires
-    returns
-    slice-aggregate-write-text
-    write-text-requires
-    returns-2
-    write-text-requires-2
-    same-length
-    returns-3)
+    (tie.spec (λ c κs. search needs) returns (λ c. search needs) write-text-requires returns-2 write-text-requires-2
+    (λ c. search needs) returns-3)

@@ -3,39 +3,22 @@ use mathlib.Core.Path.{sym}
 use Prim.Native.Nat.{_-_}
 use native.Mathlib.Omega.{arith}
 use borrow.Author.Needs.{needs}
-use lib.ListN.{length-take}
 use Rattle.listing.proofs.Laws.{stored-whole, stored-part, stored-nothing}
-use lib.ListN.{length}
+use lib.ListN.{length, length-take}
 use lib.Seq.{length-take-le}
 use Rattle.listing.proofs.write.append.Statement.{statement}
 use Rattle.listing.proofs.write.append.Tie as tie
-use Rattle.listing.proofs.write.append.Reads as reads
-use Rattle.listing.proofs.write.append.Lts as lts
-use Rattle.base.proofs.store.Reads as store-reads
-
-add-end : tie.Need-add-end
-add-end c = search needs
-
-store-requires : tie.Need-store-requires
-store-requires c κs = search needs
-
-same-length : tie.Need-same-length
-same-length c = search needs
 
 returns : tie.Need-returns
 returns c = stored-whole (omega arith) (c .before .before .store .ensures)
 
-sub-room : tie.Need-sub-room
-sub-room c = search needs
-
 slice-aggregate-store : tie.Need-slice-aggregate-store
-slice-aggregate-store c = let a = c .before .before .before .before .before .before .args in sym (length-take-le (length (a .out .now) - a .at) (a .bytes .now) (omega arith))
+slice-aggregate-store c =
+    let a = c .before .before .before .before .before .before .args in
+    sym (length-take-le (length (a .out .now) - a .at) (a .bytes .now) (omega arith))
 
 store-requires-2 : tie.Need-store-requires-2
 store-requires-2 c κs = rw length-take (omega arith)
-
-same-length-2 : tie.Need-same-length-2
-same-length-2 c = search needs
 
 returns-2 : tie.Need-returns-2
 returns-2 c = stored-part (omega arith) (omega arith) (c .before .before .store2 .ensures)
@@ -46,14 +29,5 @@ returns-3 c = stored-nothing (c .if2 .left)
 pub append-spec : {M : Type 1} → statement M
 append-spec =
     tie.close
-    (tie.spec
-    add-end
-    store-requires
-    same-length
-    returns
-    sub-room
-    slice-aggregate-store
-    store-requires-2
-    same-length-2
-    returns-2
-    returns-3)
+    (tie.spec (λ c. search needs) (λ c κs. search needs) (λ c. search needs) returns (λ c. search needs)
+    slice-aggregate-store store-requires-2 (λ c. search needs) returns-2 returns-3)

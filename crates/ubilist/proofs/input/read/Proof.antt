@@ -14,13 +14,6 @@ use Rattle.ubilist.specs.declared.input.Input.{Input}
 use Rattle.ubilist.specs.Input.{inputOf, within}
 use Rattle.ubilist.proofs.input.read.Statement.{statement}
 use Rattle.ubilist.proofs.input.read.Tie as tie
-use Rattle.ubilist.proofs.input.read.Reads as reads
-use Rattle.ubilist.proofs.input.read.Lts as lts
-use Rattle.os.proofs.errno.Reads as errno-reads
-use Rattle.transfer.proofs.after_call.Reads as after-call-reads
-use Rattle.transfer.proofs.begin.Reads as begin-reads
-use Rattle.ubilist.proofs.input.input_of.Reads as input-of-reads
-use Rattle.ubilist.proofs.input.read_some.Reads as read-some-reads
 
 -- an input that has ended is no longer than what is held
 ended-within : (t : Transfer) → ((n : ℕ) → t ≡ Ended n → n < 61441) → within (inputOf t) 61440
@@ -35,29 +28,8 @@ Inv-loop held₀ p₀ held p = (length held ≡ length held₀) × (p .moved < 6
 abbrev μ-loop : tie.MeasureT-loop
 μ-loop held₀ p₀ held p = callsLeft 61441 p
 
-begin-requires : tie.Need-begin-requires Inv-loop μ-loop
-begin-requires c κs = search needs
-
 loop-holds : tie.Need-loop-holds Inv-loop μ-loop
 loop-holds c = (refl, subst (λ (p : Progress). p .moved < 61441) (sym (c .begin .ensures)) (lit< tt))
-
-read-some-requires : tie.Need-read-some-requires Inv-loop μ-loop
-read-some-requires c κs = search needs
-
-errno-requires : tie.Need-errno-requires Inv-loop μ-loop
-errno-requires c κs = search needs
-
-after-call-requires : tie.Need-after-call-requires Inv-loop μ-loop
-after-call-requires c κs = search needs
-
-enum-known-t : tie.Need-enum-known-t Inv-loop μ-loop
-enum-known-t c = search needs
-
-input-of-requires : tie.Need-input-of-requires Inv-loop μ-loop
-input-of-requires c κs = search needs
-
-same-length : tie.Need-same-length Inv-loop μ-loop
-same-length c = search needs
 
 returns : tie.Need-returns Inv-loop μ-loop
 returns c =
@@ -79,17 +51,6 @@ loop-again c =
 pub read-spec : {M : Type 1} → statement M
 read-spec =
     tie.close
-    (tie.spec
-    Inv-loop
-    μ-loop
-    begin-requires
-    loop-holds
-    read-some-requires
-    errno-requires
-    after-call-requires
-    enum-known-t
-    input-of-requires
-    same-length
-    returns
-    loop-less
+    (tie.spec Inv-loop μ-loop (λ c κs. search needs) loop-holds (λ c κs. search needs) (λ c κs. search needs)
+    (λ c κs. search needs) (λ c. search needs) (λ c κs. search needs) (λ c. search needs) returns loop-less
     loop-again)
