@@ -27,12 +27,12 @@ use Rattle.choice.specs.Marking.{MarkedTo}
 use Rattle.choice.proofs.Words.{held, has-words, same-true, mappable-word}
 use Rattle.choice.proofs.Rows.{rows-there}
 
-place-is : (x : Option ℕ) (i : ℕ) → isPlace x i ≡ true → x ≡ some i
+pub place-is : (x : Option ℕ) (i : ℕ) → isPlace x i ≡ true → x ≡ some i
 place-is none i e = absurd (false≢true e)
 place-is (some p) i e = ap some (eqb-true p i e)
 
 -- the class of a copy of a user or layout LEB
-class-of : (f : Copy → ℕ) (e : EcView) (v : VidView) (c : Copy) → goodVid v ≡ some c → isMappable (c .header .volume) ≡ true → classBy f e v ≡ f c
+pub class-of : (f : Copy → ℕ) (e : EcView) (v : VidView) (c : Copy) → goodVid v ≡ some c → isMappable (c .header .volume) ≡ true → classBy f e v ≡ f c
 class-of f e (vidGood d) c q m = let z : d ≡ c = cc in rw (z, m)
 class-of f e vidNewer c q m = none-some q
 class-of f e vidBlank c q m = none-some q

@@ -1,7 +1,7 @@
 -- A PEB's copy, where it stands in the image. Assumes nothing.
 use mathlib.Core.Path.{_≡_, refl, sym, ap, ap₂, _∙_}
 use mathlib.Core.Bool.{Bool, true, false, cond}
-use mathlib.Core.Option.{some}
+use mathlib.Core.Option.{Option, some}
 use mathlib.Core.List.{List}
 use Prim.Native.Nat.{ℕ, _+_, _-_, _*_, _≤_, _<_, _^_}
 use native.Mathlib.Omega.{arith}
@@ -9,7 +9,7 @@ use native.Mathlib.Nat.{add-sub-cancel-left}
 use borrow.Author.Tests.{leb-true, ltb-true, eq-eqb}
 use lib.Dec.{eqb, ltb}
 use lib.ListN.{length, take, drop}
-use Rattle.base.specs.Answers.{allOf}
+use Rattle.base.specs.Answers.{mapO, allOf}
 use Rattle.base.specs.Lists.{part, Bytes}
 use Rattle.base.proofs.Answers.{each-holds, and-left}
 use Rattle.base.proofs.Lists.{length-part, bytes-part, part-part}
@@ -21,9 +21,13 @@ use Rattle.header.specs.Fields.{Verdict, good, bad, newer}
 use Rattle.header.specs.Vid.{vidFields, vidRules, staticRule, readVid}
 use Rattle.header.proofs.Laws.{vid-good}
 use Rattle.header.proofs.RoundTrip.{vid-read-fits}
-use Rattle.report.specs.View.{allFF, Copy, vidBlank, copyOf, vidOf, vidPart, viewOf, pebAt, viewsOf, goodVid, copies}
-use Rattle.base.proofs.Answers.{none-some}
-use Rattle.copies.specs.InPlace.{headerAt, copyAt, HasCopy}
+use Rattle.report.specs.View.{allFF, Copy, vidBlank, copyOf, vidOf, vidPart, viewOf, pebAt, viewsOf, mediumOf, goodVid, copies}
+use Rattle.report.specs.Choice.{chosen}
+use Rattle.report.specs.Volumes.{faceOf, facesOf, placesOf}
+use Rattle.report.specs.Report.{faces, places}
+use Rattle.report.proofs.Choice.{chosen-at}
+use Rattle.base.proofs.Answers.{by-option, none-some, mapO-some}
+use Rattle.copies.specs.InPlace.{headerAt, copyAt, faceAt, HasCopy}
 
 -- ---- a good copy is the one of the fields in its place
 
@@ -109,3 +113,24 @@ module _ (g : Geometry) (image : List ℕ) (i : ℕ) (p : Placed g) where
       let k = length-part (g .«vid_start») 64 peb (omega (arith, p .data-after-vid, p .leb-fills)) in
       let c = bytes-part (g .«vid_start») 64 peb (bytes-part (i * g .«peb_size») (g .«peb_size») image b) in
       vid-read-fits (vidPart g peb) c (rw k (omega arith)) .sequence
+
+-- ---- the chosen copy of a LEB, and its face
+
+module _ (g : Geometry) (n : ℕ) (image : List ℕ) (v l : ℕ) where
+  abbrev choice : Option (ℕ × Copy)
+  choice = chosen n (copies (viewsOf g image)) v l
+
+  copy-chosen : (x : ℕ × Copy) → choice ≡ some x → x .1 ≡ copyAt g image (x .0)
+  copy-chosen x q = copy-is g image (x .0) (x .1) (chosen-at n (copies (viewsOf g image)) v l (x .0) (x .1) q .1)
+
+  pub place-chosen : (p : ℕ) → places (mediumOf g n image) v l ≡ some p → choice ≡ some (p, copyAt g image p)
+  unfolding placesOf
+  place-chosen p e =
+      let x = mapO-some _ choice p e in
+      x .1 ∙ ap some (ap₂ (λ (a : ℕ) (b : Copy). (a, b)) (x .2) (copy-chosen (x .0) (x .1) ∙ ap (copyAt g image) (x .2)))
+
+  pub face-is : faces (mediumOf g n image) v l ≡ mapO (faceAt g image) (places (mediumOf g n image) v l)
+  unfolding facesOf placesOf
+  face-is =
+      by-option choice (λ q. rw q)
+      (λ x q. rw q (ap (λ (c : Copy). some (faceOf g c)) (copy-chosen x q)))

@@ -9,6 +9,7 @@ use Rattle.geometry.specs.declared.Geometry.{Geometry}
 use Rattle.geometry.specs.Placed.{Placed}
 use Rattle.header.specs.declared.VidHeader.{VidHeader}
 use Rattle.header.specs.Vid.{vidFields}
+use Rattle.report.specs.Volumes.{Face, faceOf}
 use Rattle.report.specs.View.{Copy, vidPart, pebAt, viewsOf, copyOf, copies}
 
 -- the fields in the place of PEB i's VID header, and the copy that they make if the header is good
@@ -17,6 +18,10 @@ headerAt g image i = vidFields (vidPart g (pebAt g image i))
 
 abbrev pub copyAt : Geometry → List ℕ → ℕ → Copy
 copyAt g image i = copyOf g (pebAt g image i) (headerAt g image i)
+
+-- what the rest of attaching sees of it
+abbrev pub faceAt : Geometry → List ℕ → ℕ → Face
+faceAt g image i = faceOf g (copyAt g image i)
 
 -- PEB i lies within the image, and its VID header is good
 pub record HasCopy (g : Geometry) (image : List ℕ) (i : ℕ) : Type 0 where

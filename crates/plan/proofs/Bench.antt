@@ -12,7 +12,7 @@ use Rattle.crc32.specs.Crc.{tap, crcBit, crcBits, crcByte, crcFrom, crcOf}
 use Rattle.geometry.specs.Geometry.{goodUnit, roundUp, vidStart, dataStart, lebSize, geometryRules, makeGeometry, geometryOf}
 use Rattle.geometry.specs.Slip.{hasField, valueAt, headRules, endsAt, wellFormed, slipGeometry}
 use Rattle.geometry.specs.declared.Geometry.{Geometry}
-use Rattle.header.specs.Fields.{fieldOf, fieldAt, crcMatches}
+use Rattle.header.specs.Fields.{crcMatches}
 use Rattle.header.specs.Ec.{ecFields, ecRules, judgeEc, readEc, ecHead, ecBytes}
 use Rattle.header.specs.Vid.{layoutVolume, vidFields, volumeRule, staticRule, dynamicRule, layoutRule, vidRules, judgeVid, readVid, vidHead, vidBytes}
 use Rattle.header.specs.declared.EcHeader.{EcHeader}
@@ -122,7 +122,7 @@ pub move-accepted :
     beginning (request slip) image (longEnough (lent (replicate 8 0) (replicate 12 0) (replicate 128 0))) 0 0 3 ≡ given plan
 unfolding slip ec vid recordHead layout abc pebOf image plan eqs beFrom toBeOn tap crcBit crcBits crcByte
     crcFrom goodUnit roundUp vidStart dataStart lebSize geometryRules makeGeometry geometryOf hasField valueAt
-    headRules endsAt wellFormed slipGeometry fieldOf fieldAt crcMatches ecFields ecRules judgeEc readEc ecHead ecBytes
+    headRules endsAt wellFormed slipGeometry crcMatches ecFields ecRules judgeEc readEc ecHead ecBytes
     vidFields volumeRule staticRule dynamicRule layoutRule vidRules judgeVid readVid vidHead vidBytes recordOf
     recordCrcMatches emptyRecord isEmpty nameEnds recordRules recordGood recordCount recordsPart emptyOrGood
     nameOf sameNames autoresizes tableRules tableTests tableGood takenLeb takenRecords allFF copyOf viewOf

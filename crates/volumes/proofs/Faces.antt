@@ -16,12 +16,13 @@ use Rattle.volume_table.specs.Table.{recordAt}
 use Rattle.report.specs.View.{copyOf}
 use Rattle.report.specs.Volumes.{Face, faceOf, recordFor, reservedOf, usedOf}
 use Rattle.report.proofs.Tables.{reserved-is}
-use Rattle.copies.specs.InPlace.{headerAt}
+use Rattle.copies.specs.InPlace.{headerAt, faceAt}
+use Rattle.copies.proofs.Copies.{face-is}
 use Rattle.words.specs.Words.{volumeWord, lnumWord, pebWord}
-use Rattle.volumes.specs.Sorted.{faceAt, faultyBy, FirstOf, SortedMap}
+use Rattle.volumes.specs.Sorted.{faultyBy, FirstOf, SortedMap}
 use Rattle.base.proofs.Answers.{by-test, either-way, by-option}
 use Rattle.base.proofs.Below.{first-lowest}
-use Rattle.volumes.proofs.Words.{fs, ps, rs, face-is, place-is, leb-below, index-of, lower-first}
+use Rattle.volumes.proofs.Words.{fs, ps, rs, place-is, leb-below, index-of, lower-first}
 
 pub used-is : (g : Geometry) (image : List ℕ) (i : ℕ) → faceAt g image i .used ≡ headerAt g image i .«used_lebs»
 unfolding copyOf faceOf
@@ -52,7 +53,7 @@ module _ {g : Geometry} {n : ℕ} {image map table : List ℕ} {count : ℕ} (s 
     leb-within = rw e at (leb-below s h (rw e hv))
 
     pub face-here : fs s v (lnumWord map k) ≡ some (faceAt g image (pebWord map k))
-    face-here = face-is s v (lnumWord map k) ∙ ap (mapO (faceAt g image)) (rw e at (place-is s h))
+    face-here = face-is g n image v (lnumWord map k) ∙ ap (mapO (faceAt g image)) (rw e at (place-is s h))
 
     pub record-here : recordFor (rs s) v ≡ some (recordOf (recordAt (rs s) v))
     record-here = record-there (rs s) v (omega (arith, leb-within, reserved-is (rs s) v))
@@ -60,7 +61,7 @@ module _ {g : Geometry} {n : ℕ} {image map table : List ℕ} {count : ℕ} (s 
   -- a LEB of this volume has no face, or an entry
   pub face-or : {l : ℕ} → l < most → (fs s v l ≡ none) ⊎ EntryOf map count v l
   face-or {l} h =
-      by-option (ps s v l) (λ q. inl (face-is s v l ∙ ap (mapO (faceAt g image)) q))
+      by-option (ps s v l) (λ q. inl (face-is g n image v l ∙ ap (mapO (faceAt g image)) q))
       (λ p q. let r = index-of s hv h q in inr (record { at = r .0; below = r .1; volume = r .2; leb = r .3 }))
 
   module _ {first : ℕ} (f : FirstOf map count v first) where

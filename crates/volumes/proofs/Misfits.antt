@@ -17,7 +17,7 @@ use Rattle.report.specs.View.{mediumOf, copyOf}
 use Rattle.report.specs.Scan.{when}
 use Rattle.report.specs.Volumes.{faceOf, recordFor, usedOf, misfit, misfitIn, misfitAt}
 use Rattle.report.specs.Report.{taken}
-use Rattle.report.proofs.Tables.{no-misfit as misfits-none}
+use Rattle.report.proofs.Tables as tables
 use Rattle.copies.specs.InPlace.{headerAt}
 use Rattle.volumes.specs.declared.RecordNumbers.{RecordNumbers}
 use Rattle.words.specs.Words.{volumeWord, lnumWord, pebWord}
@@ -105,4 +105,4 @@ module _ {g : Geometry} {n : ℕ} {image map table : List ℕ} {count : ℕ} (s 
   pub none-misfits : (k : ℕ) → misfitRefusal map count k ≡ tableRefusal (mediumOf g n image) → count ≤ k → NoMisfit g n image map table count
   none-misfits k e h =
       let q : misfitRefusal map count k ≡ none = rw (le-ltb k count h) in
-      record { sorted = s; none12 = misfits-none (taken (mediumOf g n image)) (rs s) (fs s) (ps s) (sym e ∙ q) }
+      record { sorted = s; none12 = tables.no-misfit (taken (mediumOf g n image)) (rs s) (fs s) (ps s) (sym e ∙ q) }

@@ -21,15 +21,15 @@ use Rattle.report.specs.Volumes.{Face, faceOf, recordFor, usedOf, mapOf, asksCr
 use Rattle.report.specs.Report.{entries, stateAt}
 use Rattle.report.proofs.Choice.{chosen-at}
 use Rattle.report.proofs.Tables.{Fits, entry-fits, reserved-is}
-use Rattle.copies.specs.InPlace.{headerAt, copyAt}
-use Rattle.copies.proofs.Copies.{static-below}
+use Rattle.copies.specs.InPlace.{headerAt, copyAt, faceAt}
+use Rattle.copies.proofs.Copies.{static-below, place-chosen, face-is}
 use Rattle.volumes.specs.declared.RecordNumbers.{RecordNumbers}
 use Rattle.words.specs.Words.{volumeWord, lnumWord, pebWord}
-use Rattle.volumes.specs.Sorted.{faceAt, faultyBy, numbersOf, asksBy, isOf, faultAt, FirstOf, LacksLeb, SortedMap, NoMisfit}
+use Rattle.volumes.specs.Sorted.{faultyBy, numbersOf, asksBy, isOf, faultAt, FirstOf, LacksLeb, SortedMap, NoMisfit}
 use Rattle.base.proofs.Answers.{by-test, same-test, by-option}
 use Rattle.base.proofs.Below.{any-hit}
 use Rattle.volumes.proofs.Counts.{count-cong, count-upto, fewer, has, count-map}
-use Rattle.volumes.proofs.Words.{fs, ps, rs, es, nth, volume-is, face-is, place-chosen}
+use Rattle.volumes.proofs.Words.{fs, ps, rs, es, nth, volume-is}
 use Rattle.volumes.proofs.Faces.{record-there, record-not, most, leb-within, face-here, EntryOf, face-or}
 
 lacks-dynamic : (r : VolumeRecord) (u : Option ℕ) (f : ℕ → Option Face) → (r .«vol_type» ≡ 2 → ⊥) → lacks r u f ≡ false
@@ -99,9 +99,9 @@ module _ {g : Geometry} {n : ℕ} {image map table : List ℕ} {count : ℕ} (d 
         unfolding copyOf faceOf
         past l a h =
             by-option (ps s v l) (λ q. rw q)
-            (λ p q. let f = fits l (faceAt g image p) h (face-is s v l ∙ ap (mapO (faceAt g image)) q) in
+            (λ p q. let f = fits l (faceAt g image p) h (face-is g n image v l ∙ ap (mapO (faceAt g image)) q) in
             let k = f .same-type ∙ static in
-            let c = chosen-at n (copies (viewsOf g image)) v l p (copyAt g image p) (place-chosen s v l p q) in
+            let c = chosen-at n (copies (viewsOf g image)) v l p (copyAt g image p) (place-chosen g n image v l p q) in
             let w : some u ≡ some (headerAt g image p .«used_lebs») = sym is-used ∙ f .same-used k in
             let x : u ≡ headerAt g image p .«used_lebs» = cc in
             absurd (omega (arith, static-below g image p (copyAt g image p) (c .1) k, x, c .3)))
@@ -111,7 +111,7 @@ module _ {g : Geometry} {n : ℕ} {image map table : List ℕ} {count : ℕ} (d 
             rw (entry-count ∙ count-upto u (rec .reserved) (λ l. has (ps s v l)) h past, is-used, eq-eqb (rec .«vol_type») 2 static)
             (fewer u (λ l. has (ps s v l))
             ∙ any-cong u (λ l. not (has (ps s v l))) (λ l. isMissing (fs s v l))
-            (λ l _. sym (ap isMissing (face-is s v l) ∙ missing-has (faceAt g image) (ps s v l))))
+            (λ l _. sym (ap isMissing (face-is g n image v l) ∙ missing-has (faceAt g image) (ps s v l))))
 
       -- nothing is mapped
       unmapped : {first : ℕ} → FirstOf map count v first → count ≤ first → lacks rec (usedOf (rs s) (fs s) v) (fs s v) ≡ false

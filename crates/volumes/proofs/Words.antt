@@ -1,5 +1,5 @@
 -- The words of the sorted map: what each entry says, where each mapped LEB's entry is, and their order. Assumes nothing.
-use mathlib.Core.Path.{_≡_, refl, sym, ap, ap₂, _∙_}
+use mathlib.Core.Path.{_≡_, refl, sym, ap, _∙_}
 use mathlib.Core.Logic.{inl, ⊎-elim}
 use mathlib.Core.Option.{some}
 use mathlib.Core.List.{List, [], _∷_}
@@ -10,26 +10,24 @@ use borrow.Author.Tests.{leb-true, ltb-true, ltb-false}
 use lib.Dec.{ltb}
 use lib.ListN.{length, getD, length-append, length-take, List·getD-append}
 use lib.Seq.{getD-take}
-use Rattle.base.specs.Answers.{given, mapO}
+use Rattle.base.specs.Answers.{given}
 use Rattle.base.proofs.Answers.{each-holds}
 use Rattle.geometry.specs.declared.Geometry.{Geometry}
 use Rattle.header.specs.Vid.{layoutVolume}
 use Rattle.volume_table.specs.Table.{recordCount, recordsPart, tableTests, tableGood}
-use Rattle.report.specs.View.{Copy, Medium, mediumOf, viewsOf, copies}
-use Rattle.report.specs.Choice.{chosen}
-use Rattle.report.specs.Volumes.{Faces, Places, faceOf, facesOf, placesOf, tableLeb, tableRecords, recordFor, reservedOf, Entry, mapOf}
+use Rattle.report.specs.View.{Medium, mediumOf, viewsOf, copies}
+use Rattle.report.specs.Volumes.{Faces, Places, tableLeb, tableRecords, recordFor, reservedOf, Entry, mapOf}
 use Rattle.report.specs.Report.{faces, places, records, entries, taken}
 use Rattle.report.specs.Attach.{entryWords, mapWords}
-use Rattle.base.proofs.Answers.{none-some}
 use Rattle.report.proofs.Choice.{chosen-at}
 use Rattle.report.proofs.Map.{Ascending, Before, Listed, in-map, map-has, map-ascends}
-use Rattle.report.proofs.Tables.{taken as taken-from}
+use Rattle.report.proofs.Tables as tables
 use Rattle.report.proofs.Words.{entry-words-length}
 use Rattle.copies.specs.InPlace.{copyAt, HasCopy}
-use Rattle.copies.proofs.Copies.{copy-is}
+use Rattle.copies.proofs.Copies.{place-chosen}
 use Rattle.words.specs.Words.{volumeWord, lnumWord, pebWord}
-use Rattle.volumes.specs.Sorted.{faceAt, Entries, SortedMap}
-use Rattle.base.proofs.Answers.{by-test, by-option}
+use Rattle.volumes.specs.Sorted.{Entries, SortedMap}
+use Rattle.base.proofs.Answers.{by-test}
 use Rattle.base.proofs.Lists.{getD-mem, mem-getD}
 
 -- ---- a list of entries, by number
@@ -64,7 +62,7 @@ pub records-long : (m : Medium) {l : ℕ} → taken m ≡ given l → length (re
 unfolding tableLeb tableRecords tableGood tableTests recordsPart
 records-long m e =
     let g = m .geometry in
-    let f = taken-from (g .«leb_size») (g .unit) (m .count) _ _ _ e in
+    let f = tables.taken (g .«leb_size») (g .unit) (m .count) _ _ _ e in
     let c = recordCount (g .«leb_size») in
     let p = recordsPart (g .«leb_size») (f .content) in
     let a : 172 * c ≤ length p = leb-true (172 * c) (length p) (each-holds (tableTests c (g .«leb_size») (g .unit) (m .count) p) (f .good) 1) in
@@ -87,27 +85,6 @@ module _ {g : Geometry} {n : ℕ} {image map table : List ℕ} {count : ℕ} (s 
   -- the table is whole
   pub table-long : length table ≡ 172 * recordCount (g .«leb_size»)
   table-long = ap length (s .table-is) ∙ records-long (mediumOf g n image) (s .taken-is)
-
-  -- ---- faces and places
-
-  copy-chosen : (v l : ℕ) (x : ℕ × Copy) → chosen n (copies (viewsOf g image)) v l ≡ some x → x .1 ≡ copyAt g image (x .0)
-  copy-chosen v l x q = copy-is g image (x .0) (x .1) (chosen-at n (copies (viewsOf g image)) v l (x .0) (x .1) q .1)
-
-  pub place-chosen : (v l p : ℕ) → ps v l ≡ some p → chosen n (copies (viewsOf g image)) v l ≡ some (p, copyAt g image p)
-  unfolding placesOf
-  place-chosen v l p e =
-      by-option (chosen n (copies (viewsOf g image)) v l)
-      (λ q. none-some (rw q at e))
-      (λ x q. let z : some (x .0) ≡ some p = rw q at e in
-      let r : x .0 ≡ p = cc in
-      q ∙ ap some (ap₂ (λ (a : ℕ) (b : Copy). (a, b)) r (copy-chosen v l x q ∙ ap (copyAt g image) r)))
-
-  -- the face of a LEB is that of the copy in its place
-  pub face-is : (v l : ℕ) → fs v l ≡ mapO (faceAt g image) (ps v l)
-  unfolding facesOf placesOf
-  face-is v l =
-      by-option (chosen n (copies (viewsOf g image)) v l) (λ q. rw q)
-      (λ x q. rw q (ap (λ (c : Copy). some (faceOf g c)) (copy-chosen v l x q)))
 
   -- ---- the words of the map
 
@@ -153,7 +130,7 @@ module _ {g : Geometry} {n : ℕ} {image map table : List ℕ} {count : ℕ} (s 
 
     pub mapped-here : HasCopy g image (pebWord map k)
     mapped-here =
-        let e = place-chosen (volumeWord map k) (lnumWord map k) (pebWord map k) place-is in
+        let e = place-chosen g n image (volumeWord map k) (lnumWord map k) (pebWord map k) place-is in
         let c = chosen-at n (copies (viewsOf g image)) (volumeWord map k) (lnumWord map k) (pebWord map k) (copyAt g image (pebWord map k)) e in
         record {
           placed = s .placed;

@@ -17,15 +17,11 @@ use Rattle.header.specs.declared.VidHeader.{VidHeader}
 use Rattle.volume_table.specs.declared.VolumeRecord.{VolumeRecord}
 use Rattle.report.specs.View.{Medium, mediumOf}
 use Rattle.report.specs.Scan.{Refusal}
-use Rattle.report.specs.Volumes.{Face, faceOf, misfitIn, misfitAt, refusal1112}
+use Rattle.report.specs.Volumes.{Face, misfitIn, misfitAt, refusal1112}
 use Rattle.report.specs.Report.{faces, places, records, entries, taken}
 use Rattle.report.specs.Attach.{mapWords}
-use Rattle.copies.specs.InPlace.{headerAt, copyAt, HasCopy}
+use Rattle.copies.specs.InPlace.{headerAt, faceAt, HasCopy}
 use Rattle.volumes.specs.declared.RecordNumbers.{RecordNumbers}
-
--- what is seen of PEB i's copy
-abbrev pub faceAt : Geometry → List ℕ → ℕ → Face
-faceAt g image i = faceOf g (copyAt g image i)
 
 -- is an entry at fault, in a volume whose data CRCs are asked or not?
 abbrev pub faultyBy : Bool → Face → Bool

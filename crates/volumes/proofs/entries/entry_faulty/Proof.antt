@@ -5,9 +5,8 @@ use borrow.Author.Needs.{needs}
 use borrow.Author.Tests.{eq-eqb, ne-eqb}
 use lib.Dec.{eqb}
 use Rattle.report.specs.View.{copyOf}
-use Rattle.copies.specs.InPlace.{headerAt}
+use Rattle.copies.specs.InPlace.{headerAt, faceAt}
 use Rattle.report.specs.Volumes.{Face, faceOf}
-use Rattle.volumes.specs.Sorted.{faceAt}
 use Rattle.volumes.proofs.Faces.{fault-unasked, fault-dynamic, fault-static}
 use Rattle.volumes.proofs.entries.entry_faulty.Statement.{statement}
 use Rattle.volumes.proofs.entries.entry_faulty.Tie as tie

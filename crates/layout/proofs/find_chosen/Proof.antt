@@ -1,4 +1,4 @@
--- `attach::layout::find_chosen` meets its contract: no PEB before i is chosen for the LEB. Assumes nothing.
+-- `layout::find_chosen` meets its contract: no PEB before i is chosen for the LEB. Assumes nothing.
 use mathlib.Core.Path.{_≡_, sym, _∙_}
 use Prim.Native.Nat.{_≤_, _<_, _-_}
 use native.Mathlib.Omega.{arith}
@@ -6,12 +6,9 @@ use borrow.Author.Needs.{needs}
 use Prim.Native.Nat.{ℕ}
 use mathlib.Core.Bool.{false}
 use Rattle.base.proofs.Below.{one-more}
-use Rattle.attach.specs.Layout.{isChosen}
-use Rattle.attach.proofs.layout.find_chosen.Statement.{statement}
-use Rattle.attach.proofs.layout.find_chosen.Tie as tie
-use Rattle.attach.proofs.layout.find_chosen.Reads as reads
-use Rattle.attach.proofs.layout.find_chosen.Lts as lts
-use Rattle.attach.proofs.layout.is_chosen.Reads as is-chosen-reads
+use Rattle.layout.specs.Layout.{isChosen}
+use Rattle.layout.proofs.find_chosen.Statement.{statement}
+use Rattle.layout.proofs.find_chosen.Tie as tie
 
 abbrev Inv-loop : tie.InvT-loop
 Inv-loop pebs map n volume lnum i₀ i = (i ≤ n) × ((j : ℕ) → j < i → isChosen pebs map volume lnum j ≡ false)
@@ -22,23 +19,19 @@ abbrev μ-loop : tie.MeasureT-loop
 loop-holds : tie.Need-loop-holds Inv-loop μ-loop
 loop-holds c = (omega arith, λ j h. absurd (omega arith))
 
-is-chosen-requires : tie.Need-is-chosen-requires Inv-loop μ-loop
-is-chosen-requires c κs = search needs
-
 returns : tie.Need-returns Inv-loop μ-loop
-returns c = record { range = omega arith; none-before = c .before .before .before .loop .inv .1; is = λ h. sym (c .before .is-chosen .ensures) ∙ c .if1 .taken }
-
-add-i : tie.Need-add-i Inv-loop μ-loop
-add-i c = search needs
-
-loop-less : tie.Need-loop-less Inv-loop μ-loop
-loop-less c = search needs
+returns c = record {
+  range = omega arith;
+  none-before = c .before .before .before .loop .inv .1;
+  is = λ h. sym (c .before .is-chosen .ensures) ∙ c .if1 .taken;
+}
 
 loop-again : tie.Need-loop-again Inv-loop μ-loop
 loop-again c =
     let l = c .before .before .before .loop in
     let a = c .before .before .before .before .before .before .args in
-    (omega arith, one-more (λ (j : ℕ). isChosen (a .pebs .now) (a .map .now) (a .volume) (a .lnum) j ≡ false) (l .i) (l .inv .1) (sym (c .before .is-chosen .ensures) ∙ c .if1 .left))
+    let P : ℕ → Type 0 = λ j. isChosen (a .pebs .now) (a .map .now) (a .volume) (a .lnum) j ≡ false in
+    (omega arith, one-more P (l .i) (l .inv .1) (sym (c .before .is-chosen .ensures) ∙ c .if1 .left))
 
 returns-2 : tie.Need-returns-2 Inv-loop μ-loop
 returns-2 c =
@@ -52,9 +45,9 @@ find-chosen-spec =
     Inv-loop
     μ-loop
     loop-holds
-    is-chosen-requires
+    (λ c κs. search needs)
     returns
-    add-i
-    loop-less
+    (λ c. search needs)
+    (λ c. search needs)
     loop-again
     returns-2)

@@ -1,0 +1,2 @@
+-- The definitions that contracts here cite. Assumes nothing.
+pub mod Layout
