@@ -1,5 +1,3 @@
-pub mod Laws
 pub mod Ends
-pub mod Layouts
 pub mod Reports
 pub mod Stages

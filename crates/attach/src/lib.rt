@@ -1,50 +1,55 @@
 // Attaching: from a slip and an image to the report.
-mod layout;
-mod lent;
 mod summary;
+mod tables;
 
 ghost use mathlib.Core.Path.{_≡_};
 ghost use Prim.Native.Nat.{_≤_};
 ghost use lib.ListN.{length};
 ghost use Rattle.geometry.specs.Placed.{Placed};
 ghost use Rattle.base.specs.Answers.{given};
-ghost use Rattle.report.specs.Attach.{attaching, byGeometry, longEnough, attachedAnswer, answerOf, pebsAfter, mapAfter, statesAfter};
+ghost use Rattle.report.specs.Attach.{request, attachingInto, byGeometry, lent, longEnough, attachedAnswer, answerOf, tablesAfter};
+ghost use Rattle.choice.specs.Chain.{buckets};
 ghost use Rattle.attach.specs.Stage.{Ended, Room, Past8, Past10, outcome};
 use geometry::Geometry;
 use geometry::GeometryRead;
 use report::Attached;
 use report::refusal;
-use scan::Sums;
+use scan::ScanTotals;
 use volume_table::Taken;
+use words::ENTRY_WORDS;
+use words::PEB_WORDS;
+use words::STATE_WORDS;
 
 // From the chosen copies on: refusal 11, and the rest with the table taken.
 fn attach_chosen(
     image: &[u8],
     g: Geometry,
     n: usize,
-    sums: Sums,
+    totals: ScanTotals,
     pebs: &mut [u32],
     map: &mut [u32],
     states: &mut [u32],
 ) -> Attached
-    requires { ⌜ Past10 g (now image) n sums (now pebs) (now map) (now states) ⌝ }
-    ensures { λ r. ⌜ Ended (outcome g (now (image .entry)) n) r (now (pebs .entry)) (now (pebs .exit)) (now (map .entry)) (now (map .exit)) (now (states .entry)) (now (states .exit)) ⌝ }
+    requires { ⌜ Past10 g n (now image) totals (lent (now pebs) (now map) (now states)) ⌝ }
+    ensures { λ r. ⌜ Ended (outcome g n (now (image .entry))) r
+        (lent (now (pebs .entry)) (now (map .entry)) (now (states .entry)))
+        (lent (now (pebs .exit)) (now (map .exit)) (now (states .exit))) ⌝ }
 {
     let copy0 = layout::layout_content(image, g, n, pebs, map, 0);
     let copy1 = layout::layout_content(image, g, n, pebs, map, 1);
     let choice = volume_table::choose_table(copy0, copy1, g.leb_size, g.unit, n as u32);
     let taken = choice.taken;
-    let Taken::Leb(leb) = taken else {
-        return lent::refuse(refusal::NO_TABLE, 0, n, pebs, map, states);
+    let Taken::Leb(lnum) = taken else {
+        return tables::refuse(refusal::NO_TABLE, 0, n, pebs, map, states);
     };
-    let t = volume_table::taken_table(copy0, copy1, taken, g.leb_size);
+    let table = volume_table::taken_table(copy0, copy1, taken, g.leb_size);
     summary::report_on(
         image,
         g,
         n,
-        sums,
-        t,
-        leb,
+        totals,
+        table,
+        lnum,
         choice.copies_mark,
         pebs,
         map,
@@ -52,24 +57,28 @@ fn attach_chosen(
     )
 }
 
-// From the first pass on: refusals 9 and 10, and the rest. Copies are linked while they are compared; `heads` has each bucket's highest PEB.
+// From the first pass on: refusals 9 and 10, and the rest. Copies are linked while they are compared; `heads` has each
+// bucket's highest PEB.
 fn attach_with_heads(
     image: &[u8],
     g: Geometry,
     n: usize,
-    sums: Sums,
+    totals: ScanTotals,
     pebs: &mut [u32],
     map: &mut [u32],
     states: &mut [u32],
     heads: &mut [u32],
 ) -> Attached
-    requires { ⌜ (Past8 g (now image) n sums (now pebs) (now map) (now states)) × (2048 ≤ length (now heads)) ⌝ }
-    ensures { λ r. ⌜ Ended (outcome g (now (image .entry)) n) r (now (pebs .entry)) (now (pebs .exit)) (now (map .entry)) (now (map .exit)) (now (states .entry)) (now (states .exit)) ⌝ }
+    requires { ⌜ (Past8 g n (now image) totals (lent (now pebs) (now map) (now states)))
+        × (buckets ≤ length (now heads)) ⌝ }
+    ensures { λ r. ⌜ Ended (outcome g n (now (image .entry))) r
+        (lent (now (pebs .entry)) (now (map .entry)) (now (states .entry)))
+        (lent (now (pebs .exit)) (now (map .exit)) (now (states .exit))) ⌝ }
 {
     choice::link_copies(n, map, heads);
     let again = choice::first_repeat(image, g, n, map);
     if again < n {
-        return lent::refuse(
+        return tables::refuse(
             refusal::REPEATED_SEQUENCE,
             again as u32,
             n,
@@ -78,11 +87,12 @@ fn attach_with_heads(
             states,
         );
     }
-    if sums.unused {
-        return lent::refuse(refusal::EMPTY_IMAGE, 0, n, pebs, map, states);
+    let vid = totals.vid;
+    if vid.unused {
+        return tables::refuse(refusal::EMPTY_IMAGE, 0, n, pebs, map, states);
     }
     choice::mark_chosen(image, g, n, map, heads, pebs);
-    attach_chosen(image, g, n, sums, pebs, map, states)
+    attach_chosen(image, g, n, totals, pebs, map, states)
 }
 
 // The heads of the buckets stand in memory of their own: the lent tables have no room for as many.
@@ -90,16 +100,18 @@ fn attach_passed(
     image: &[u8],
     g: Geometry,
     n: usize,
-    sums: Sums,
+    totals: ScanTotals,
     pebs: &mut [u32],
     map: &mut [u32],
     states: &mut [u32],
 ) -> Attached
-    requires { ⌜ Past8 g (now image) n sums (now pebs) (now map) (now states) ⌝ }
-    ensures { λ r. ⌜ Ended (outcome g (now (image .entry)) n) r (now (pebs .entry)) (now (pebs .exit)) (now (map .entry)) (now (map .exit)) (now (states .entry)) (now (states .exit)) ⌝ }
+    requires { ⌜ Past8 g n (now image) totals (lent (now pebs) (now map) (now states)) ⌝ }
+    ensures { λ r. ⌜ Ended (outcome g n (now (image .entry))) r
+        (lent (now (pebs .entry)) (now (map .entry)) (now (states .entry)))
+        (lent (now (pebs .exit)) (now (map .exit)) (now (states .exit))) ⌝ }
 {
-    let mut heads = [0u32; 2048];
-    attach_with_heads(image, g, n, sums, pebs, map, states, &mut heads)
+    let mut heads = [0u32; choice::BUCKETS];
+    attach_with_heads(image, g, n, totals, pebs, map, states, &mut heads)
 }
 
 // An image of n PEBs with lent tables that are long enough: refusals 5 to 8, and the rest.
@@ -111,28 +123,30 @@ fn attach_pebs(
     map: &mut [u32],
     states: &mut [u32],
 ) -> Attached
-    requires { ⌜ Room g (now image) n (now pebs) (now map) (now states) ⌝ }
-    ensures { λ r. ⌜ Ended (outcome g (now (image .entry)) n) r (now (pebs .entry)) (now (pebs .exit)) (now (map .entry)) (now (map .exit)) (now (states .entry)) (now (states .exit)) ⌝ }
+    requires { ⌜ Room g n (now image) (lent (now pebs) (now map) (now states)) ⌝ }
+    ensures { λ r. ⌜ Ended (outcome g n (now (image .entry))) r
+        (lent (now (pebs .entry)) (now (map .entry)) (now (states .entry)))
+        (lent (now (pebs .exit)) (now (map .exit)) (now (states .exit))) ⌝ }
 {
     let p = scan::pass(image, g, n, pebs, map);
     if p.refusal != 0 {
-        return lent::refuse(p.refusal, p.place, n, pebs, map, states);
+        return tables::refuse(p.refusal, p.place, n, pebs, map, states);
     }
-    attach_passed(image, g, n, p.sums, pebs, map, states)
+    attach_passed(image, g, n, p.totals, pebs, map, states)
 }
 
 // Are the lent tables long enough for n PEBs?
 fn long_enough(n: usize, pebs: &[u32], map: &[u32], states: &[u32]) -> bool
     requires { ⌜ n ≤ 4096 ⌝ }
-    ensures { λ r. ⌜ r ≡ longEnough n (now (pebs .entry)) (now (map .entry)) (now (states .entry)) ⌝ }
+    ensures { λ r. ⌜ r ≡ longEnough (lent (now (pebs .entry)) (now (map .entry)) (now (states .entry))) n ⌝ }
 {
-    if pebs.len() < n * 2 {
+    if pebs.len() < n * PEB_WORDS {
         return false;
     }
-    if map.len() < n * 3 {
+    if map.len() < n * ENTRY_WORDS {
         return false;
     }
-    128 <= states.len()
+    STATE_WORDS <= states.len()
 }
 
 // An image of a known geometry: refusals 3 and 4, and the rest.
@@ -144,29 +158,18 @@ fn attach_image(
     states: &mut [u32],
 ) -> Attached
     requires { ⌜ Placed g ⌝ }
-    ensures { λ r. ⌜ Ended (byGeometry (now (image .entry)) (now (pebs .entry)) (now (map .entry)) (now (states .entry)) (given g)) r
-        (now (pebs .entry)) (now (pebs .exit)) (now (map .entry)) (now (map .exit)) (now (states .entry)) (now (states .exit)) ⌝ }
+    ensures { λ r. ⌜ Ended
+        (byGeometry (now (image .entry)) (longEnough (lent (now (pebs .entry)) (now (map .entry)) (now (states .entry)))) (given g)) r
+        (lent (now (pebs .entry)) (now (map .entry)) (now (states .entry)))
+        (lent (now (pebs .exit)) (now (map .exit)) (now (states .exit))) ⌝ }
 {
-    let size = g.peb_size as usize;
-    let n = image.len() / size;
-    if image.len() % size != 0 {
+    if !geometry::image_fits(image, g) {
         return Attached::Refused {
             number: refusal::BAD_IMAGE_SIZE,
             place: 0,
         };
     }
-    if n < 2 {
-        return Attached::Refused {
-            number: refusal::BAD_IMAGE_SIZE,
-            place: 0,
-        };
-    }
-    if 4096 < n {
-        return Attached::Refused {
-            number: refusal::BAD_IMAGE_SIZE,
-            place: 0,
-        };
-    }
+    let n = image.len() / g.peb_size as usize;
     if !long_enough(n, pebs, map, states) {
         return Attached::Refused {
             number: refusal::SHORT_BUFFER,
@@ -184,10 +187,14 @@ pub fn attach(
     map: &mut [u32],
     states: &mut [u32],
 ) -> Attached
-    ensures answer { λ r. ⌜ attachedAnswer r ≡ answerOf (attaching (now (slip .entry)) (now (image .entry)) (now (pebs .entry)) (now (map .entry)) (now (states .entry))) ⌝ }
-    ensures pebs { λ _. ⌜ now (pebs .exit) ≡ pebsAfter (attaching (now (slip .entry)) (now (image .entry)) (now (pebs .entry)) (now (map .entry)) (now (states .entry))) (now (pebs .entry)) ⌝ }
-    ensures map { λ _. ⌜ now (map .exit) ≡ mapAfter (attaching (now (slip .entry)) (now (image .entry)) (now (pebs .entry)) (now (map .entry)) (now (states .entry))) (now (map .entry)) ⌝ }
-    ensures states { λ _. ⌜ now (states .exit) ≡ statesAfter (attaching (now (slip .entry)) (now (image .entry)) (now (pebs .entry)) (now (map .entry)) (now (states .entry))) (now (states .entry)) ⌝ }
+    ensures answer { λ r. ⌜ attachedAnswer r
+        ≡ answerOf (attachingInto (request (now (slip .entry))) (now (image .entry))
+        (lent (now (pebs .entry)) (now (map .entry)) (now (states .entry)))) ⌝ }
+    ensures tables { λ _. ⌜ lent (now (pebs .exit)) (now (map .exit)) (now (states .exit))
+        ≡ tablesAfter
+        (attachingInto (request (now (slip .entry))) (now (image .entry))
+        (lent (now (pebs .entry)) (now (map .entry)) (now (states .entry))))
+        (lent (now (pebs .entry)) (now (map .entry)) (now (states .entry))) ⌝ }
 {
     let r = geometry::read_slip(slip);
     match r {

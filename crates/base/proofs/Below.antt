@@ -6,7 +6,7 @@ use mathlib.Core.Option.{Option, none, some}
 use Prim.Native.Nat.{ℕ, zero, suc, _+_, _≤_, _<_}
 use native.Mathlib.Numerals.{add-one}
 use native.Mathlib.Omega.{arith}
-use borrow.Author.Tests.{ltb-true, ltb-false, eqb-true, eqb-false}
+use borrow.Author.Tests.{ltb-true, ltb-false, eqb-true, eqb-false, lt-ltb, le-ltb}
 use lib.Dec.{ltb, eqb}
 use Rattle.base.specs.Below.{allBelow, anyBelow, sumBelow, numbered, firstBelow}
 use Rattle.base.proofs.Answers.{clash, by-test, by-option, not-so, and-left, and-right, and-intro, or-left}
@@ -24,6 +24,13 @@ eq-or-ne i j = by-test (eqb i j) (λ q. inl (eqb-true i j q)) (λ q. inr (eqb-fa
 pub below-suc : (n i : ℕ) → i < suc n → (i < n) ⊎ (i ≡ n)
 below-suc n i h = ⊎-elim inl (λ (k : n ≤ i). inr (omega arith)) (lt-or-le i n)
 
+-- tests against 0
+pub above-zero : (a : ℕ) → (a ≡ 0 → ⊥) → ltb 0 a ≡ true
+above-zero a n = lt-ltb 0 a (omega arith)
+
+pub not-above : (a : ℕ) → a ≡ 0 → ltb 0 a ≡ false
+not-above a e = le-ltb 0 a (omega arith)
+
 -- a fact of every number below suc n, or n + 1: of those below n, and of n
 pub step-below : (P : ℕ → Type 0) (n : ℕ) → ((i : ℕ) → i < n → P i) → P n → (i : ℕ) → i < suc n → P i
 step-below P n h z i k = ⊎-elim (λ l. h i l) (λ q. subst P (sym q) z) (below-suc n i k)
@@ -33,7 +40,8 @@ one-more P n h z i k = step-below P n h z i (omega arith)
 
 pub all-at : (n : ℕ) (p : ℕ → Bool) → allBelow n p ≡ true → (i : ℕ) → i < n → p i ≡ true
 all-at zero p e i h = absurd (omega arith)
-all-at (suc n) p e i h = step-below (λ i. p i ≡ true) n (all-at n p (and-left (allBelow n p) (p n) e)) (and-right (allBelow n p) (p n) e) i h
+all-at (suc n) p e i h =
+    step-below (λ i. p i ≡ true) n (all-at n p (and-left (allBelow n p) (p n) e)) (and-right (allBelow n p) (p n) e) i h
 
 pub all-intro : (n : ℕ) (p : ℕ → Bool) → ((i : ℕ) → i < n → p i ≡ true) → allBelow n p ≡ true
 all-intro zero p h = refl
@@ -52,7 +60,8 @@ all-more p i e h = rw (add-one, e, h)
 
 pub none-at : (n : ℕ) (p : ℕ → Bool) → anyBelow n p ≡ false → (i : ℕ) → i < n → p i ≡ false
 none-at zero p e i h = absurd (omega arith)
-none-at (suc n) p e i h = step-below (λ i. p i ≡ false) n (none-at n p (or-left (anyBelow n p) (p n) e)) (or-right (anyBelow n p) (p n) e) i h
+none-at (suc n) p e i h =
+    step-below (λ i. p i ≡ false) n (none-at n p (or-left (anyBelow n p) (p n) e)) (or-right (anyBelow n p) (p n) e) i h
 
 pub none-intro : (n : ℕ) (p : ℕ → Bool) → ((i : ℕ) → i < n → p i ≡ false) → anyBelow n p ≡ false
 none-intro zero p h = refl
@@ -97,7 +106,8 @@ module _ {A : Type 0} where
   first-cong (suc n) f g h = rw (first-cong n f g (λ i k. h i (omega arith)), h n (omega arith))
 
   -- the only answer is the first
-  pub first-only : (n : ℕ) (f : ℕ → Option A) (i : ℕ) (a : A) → i < n → f i ≡ some a → ((j : ℕ) → j < n → j ≢ i → f j ≡ none) → firstBelow n f ≡ some (i, a)
+  pub first-only : (n : ℕ) (f : ℕ → Option A) (i : ℕ) (a : A) → i < n → f i ≡ some a
+      → ((j : ℕ) → j < n → j ≢ i → f j ≡ none) → firstBelow n f ≡ some (i, a)
   first-only zero f i a h e u = absurd (omega arith)
   first-only (suc n) f i a h e u =
       ⊎-elim
@@ -128,7 +138,8 @@ module _ {A : Type 0} where
       (λ (q : k ≡ suc n). rw q at e)
       (below-suc (suc n) k (omega arith))
 
-  pub first-is : (f : ℕ → Option A) (n i : ℕ) (a : A) → i < n → firstBelow i f ≡ none → f i ≡ some a → firstBelow n f ≡ some (i, a)
+  pub first-is : (f : ℕ → Option A) (n i : ℕ) (a : A) → i < n → firstBelow i f ≡ none → f i ≡ some a
+      → firstBelow n f ≡ some (i, a)
   first-is f n i a h e q = first-keeps f n (suc i) (i, a) (rw (e, q)) h
 
   pub first-lowest : (n : ℕ) (f : ℕ → Option A) (i : ℕ) (a : A) → i < n → f i ≡ some a → ((j : ℕ) → j < i → f j ≡ none)
@@ -136,7 +147,8 @@ module _ {A : Type 0} where
   first-lowest n f i a h e l = first-is f n i a h (first-none i f l) e
 
   -- where there is an answer, there is a first
-  pub first-some : (n : ℕ) (f : ℕ → Option A) (i : ℕ) (a : A) → i < n → f i ≡ some a → (x : ℕ × A) × (firstBelow n f ≡ some x)
+  pub first-some : (n : ℕ) (f : ℕ → Option A) (i : ℕ) (a : A) → i < n → f i ≡ some a
+      → (x : ℕ × A) × (firstBelow n f ≡ some x)
   first-some n f i a h e =
       by-option (firstBelow n f) (λ q. none-some (sym (first-none-at n f q i h) ∙ e)) (λ x q. (x, q))
 

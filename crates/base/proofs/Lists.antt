@@ -120,7 +120,8 @@ eqs-true [] [] e = refl
 eqs-true [] (y ∷ b) e = cc
 eqs-true (x ∷ a) [] e = cc
 eqs-true (x ∷ a) (y ∷ b) e =
-    ap₂ (λ (z : ℕ) (l : List ℕ). z ∷ l) (eqb-true x y (and-left (eqb x y) (eqs a b) e)) (eqs-true a b (and-right (eqb x y) (eqs a b) e))
+    ap₂ (λ (z : ℕ) (l : List ℕ). z ∷ l) (eqb-true x y (and-left (eqb x y) (eqs a b) e))
+    (eqs-true a b (and-right (eqb x y) (eqs a b) e))
 
 pub eqs-false : (a b : List ℕ) → (a ≡ b → ⊥) → eqs a b ≡ false
 eqs-false a b n = not-so (eqs a b) (λ e. n (eqs-true a b e))
@@ -138,7 +139,8 @@ pub eqs-go : (a b : List ℕ) (i : ℕ) → i < length a → i < length b → ge
     eqs (drop i a) (drop i b) ≡ eqs (drop (i + 1) a) (drop (i + 1) b)
 eqs-go a b i h k e = eqs-step a b i h k ∙ rw (eq-eqb _ _ e)
 
-pub eqs-stop : (a b : List ℕ) (i : ℕ) → i < length a → i < length b → (getD a i 0 ≡ getD b i 0 → ⊥) → eqs (drop i a) (drop i b) ≡ false
+pub eqs-stop : (a b : List ℕ) (i : ℕ) → i < length a → i < length b → (getD a i 0 ≡ getD b i 0 → ⊥)
+    → eqs (drop i a) (drop i b) ≡ false
 eqs-stop a b i h k n = eqs-step a b i h k ∙ rw (ne-eqb _ _ n)
 
 pub eqs-end : (a b : List ℕ) → length a ≡ length b → eqs (drop (length a) a) (drop (length a) b) ≡ true
@@ -155,7 +157,8 @@ module _ {A : Type 0} where
   pub table-from : (f : ℕ → A) (d : A) (i n k : ℕ) → k < n → getD (table f i n) k d ≡ f (i + k)
   table-from f d i zero k h = absurd (not-suc-le-zero h)
   table-from f d i (suc n) zero h = ap f (sym (add-zero i))
-  table-from f d i (suc n) (suc k) h = table-from f d (suc i) n k (le-of-suc-le-suc h) ∙ ap f (suc-add i k ∙ sym (add-suc i k))
+  table-from f d i (suc n) (suc k) h =
+      table-from f d (suc i) n k (le-of-suc-le-suc h) ∙ ap f (suc-add i k ∙ sym (add-suc i k))
 
   pub table-length : (f : ℕ → A) (i n : ℕ) → length (table f i n) ≡ n
   table-length f i zero = refl
@@ -164,13 +167,16 @@ module _ {A : Type 0} where
   pub table-at : (f : ℕ → A) (d : A) (n k : ℕ) → k < n → getD (table f 0 n) k d ≡ f k
   table-at f d n k h = table-from f d 0 n k h ∙ ap f (zero-add k)
 
-  fill-suc : (f : ℕ → A) (k n : ℕ) (d : List A) → n < length d → set (table f k n ++ drop n d) n (f (k + n)) ≡ table f k (suc n) ++ drop (suc n) d
+  fill-suc : (f : ℕ → A) (k n : ℕ) (d : List A) → n < length d
+      → set (table f k n ++ drop n d) n (f (k + n)) ≡ table f k (suc n) ++ drop (suc n) d
   fill-suc f k n [] l = absurd (not-suc-le-zero l)
   fill-suc f k zero (x ∷ d) l = rw add-zero
-  fill-suc f k (suc n) (x ∷ d) l = rw (add-suc, ← suc-add) (ap (λ (t : List A). f k ∷ t) (fill-suc f (suc k) n d (le-of-suc-le-suc l)))
+  fill-suc f k (suc n) (x ∷ d) l =
+      rw (add-suc, ← suc-add) (ap (λ (t : List A). f k ∷ t) (fill-suc f (suc k) n d (le-of-suc-le-suc l)))
 
   -- a list filled by a rule: one store more
-  pub fill-more : (f : ℕ → A) (n : ℕ) (d : List A) → n < length d → set (table f 0 n ++ drop n d) n (f n) ≡ table f 0 (n + 1) ++ drop (n + 1) d
+  pub fill-more : (f : ℕ → A) (n : ℕ) (d : List A) → n < length d
+      → set (table f 0 n ++ drop n d) n (f n) ≡ table f 0 (n + 1) ++ drop (n + 1) d
   fill-more f n d l = rw add-one (rw zero-add at (fill-suc f 0 n d l))
 
 -- f j times
@@ -184,7 +190,8 @@ map-at f (x ∷ l) zero h = refl
 map-at f (x ∷ l) (suc k) h = map-at f l k (le-of-suc-le-suc h)
 
 -- entry k of row j
-pub row-at : (f : ℕ → ℕ) (n : ℕ) (l : List ℕ) (j k : ℕ) → j < n → k < length l → getD (rows f n l) (j * length l + k) 0 ≡ times f j (getD l k 0)
+pub row-at : (f : ℕ → ℕ) (n : ℕ) (l : List ℕ) (j k : ℕ) → j < n → k < length l
+    → getD (rows f n l) (j * length l + k) 0 ≡ times f j (getD l k 0)
 row-at f zero l j k h g = absurd (not-suc-le-zero h)
 row-at f (suc n) l zero k h g =
     let e : 0 * length l + k ≡ k = omega arith in
@@ -201,7 +208,8 @@ module _ {A : Type 0} where
   every p [] = true
   every p (x ∷ xs) = p x && every p xs
 
-  pub every-entry : (p : A → Bool) (d : A) → p d ≡ true → (xs : List A) → every p xs ≡ true → (k : ℕ) → p (getD xs k d) ≡ true
+  pub every-entry : (p : A → Bool) (d : A) → p d ≡ true → (xs : List A) → every p xs ≡ true → (k : ℕ)
+      → p (getD xs k d) ≡ true
   every-entry p d z [] t k = z
   every-entry p d z (x ∷ xs) t zero = and-left (p x) (every p xs) t
   every-entry p d z (x ∷ xs) t (suc k) = every-entry p d z xs (and-right (p x) (every p xs) t) k

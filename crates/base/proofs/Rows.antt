@@ -20,7 +20,8 @@ put-end : (k : ℕ) (a row d : List ℕ) → length a ≡ k → put k row (a ++ 
 put-end k a row d e =
     let t : take k (a ++ drop k d) ≡ a = take-at a (drop k d) k e in
     let r : drop (k + length row) (a ++ drop k d) ≡ drop (k + length row) d =
-    subst (λ (m : ℕ). drop (m + length row) (a ++ drop k d) ≡ drop (k + length row) d) e (drop-append-add a (drop k d) (length row) ∙ drop-drop (length row) k d) in
+    subst (λ (m : ℕ). drop (m + length row) (a ++ drop k d) ≡ drop (k + length row) d) e
+    (drop-append-add a (drop k d) (length row) ∙ drop-drop (length row) k d) in
     rw (t, r) (sym (append-assoc a row (drop (k + length row) d)))
 
 -- one row of w words more
@@ -31,12 +32,14 @@ rows-step i w f d h =
     rw e (put-end (i * w) (concatBelow i f) (f i) d (rows-length i w f h))
 
 -- words beyond the rows stay
-pub rows-tail : (i n w : ℕ) (f : ℕ → List ℕ) (d : List ℕ) → ((j : ℕ) → length (f j) ≡ w) → i ≤ n → drop (n * w) (concatBelow i f ++ drop (i * w) d) ≡ drop (n * w) d
+pub rows-tail : (i n w : ℕ) (f : ℕ → List ℕ) (d : List ℕ) → ((j : ℕ) → length (f j) ≡ w) → i ≤ n
+    → drop (n * w) (concatBelow i f ++ drop (i * w) d) ≡ drop (n * w) d
 rows-tail i n w f d h l =
     let q : i * w ≤ n * w = mul-le-mul-right w l in
     let e : n * w ≡ length (concatBelow i f) + (n * w - i * w) = omega (arith, rows-length i w f h) in
     let r : i * w + (n * w - i * w) ≡ n * w = omega arith in
-    rw e (drop-append-add (concatBelow i f) (drop (i * w) d) (n * w - i * w) ∙ rw (drop-drop (n * w - i * w) (i * w) d, rows-length i w f h))
+    rw e (drop-append-add (concatBelow i f) (drop (i * w) d) (n * w - i * w)
+    ∙ rw (drop-drop (n * w - i * w) (i * w) d, rows-length i w f h))
 
 -- word j of row i
 pub row-word : (n w : ℕ) (f : ℕ → List ℕ) (r : List ℕ) → ((i : ℕ) → length (f i) ≡ w) → (i j : ℕ) → i < n → j < w

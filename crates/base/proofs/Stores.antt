@@ -39,7 +39,8 @@ module _ (at : ℕ) (bs s : List ℕ) (h : at + length bs ≤ length s) where
       right : take m (drop a s) ≡ take m (drop a (take at s))
       right =
           ap (λ (x : List ℕ). take m (drop a x)) (sym (take-append-drop at s))
-          ∙ rw (drop-append-le a (take at s) (drop at s) (omega (arith, la))) (take-append-le m (drop a (take at s)) (drop at s) lm)
+          ∙ rw (drop-append-le a (take at s) (drop at s) (omega (arith, la)))
+          (take-append-le m (drop a (take at s)) (drop at s) lm)
 
   -- what lies behind stays
   pub put-behind : (a : ℕ) → at + length bs ≤ a → drop a (put at bs s) ≡ drop a s
@@ -62,11 +63,15 @@ put-left at bs x y h =
 put-right : (at : ℕ) (bs x y : List ℕ) → put (length x + at) bs (x ++ y) ≡ x ++ put at bs y
 put-right at bs x y =
     let e : length x + at + length bs ≡ length x + (at + length bs) = omega arith in
-    rw (e, take-append-add x y at, drop-append-add x y (at + length bs)) (append-assoc x (take at y) (bs ++ drop (at + length bs) y))
+    rw (e, take-append-add x y at, drop-append-add x y (at + length bs))
+    (append-assoc x (take at y) (bs ++ drop (at + length bs) y))
 
 -- a store within a part
-pub part-put-in : (b size at : ℕ) (bs s : List ℕ) → at + length bs ≤ size → b + size ≤ length s → part b size (put (b + at) bs s) ≡ put at bs (part b size s)
-part-put-in b size at bs s h k = ap (part b size) whole ∙ ap (take size) (drop-at x _ b lx) ∙ take-at (put at bs y) z size (length-put at bs y (omega (arith, ly)) ∙ ly)
+pub part-put-in : (b size at : ℕ) (bs s : List ℕ) → at + length bs ≤ size → b + size ≤ length s
+    → part b size (put (b + at) bs s) ≡ put at bs (part b size s)
+part-put-in b size at bs s h k =
+    ap (part b size) whole ∙ ap (take size) (drop-at x _ b lx)
+    ∙ take-at (put at bs y) z size (length-put at bs y (omega (arith, ly)) ∙ ly)
   where
     x : List ℕ
     x = take b s
@@ -92,8 +97,10 @@ part-put-in b size at bs s h k = ap (part b size) whole ∙ ap (take size) (drop
         ∙ ap (λ (r : List ℕ). x ++ r) (put-left at bs y z (omega (arith, ly)))
 
 -- a store over the middle of three lists
-pub put-middle : (n : ℕ) (bs x y z : List ℕ) → length x ≡ n → length bs ≡ length y → put n bs (x ++ (y ++ z)) ≡ x ++ (bs ++ z)
-put-middle n bs x y z e f = rw (← e, take-append-seam x (y ++ z), drop-append-add x (y ++ z) (length bs), f, drop-append-seam y z)
+pub put-middle : (n : ℕ) (bs x y z : List ℕ) → length x ≡ n → length bs ≡ length y
+    → put n bs (x ++ (y ++ z)) ≡ x ++ (bs ++ z)
+put-middle n bs x y z e f =
+    rw (← e, take-append-seam x (y ++ z), drop-append-add x (y ++ z) (length bs), f, drop-append-seam y z)
 
 -- a store over the whole list
 pub put-all : (bs s : List ℕ) → length bs ≡ length s → put 0 bs s ≡ bs

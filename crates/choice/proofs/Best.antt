@@ -72,26 +72,33 @@ module _ {g : Geometry} {image : List ℕ} {n : ℕ} {map : List ℕ} {i most : 
     Leads r j =
         sameLeb map i j ≡ true → sequenceAt g image j ≤ most → (r < n) × (sequenceAt g image j ≤ sequenceAt g image r)
 
-    apart-leads : (r x : ℕ) → x < n → ((volumeWord map i ≡ noWord → ⊥) → bucketAt map x ≡ bucketAt map i → ⊥) → Leads r x
+    apart-leads : (r x : ℕ) → x < n → ((volumeWord map i ≡ noWord → ⊥) → bucketAt map x ≡ bucketAt map i → ⊥)
+        → Leads r x
     apart-leads r x h f s l = absurd (f c (same-bucket map i x c s))
 
     -- the chain ends
     pub highest-all : at ≤ k → Highest g image n map i most 0 best
     highest-all h =
-        record { range = b .range; is = b .is; leads = λ j _ l. walk-end o (Leads best) (b .leads) (apart-leads best) h j l }
+        record {
+          range = b .range;
+          is = b .is;
+          leads = λ j _ l. walk-end o (Leads best) (b .leads) (apart-leads best) h j l;
+        }
 
     module _ (h : k < at) where
       stays : Leads best k → Highest g image n map i most k best
       stays l = record { range = b .range; is = b .is; leads = walk-on o (Leads best) (b .leads) (apart-leads best) l }
 
-      takes : sameLeb map i k ≡ true → sequenceAt g image k ≤ most → (best < n → sequenceAt g image best ≤ sequenceAt g image k)
+      takes : sameLeb map i k ≡ true → sequenceAt g image k ≤ most
+          → (best < n → sequenceAt g image best ≤ sequenceAt g image k)
           → Highest g image n map i most k k
       takes s l up =
           let q : k < n = let r = o .range in omega arith in
           record {
             range = omega arith;
             is = λ _. (s, l);
-            leads = walk-on o (Leads k) (λ j p r t m. let y = b .leads j p r t m in (q, let z = up (y .0) in omega arith))
+            leads =
+                walk-on o (Leads k) (λ j p r t m. let y = b .leads j p r t m in (q, let z = up (y .0) in omega arith))
                 (apart-leads k) (λ _ _. (q, omega arith));
           }
 
@@ -106,7 +113,8 @@ module _ {g : Geometry} {image : List ℕ} {n : ℕ} {map : List ℕ} {i most : 
           (λ u. rw (p, q, u) (takes p (leb-true sk most q) (λ z. absurd (let y = eqb-true best n u in omega arith))))
           (λ u. by-test (ltb sb sk)
           (λ w. rw (p, q, u, w) (takes p (leb-true sk most q) (λ z. let y = ltb-true sb sk w in omega arith)))
-          (λ w. rw (p, q, u, w) (stays (λ _ _. (let y = b .range in omega (arith, eqb-false best n u), ltb-false sb sk w))))))
+          (λ w. let y = b .range in let z = eqb-false best n u in
+          rw (p, q, u, w) (stays (λ _ _. (omega (arith, z), ltb-false sb sk w))))))
           (λ q. rw (p, q) (stays (λ _ m. absurd (let z = leb-false sk most q in omega arith)))))
           (λ p. rw p (stays (λ s _. clash p s)))
 
@@ -116,7 +124,8 @@ module _ {g : Geometry} {image : List ℕ} {n : ℕ} {map : List ℕ} {i most : 
 pub record Down (g : Geometry) (image : List ℕ) (n : ℕ) (map : List ℕ) (i at : ℕ) : Type 0 where
   pub below : at < n
   pub same : sameLeb map i at ≡ true
-  pub above : (k : ℕ) → k < n → sameLeb map i k ≡ true → sequenceAt g image at < sequenceAt g image k → sound (copyAt g image k) ≡ false
+  pub above : (k : ℕ) → k < n → sameLeb map i k ≡ true → sequenceAt g image at < sequenceAt g image k
+      → sound (copyAt g image k) ≡ false
 
 module _ {g : Geometry} {image : List ℕ} {n : ℕ} {map : List ℕ} {i : ℕ} (v : Choosing g image n map i) where
   abbrev of-leb : ℕ → Option Copy
@@ -132,7 +141,8 @@ module _ {g : Geometry} {image : List ℕ} {n : ℕ} {map : List ℕ} {i : ℕ} 
   hit j k s =
       let a = same-held j k s in
       let e = same-true map i j s in
-      rw (a .is) (ofKey-hit (volumeWord map i) (lnumWord map i) (copyAt g image j) (a .volume ∙ sym (e .0)) (a .leb ∙ sym (e .1)))
+      rw (a .is) (ofKey-hit (volumeWord map i) (lnumWord map i) (copyAt g image j) (a .volume ∙ sym (e .0))
+      (a .leb ∙ sym (e .1)))
 
   is-same : (j : ℕ) → j < n → (c : Copy) → of-leb j ≡ some c → (sameLeb map i j ≡ true) × (c ≡ copyAt g image j)
   is-same j k c e =
@@ -155,22 +165,26 @@ module _ {g : Geometry} {image : List ℕ} {n : ℕ} {map : List ℕ} {i : ℕ} 
   distinct : (j k : ℕ) → j < n → k < n → j ≢ k → sameLeb map i j ≡ true → sameLeb map i k ≡ true
       → sequenceAt g image j ≡ sequenceAt g image k → ⊥
   distinct j k p q ne s t e =
-      ⊎-elim (λ (l : k < j). apart j k p l s t e) (λ (l : j ≤ k). apart k j q (omega (arith, ne)) t s (sym e)) (lt-or-le k j)
+      ⊎-elim (λ (l : k < j). apart j k p l s t e) (λ (l : j ≤ k). apart k j q (omega (arith, ne)) t s (sym e))
+      (lt-or-le k j)
 
   -- the copy is chosen if it is sound or the lowest
   pub is-chosen : {at : ℕ} → Down g image n map i at
-      → (sound (copyAt g image at) ≡ true) ⊎ ((k : ℕ) → k < n → sameLeb map i k ≡ true → sequenceAt g image at ≤ sequenceAt g image k)
+      → (sound (copyAt g image at) ≡ true)
+      ⊎ ((k : ℕ) → k < n → sameLeb map i k ≡ true → sequenceAt g image at ≤ sequenceAt g image k)
       → chosen n (copies (viewsOf g image)) (volumeWord map i) (lnumWord map i) ≡ some (at, copyAt g image at)
   unfolding chosen copyOf
   is-chosen {at} w low =
       pick-best n of-leb at (copyAt g image at) (w .below) (hit at (w .below) (w .same))
       (λ j k ne c e. let m = is-same j k c e in
       rw (m .1)
-      (beats-by (copyAt g image at) (copyAt g image j) (w .above j k (m .0)) (distinct j at k (w .below) ne (m .0) (w .same))
+      (beats-by (copyAt g image at) (copyAt g image j) (w .above j k (m .0))
+      (distinct j at k (w .below) ne (m .0) (w .same))
       (⊎-elim (λ s. inl s) (λ l. inr (l j k (m .0))) low)))
 
   -- the first copy met is the highest
-  pub down-first : {most at : ℕ} → Highest g image n map i most 0 at → ((j : ℕ) → j < n → sequenceAt g image j ≤ most) → Down g image n map i at
+  pub down-first : {most at : ℕ} → Highest g image n map i most 0 at → ((j : ℕ) → j < n → sequenceAt g image j ≤ most)
+      → Down g image n map i at
   down-first t fits =
       let y = t .leads i (omega arith) (v .below) (true-same map i i refl refl) (fits i (v .below)) in
       record {
@@ -180,14 +194,17 @@ module _ {g : Geometry} {image : List ℕ} {n : ℕ} {map : List ℕ} {i : ℕ} 
       }
 
   -- and then the next lower one
-  pub down-next : {at next s : ℕ} → Down g image n map i at → s ≡ sequenceAt g image at → (s ≡ 0 → ⊥) → sound (copyAt g image at) ≡ false
+  pub down-next : {at next s : ℕ} → Down g image n map i at → s ≡ sequenceAt g image at → (s ≡ 0 → ⊥)
+      → sound (copyAt g image at) ≡ false
       → Highest g image n map i (s - 1) 0 next → (next ≡ n → ⊥) → Down g image n map i next
   down-next {at} {next} {s} w e p u t q =
       let l : next < n = let y = t .range in omega (arith, q) in
       record {
         below = l;
         same = t .is l .0;
-        above = λ k o m x. ⊎-elim (λ (y : k ≡ at). rw y u) (λ (ne : k ≢ at). w .above k o m (over k o m x ne)) (eq-or-ne k at);
+        above =
+            λ k o m x. ⊎-elim (λ (y : k ≡ at). rw y u) (λ (ne : k ≢ at). w .above k o m (over k o m x ne))
+            (eq-or-ne k at);
       }
     where
       over : (k : ℕ) → k < n → sameLeb map i k ≡ true → sequenceAt g image next < sequenceAt g image k → k ≢ at
@@ -198,7 +215,8 @@ module _ {g : Geometry} {image : List ℕ} {n : ℕ} {map : List ℕ} {i : ℕ} 
           (lt-or-le (s - 1) (sequenceAt g image k))
 
   -- a copy with no next lower one is the lowest
-  pub lowest : (at : ℕ) {next s : ℕ} → s ≡ sequenceAt g image at → (s ≡ 0 → ⊥) → Highest g image n map i (s - 1) 0 next → next ≡ n
+  pub lowest : (at : ℕ) {next s : ℕ} → s ≡ sequenceAt g image at → (s ≡ 0 → ⊥) → Highest g image n map i (s - 1) 0 next
+      → next ≡ n
       → (k : ℕ) → k < n → sameLeb map i k ≡ true → sequenceAt g image at ≤ sequenceAt g image k
   lowest at {next} {s} e p t q k l m =
       ⊎-elim (λ (y : s - 1 < sequenceAt g image k). omega (arith, p))

@@ -37,7 +37,8 @@ module _ (map : List ℕ) (i k : ℕ) (h : volumeWord map i ≡ noWord → ⊥) 
   pub same-bucket : sameLeb map i k ≡ true → bucketAt map k ≡ bucketAt map i
   same-bucket s =
       let e = same-true map i k s in
-      in-bucket map k (λ (z : volumeWord map k ≡ noWord). h (e .0 ∙ z)) ∙ ap₂ bucketOf (sym (e .0)) (sym (e .1)) ∙ sym (in-bucket map i h)
+      in-bucket map k (λ (z : volumeWord map k ≡ noWord). h (e .0 ∙ z)) ∙ ap₂ bucketOf (sym (e .0)) (sym (e .1))
+      ∙ sym (in-bucket map i h)
 
   bucket-holds : bucketAt map k ≡ bucketAt map i → volumeWord map k ≡ noWord → ⊥
   bucket-holds e z = let y = bucket-small map i h in let x = no-bucket map k z in omega arith
@@ -52,7 +53,8 @@ pub record Along (map : List ℕ) (i m at w : ℕ) : Type 0 where
 pub along-from : {n : ℕ} {map : List ℕ} → Linked n map → (i : ℕ) → i < n → Along map i i i (pebWord map i)
 along-from o i h = record { range = omega arith; near = o i h }
 
-pub head-near : {n w : ℕ} {map heads : List ℕ} → Chained n n map heads → (i : ℕ) → (volumeWord map i ≡ noWord → ⊥) → w ≡ getD heads (bucketAt map i) 0
+pub head-near : {n w : ℕ} {map heads : List ℕ} → Chained n n map heads → (i : ℕ) → (volumeWord map i ≡ noWord → ⊥)
+    → w ≡ getD heads (bucketAt map i) 0
     → Nearest map (bucketAt map i) n w
 head-near {n} {w} {map} o i h e = rw e (o .tops (bucketAt map i) (bucket-small map i h))
 
@@ -60,7 +62,10 @@ module _ {map : List ℕ} {i m at w : ℕ} (o : Along map i m at w) where
   pub along-next : {n : ℕ} → Linked n map → m ≤ n → w < at → Along map i m w (pebWord map w)
   along-next l k h =
       let r = o .range in
-      record { range = omega arith; near = λ c. let e = o .near c .is h in rw e at (l w (omega arith) (bucket-holds map i w c e)) }
+      record {
+        range = omega arith;
+        near = λ c. let e = o .near c .is h in rw e at (l w (omega arith) (bucket-holds map i w c e));
+      }
 
   -- what holds of the PEBs behind, and of all outside the bucket
   module _ (P : ℕ → Type 0) (behind : (x : ℕ) → at ≤ x → x < m → P x)
@@ -99,7 +104,11 @@ module _ {n : ℕ} {map map′ : List ℕ} (o : Relinked n map map′) where
   same-buckets i = rw (o .volumes i, o .lnums i)
 
   nearest-same : {b m w : ℕ} → Nearest map b m w → Nearest map′ b m w
-  nearest-same {b} {m} {w} t = record { is = λ h. same-buckets w ∙ t .is h; none = t .none; skips = λ k h e. t .skips k h (sym (same-buckets k) ∙ e) }
+  nearest-same {b} {m} {w} t = record {
+    is = λ h. same-buckets w ∙ t .is h;
+    none = t .none;
+    skips = λ k h e. t .skips k h (sym (same-buckets k) ∙ e);
+  }
 
   relinked-on : {map″ : List ℕ} → Relinked n map′ map″ → Relinked n map map″
   relinked-on p = record {
@@ -121,7 +130,8 @@ relinked-one n i v map h = record {
 }
 
 -- the head of another bucket stays
-nearest-past : {map : List ℕ} {b m w : ℕ} → m < noWord → (bucketAt map m ≡ b → ⊥) → Nearest map b m w → Nearest map b (m + 1) w
+nearest-past : {map : List ℕ} {b m w : ℕ} → m < noWord → (bucketAt map m ≡ b → ⊥) → Nearest map b m w
+    → Nearest map b (m + 1) w
 nearest-past {map} {b} {m} {w} l h t = record {
   is = λ k. t .is (below k);
   none = λ k. t .none (omega arith);
@@ -136,7 +146,11 @@ nearest-past {map} {b} {m} {w} l h t = record {
 
 -- a PEB is the nearest below the next
 nearest-self : (map : List ℕ) (m : ℕ) → Nearest map (bucketAt map m) (m + 1) m
-nearest-self map m = record { is = λ h. refl; none = λ h. absurd (omega arith); skips = λ k h e. (omega arith, omega arith) }
+nearest-self map m = record {
+  is = λ h. refl;
+  none = λ h. absurd (omega arith);
+  skips = λ k h e. (omega arith, omega arith);
+}
 
 module _ {n i : ℕ} {map heads : List ℕ} (h : i < n) (o : Chained n i map heads) where
   -- a PEB without a LEB is not linked
@@ -147,7 +161,9 @@ module _ {n i : ℕ} {map heads : List ℕ} (h : i < n) (o : Chained n i map hea
       long-map = o .long-map;
       long-heads = o .long-heads;
       links = one-more (Link map) i (o .links) (λ z. absurd (z e));
-      tops = λ b l. nearest-past (let f = o .few in omega arith) (λ (z : bucketAt map i ≡ b). let y = no-bucket map i e in omega arith) (o .tops b l);
+      tops =
+          λ b l. nearest-past (let f = o .few in omega arith)
+          (λ (z : bucketAt map i ≡ b). let y = no-bucket map i e in omega arith) (o .tops b l);
     };
     relinked = relinked-none n map;
     heads-size = refl;
@@ -176,15 +192,24 @@ module _ {n i : ℕ} {map heads : List ℕ} (h : i < n) (o : Chained n i map hea
 
     linked-one : Nearest map₁ (bucketAt map₁ i) i (pebWord map₁ i)
     linked-one =
-        rw (same-buckets r₁ i, in-bucket map i c, peb-set-same map i (getD heads b₀ 0) (let l = o .long-map in omega arith))
+        rw (
+          same-buckets r₁ i,
+          in-bucket map i c,
+          peb-set-same map i (getD heads b₀ 0) (let l = o .long-map in omega arith),
+        )
         (nearest-same r₁ (o .tops b₀ b-small))
 
     topped : (b : ℕ) → b < buckets → (b ≡ b₀) ⊎ (b ≢ b₀) → Nearest map b (i + 1) (getD heads₁ b 0)
     topped b l (inl e) =
-        rw (e, getD-set-same heads b₀ i 0 (let y = o .long-heads in let x = b-small in omega arith), ← (in-bucket map i c)) (nearest-self map i)
+        rw (
+          e,
+          getD-set-same heads b₀ i 0 (let y = o .long-heads in let x = b-small in omega arith),
+          ← (in-bucket map i c),
+        ) (nearest-self map i)
     topped b l (inr e) =
         rw (getD-set-other heads b₀ b i 0 e)
-        (nearest-past (let f = o .few in omega arith) (λ (z : bucketAt map i ≡ b). e (sym z ∙ in-bucket map i c)) (o .tops b l))
+        (nearest-past (let f = o .few in omega arith) (λ (z : bucketAt map i ≡ b). e (sym z ∙ in-bucket map i c))
+        (o .tops b l))
 
     -- a PEB with a LEB becomes its bucket's head
     pub chain-copy : Chains n (i + 1) map map₁ heads heads₁
@@ -200,7 +225,8 @@ module _ {n i : ℕ} {map heads : List ℕ} (h : i < n) (o : Chained n i map hea
       heads-size = length-set heads b₀ i;
     }
 
-pub chains-on : {n m k : ℕ} {map map′ map″ heads heads′ heads″ : List ℕ} → Chains n m map map′ heads heads′ → Chains n k map′ map″ heads′ heads″
+pub chains-on : {n m k : ℕ} {map map′ map″ heads heads′ heads″ : List ℕ} → Chains n m map map′ heads heads′
+    → Chains n k map′ map″ heads′ heads″
     → Chains n k map map″ heads heads″
 chains-on o p = record {
   chained = p .chained;
@@ -210,7 +236,8 @@ chains-on o p = record {
 
 -- ---- no heads before copies are linked
 
-pub no-heads : {n : ℕ} {map heads₁ : List ℕ} (heads : List ℕ) (k : ℕ) → heads₁ ≡ replicate k noWord ++ drop k heads → length heads₁ ≡ length heads
+pub no-heads : {n : ℕ} {map heads₁ : List ℕ} (heads : List ℕ) (k : ℕ) → heads₁ ≡ replicate k noWord ++ drop k heads
+    → length heads₁ ≡ length heads
     → buckets ≤ k → buckets ≤ length heads → n ≤ mostPebs → mapWordsNeeded n ≤ length map → Chained n 0 map heads₁
 no-heads heads k e s q h f l = record {
   few = f;

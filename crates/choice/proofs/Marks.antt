@@ -32,7 +32,8 @@ place-is none i e = absurd (false≢true e)
 place-is (some p) i e = ap some (eqb-true p i e)
 
 -- the class of a copy of a user or layout LEB
-pub class-of : (f : Copy → ℕ) (e : EcView) (v : VidView) (c : Copy) → goodVid v ≡ some c → isMappable (c .header .volume) ≡ true → classBy f e v ≡ f c
+pub class-of : (f : Copy → ℕ) (e : EcView) (v : VidView) (c : Copy) → goodVid v ≡ some c
+    → isMappable (c .header .volume) ≡ true → classBy f e v ≡ f c
 class-of f e (vidGood d) c q m = let z : d ≡ c = cc in rw (z, m)
 class-of f e vidNewer c q m = none-some q
 class-of f e vidBlank c q m = none-some q
@@ -40,7 +41,8 @@ class-of f e vidBad c q m = none-some q
 
 -- two rules that agree on them give one class
 class-same : (f h : Copy → ℕ) (e : EcView) (v : VidView)
-    → ((c : Copy) → goodVid v ≡ some c → isMappable (c .header .volume) ≡ true → f c ≡ h c) → classBy f e v ≡ classBy h e v
+    → ((c : Copy) → goodVid v ≡ some c → isMappable (c .header .volume) ≡ true → f c ≡ h c)
+    → classBy f e v ≡ classBy h e v
 class-same f h e (vidGood c) k = by-test (isMappable (c .header .volume)) (λ m. rw m (k c refl m)) (λ m. rw m)
 class-same f h e vidNewer k = refl
 class-same f h (ecGood x) vidBlank k = refl
@@ -51,7 +53,9 @@ class-same f h e vidBad k = refl
 
 -- after the first pass
 pub marked-none : {m : Medium} {map pebs : List ℕ} → pebWordsNeeded (m .count) ≤ length pebs
-    → pebs ≡ concatBelow (m .count) (λ i. firstClass (m .views i .ec) (m .views i .vid) ∷ counterOr noWord (ecs (m .views) i) ∷ []) ++ drop (pebWordsNeeded (m .count)) pebs
+    → pebs ≡ concatBelow (m .count)
+    (λ i. firstClass (m .views i .ec) (m .views i .vid) ∷ counterOr noWord (ecs (m .views) i) ∷ [])
+    ++ drop (pebWordsNeeded (m .count)) pebs
     → MarkedTo m map pebs 0
 marked-none {m} l e = record {
   long = l;
@@ -63,10 +67,17 @@ marked-none {m} l e = record {
 module _ {m : Medium} {map pebs : List ℕ} {i : ℕ} (o : MarkedTo m map pebs i) where
   -- the chosen copy of PEB k's LEB is marked
   abbrev Mark : List ℕ → ℕ → Type 0
-  Mark ws k = (volumeWord map k ≡ noWord → ⊥) → (p : ℕ) → places m (volumeWord map k) (lnumWord map k) ≡ some p → classWord ws p ≡ 1
+  Mark ws k =
+      (volumeWord map k ≡ noWord → ⊥) → (p : ℕ)
+      → places m (volumeWord map k) (lnumWord map k) ≡ some p → classWord ws p ≡ 1
 
   marked-on : Mark pebs i → MarkedTo m map pebs (i + 1)
-  marked-on f = record { long = o .long; counters = o .counters; classes = o .classes; chosen = one-more (Mark pebs) i (o .chosen) f }
+  marked-on f = record {
+    long = o .long;
+    counters = o .counters;
+    classes = o .classes;
+    chosen = one-more (Mark pebs) i (o .chosen) f;
+  }
 
   pub marked-other : volumeWord map i ≡ noWord → MarkedTo m map pebs (i + 1)
   marked-other e = marked-on (λ c. absurd (c e))
@@ -76,12 +87,15 @@ module _ {m : Medium} {map pebs : List ℕ} {i : ℕ} (o : MarkedTo m map pebs i
       let k = any-hit i (sameLeb map i) e in
       let s = same-true map i (k .0) (k .2) in
       marked-on
-      (λ c p q. o .chosen (k .0) (k .1) (λ (z : volumeWord map (k .0) ≡ noWord). c (s .0 ∙ z)) p (sym (ap₂ (places m) (s .0) (s .1)) ∙ q))
+      (λ c p q. o .chosen (k .0) (k .1) (λ (z : volumeWord map (k .0) ≡ noWord). c (s .0 ∙ z)) p
+      (sym (ap₂ (places m) (s .0) (s .1)) ∙ q))
 
 -- r is chosen for the LEB of PEB i
-module _ {g : Geometry} {image : List ℕ} {n : ℕ} {map pebs : List ℕ} {i : ℕ} (o : MarkedTo (mediumOf g n image) map pebs i)
+module _ {g : Geometry} {image : List ℕ} {n : ℕ} {map pebs : List ℕ} {i : ℕ}
+    (o : MarkedTo (mediumOf g n image) map pebs i)
     (d : Keyed g image n map) (h : i < n) (c : volumeWord map i ≡ noWord → ⊥) {r : ℕ}
-    (e : chosen n (copies (mediumOf g n image .views)) (volumeWord map i) (lnumWord map i) ≡ some (r, copyAt g image r)) (l : r < n) where
+    (e : chosen n (copies (mediumOf g n image .views)) (volumeWord map i) (lnumWord map i) ≡ some (r, copyAt g image r))
+    (l : r < n) where
   abbrev m : Medium
   m = mediumOf g n image
 
@@ -96,8 +110,10 @@ module _ {g : Geometry} {image : List ℕ} {n : ℕ} {map pebs : List ℕ} {i : 
   is-one =
       let a = chosen-at n (copies (m .views)) (volumeWord map i) (lnumWord map i) r (copyAt g image r) e in
       let k = held d i h c in
-      let w : isMappable (copyAt g image r .header .volume) ≡ true = ap isMappable (a .2 ∙ sym (k .volume)) ∙ k .mappable in
-      let p : places m (copyAt g image r .header .volume) (copyAt g image r .header .lnum) ≡ some r = ap₂ (places m) (a .2) (a .3) ∙ place in
+      let w : isMappable (copyAt g image r .header .volume) ≡ true =
+      ap isMappable (a .2 ∙ sym (k .volume)) ∙ k .mappable in
+      let p : places m (copyAt g image r .header .volume) (copyAt g image r .header .lnum) ≡ some r =
+      ap₂ (places m) (a .2) (a .3) ∙ place in
       class-of _ (m .views r .ec) (m .views r .vid) (copyAt g image r) (a .1) w ∙ rw (p, eq-eqb r r refl)
 
   set-here : classWord pebs₁ r ≡ 1
@@ -114,7 +130,9 @@ module _ {g : Geometry} {image : List ℕ} {n : ℕ} {map pebs : List ℕ} {i : 
         (λ (q : p ≡ r). inr (rw q (set-here ∙ sym is-one)))
         (λ (q : p ≢ r). ⊎-elim (λ a. inl (set-there p q ∙ a)) (λ b. inr (set-there p q ∙ b)) (o .classes p k))
         (eq-or-ne p r);
-    chosen = λ k q z p y. ⊎-elim (λ (x : p ≡ r). rw x set-here) (λ (x : p ≢ r). set-there p x ∙ o .chosen k q z p y) (eq-or-ne p r);
+    chosen =
+        λ k q z p y. ⊎-elim (λ (x : p ≡ r). rw x set-here) (λ (x : p ≢ r). set-there p x ∙ o .chosen k q z p y)
+        (eq-or-ne p r);
   }
 
   pub marked-one : (MarkedTo m map pebs₁ (i + 1)) × (drop (pebWordsNeeded n) pebs₁ ≡ drop (pebWordsNeeded n) pebs)
@@ -124,7 +142,8 @@ module _ {g : Geometry} {image : List ℕ} {n : ℕ} {map pebs : List ℕ} {i : 
   )
 
 -- all are marked
-module _ {g : Geometry} {image : List ℕ} {n : ℕ} {map pebs : List ℕ} (o : MarkedTo (mediumOf g n image) map pebs n) (d : Keyed g image n map) where
+module _ {g : Geometry} {image : List ℕ} {n : ℕ} {map pebs : List ℕ} (o : MarkedTo (mediumOf g n image) map pebs n)
+    (d : Keyed g image n map) where
   abbrev pl : ℕ → ℕ → Option ℕ
   pl = places (mediumOf g n image)
 
@@ -150,5 +169,7 @@ module _ {g : Geometry} {image : List ℕ} {n : ℕ} {map pebs : List ℕ} (o : 
   row-is i (suc zero) h k = o .counters i h
   row-is i (suc (suc j)) h k = absurd (omega arith)
 
-  pub marked-all : (pebs₀ : List ℕ) → drop (pebWordsNeeded n) pebs ≡ drop (pebWordsNeeded n) pebs₀ → pebs ≡ markedWords pl n vs ++ drop (pebWordsNeeded n) pebs₀
-  marked-all pebs₀ t = sym (rows-there 2 _ pebs (λ i. refl) n (o .long) row-is) ∙ ap (λ (x : List ℕ). markedWords pl n vs ++ x) t
+  pub marked-all : (pebs₀ : List ℕ) → drop (pebWordsNeeded n) pebs ≡ drop (pebWordsNeeded n) pebs₀
+      → pebs ≡ markedWords pl n vs ++ drop (pebWordsNeeded n) pebs₀
+  marked-all pebs₀ t =
+      sym (rows-there 2 _ pebs (λ i. refl) n (o .long) row-is) ∙ ap (λ (x : List ℕ). markedWords pl n vs ++ x) t

@@ -11,7 +11,8 @@ use Rattle.base.proofs.Lists.{length-part, put-part}
 use Rattle.base.proofs.Rows.{rows-step}
 
 module _ (w : ℕ) (f : ℕ → List ℕ) (d : List ℕ) (s : (i : ℕ) → length (f i) ≡ w) where
-  row-there : (i : ℕ) → i * w + w ≤ length d → ((j : ℕ) → j < w → getD d (i * w + j) 0 ≡ getD (f i) j 0) → put (i * w) (f i) d ≡ d
+  row-there : (i : ℕ) → i * w + w ≤ length d → ((j : ℕ) → j < w → getD d (i * w + j) 0 ≡ getD (f i) j 0)
+      → put (i * w) (f i) d ≡ d
   row-there i h e =
       let l = length-part (i * w) w d h in
       let q : part (i * w) w d ≡ f i =

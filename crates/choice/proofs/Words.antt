@@ -71,7 +71,8 @@ module _ {g : Geometry} {image : List ℕ} {n : ℕ} {map : List ℕ} (d : Keyed
 
   pub held : (volumeWord map i ≡ noWord → ⊥) → Held g image map i
   held n =
-      let w = named i (viewsOf g image i .vid) (λ (e : getD (keyWords i (viewsOf g image i .vid)) 0 0 ≡ noWord). n (d .volumes i h ∙ e)) in
+      let w = named i (viewsOf g image i .vid)
+      (λ (e : getD (keyWords i (viewsOf g image i .vid)) 0 0 ≡ noWord). n (d .volumes i h ∙ e)) in
       let e : w .copy ≡ copyAt g image i = copy-is g image i (w .copy) (w .is) in
       record {
         is = w .is ∙ ap some e;
@@ -115,16 +116,21 @@ repeat-of (some c) (some d) e =
       leb = eqb-true (c .header .lnum) (d .header .lnum) (and-left l t (and-right v (l && t) r));
     }
 
-pub same-true : (map : List ℕ) (i j : ℕ) → sameLeb map i j ≡ true → (volumeWord map i ≡ volumeWord map j) × (lnumWord map i ≡ lnumWord map j)
+pub same-true : (map : List ℕ) (i j : ℕ) → sameLeb map i j ≡ true
+    → (volumeWord map i ≡ volumeWord map j) × (lnumWord map i ≡ lnumWord map j)
 same-true map i j e =
     let v = eqb (volumeWord map i) (volumeWord map j) in
-    let l = eqb (lnumWord map i) (lnumWord map j) in
-    (eqb-true (volumeWord map i) (volumeWord map j) (and-left v l e), eqb-true (lnumWord map i) (lnumWord map j) (and-right v l e))
+    let l = eqb (lnumWord map i) (lnumWord map j) in (
+      eqb-true (volumeWord map i) (volumeWord map j) (and-left v l e),
+      eqb-true (lnumWord map i) (lnumWord map j) (and-right v l e),
+    )
 
-pub true-same : (map : List ℕ) (i j : ℕ) → volumeWord map i ≡ volumeWord map j → lnumWord map i ≡ lnumWord map j → sameLeb map i j ≡ true
+pub true-same : (map : List ℕ) (i j : ℕ) → volumeWord map i ≡ volumeWord map j → lnumWord map i ≡ lnumWord map j
+    → sameLeb map i j ≡ true
 true-same map i j p q = rw (eq-eqb (volumeWord map i) (volumeWord map j) p) (eq-eqb (lnumWord map i) (lnumWord map j) q)
 
-module _ {g : Geometry} {image : List ℕ} {n : ℕ} {map : List ℕ} (d : Keyed g image n map) (i j : ℕ) (h : i < n) (k : j < n) where
+module _ {g : Geometry} {image : List ℕ} {n : ℕ} {map : List ℕ} (d : Keyed g image n map) (i j : ℕ) (h : i < n)
+    (k : j < n) where
   abbrev cs : ℕ → Option Copy
   cs = copies (viewsOf g image)
 
@@ -148,7 +154,8 @@ module _ {g : Geometry} {image : List ℕ} {n : ℕ} {map : List ℕ} (d : Keyed
         a .is,
         b .is,
         a .mappable,
-        eq-eqb (copyAt g image i .header .volume) (copyAt g image j .header .volume) (a .volume ∙ e .0 ∙ sym (b .volume)),
+        eq-eqb (copyAt g image i .header .volume) (copyAt g image j .header .volume)
+            (a .volume ∙ e .0 ∙ sym (b .volume)),
         eq-eqb (copyAt g image i .header .lnum) (copyAt g image j .header .lnum) (a .leb ∙ e .1 ∙ sym (b .leb)),
       )
 

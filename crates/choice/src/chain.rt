@@ -16,7 +16,7 @@ use words::peb_word;
 use words::set_peb;
 use words::volume_word;
 
-const BUCKETS: usize = 2048;
+pub const BUCKETS: usize = 2048;
 
 // The bucket of a volume's LEB.
 fn bucket(volume: u32, lnum: u32) -> usize

@@ -4,6 +4,7 @@ mod chosen;
 mod marking;
 mod repeat;
 
+pub use chain::BUCKETS;
 pub use chain::link_copies;
 pub use marking::mark_chosen;
 pub use repeat::first_repeat;

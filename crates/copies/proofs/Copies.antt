@@ -21,7 +21,7 @@ use Rattle.header.specs.Fields.{Verdict, good, bad, newer}
 use Rattle.header.specs.Vid.{vidFields, vidRules, staticRule, readVid}
 use Rattle.header.proofs.Laws.{vid-good}
 use Rattle.header.proofs.RoundTrip.{vid-read-fits}
-use Rattle.report.specs.View.{allFF, Copy, vidBlank, copyOf, vidOf, vidPart, viewOf, pebAt, viewsOf, mediumOf, goodVid, copies}
+use Rattle.report.specs.View.{allFF, Copy, vidBlank, copyOf, vidOf, vidPart, viewOf, pebAt, viewsOf, Medium, mediumOf, goodVid, copies}
 use Rattle.report.specs.Choice.{chosen}
 use Rattle.report.specs.Volumes.{faceOf, facesOf, placesOf}
 use Rattle.report.specs.Report.{faces, places}
@@ -114,23 +114,33 @@ module _ (g : Geometry) (image : List ℕ) (i : ℕ) (p : Placed g) where
       let c = bytes-part (g .«vid_start») 64 peb (bytes-part (i * g .«peb_size») (g .«peb_size») image b) in
       vid-read-fits (vidPart g peb) c (rw k (omega arith)) .sequence
 
--- ---- the chosen copy of a LEB, and its face
+-- ---- the copy in the place of a LEB, and its face
+
+-- the good VID header in PEB p, of this volume and LEB
+pub record CopyOf (g : Geometry) (n : ℕ) (image : List ℕ) (v l p : ℕ) : Type 0 where
+  pub below : p < n
+  pub is : copies (viewsOf g image) p ≡ some (copyAt g image p)
+  pub volume : copyAt g image p .header .volume ≡ v
+  pub lnum : copyAt g image p .header .lnum ≡ l
 
 module _ (g : Geometry) (n : ℕ) (image : List ℕ) (v l : ℕ) where
+  abbrev m : Medium
+  m = mediumOf g n image
+
   abbrev choice : Option (ℕ × Copy)
-  choice = chosen n (copies (viewsOf g image)) v l
+  choice = chosen n (copies (m .views)) v l
 
-  copy-chosen : (x : ℕ × Copy) → choice ≡ some x → x .1 ≡ copyAt g image (x .0)
-  copy-chosen x q = copy-is g image (x .0) (x .1) (chosen-at n (copies (viewsOf g image)) v l (x .0) (x .1) q .1)
+  chosen-copy : (x : ℕ × Copy) → choice ≡ some x → (x .1 ≡ copyAt g image (x .0)) × CopyOf g n image v l (x .0)
+  chosen-copy x q =
+      let a = chosen-at n (copies (m .views)) v l (x .0) (x .1) q in
+      let e = copy-is g image (x .0) (x .1) (a .1) in
+      (e, record { below = a .0; is = a .1 ∙ ap some e; volume = rw e at (a .2); lnum = rw e at (a .3) })
 
-  pub place-chosen : (p : ℕ) → places (mediumOf g n image) v l ≡ some p → choice ≡ some (p, copyAt g image p)
+  pub copy-at : (p : ℕ) → places m v l ≡ some p → CopyOf g n image v l p
   unfolding placesOf
-  place-chosen p e =
-      let x = mapO-some _ choice p e in
-      x .1 ∙ ap some (ap₂ (λ (a : ℕ) (b : Copy). (a, b)) (x .2) (copy-chosen (x .0) (x .1) ∙ ap (copyAt g image) (x .2)))
+  copy-at p e = let x = mapO-some _ choice p e in rw (x .2) at (chosen-copy (x .0) (x .1) .1)
 
-  pub face-is : faces (mediumOf g n image) v l ≡ mapO (faceAt g image) (places (mediumOf g n image) v l)
+  pub face-is : faces m v l ≡ mapO (faceAt g image) (places m v l)
   unfolding facesOf placesOf
   face-is =
-      by-option choice (λ q. rw q)
-      (λ x q. rw q (ap (λ (c : Copy). some (faceOf g c)) (copy-chosen x q)))
+      by-option choice (λ q. rw q) (λ x q. rw q (ap (λ (c : Copy). some (faceOf g c)) (chosen-copy x q .0)))

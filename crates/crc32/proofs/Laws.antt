@@ -56,7 +56,8 @@ crcBits-split n z =
 
 -- ---- runs of bytes
 
-pub crcFrom-step : (s : List ℕ) (i c : ℕ) → i < length s → crcFrom (crcByte c (getD s i 0)) (drop (i + 1) s) ≡ crcFrom c (drop i s)
+pub crcFrom-step : (s : List ℕ) (i c : ℕ) → i < length s
+    → crcFrom (crcByte c (getD s i 0)) (drop (i + 1) s) ≡ crcFrom c (drop i s)
 unfolding crcFrom
 crcFrom-step s i c h = rw (add-one, drop-cons s i 0)
 

@@ -47,7 +47,8 @@ low-bits n m z =
 pub nibble-more : (c n z : ℕ) → bitXor (bitXor c (crcBits (4 * (n + 1)) (z % 16))) (crcBits (4 * n) (z / 16)) ≡ bitXor c (crcBits (4 * (n + 1)) z)
 nibble-more c n z =
     let e : 4 * (n + 1) ≡ 4 + 4 * n = omega arith in
-    xor-assoc c (crcBits (4 * (n + 1)) (z % 16)) (crcBits (4 * n) (z / 16)) ∙ ap (bitXor c) (rw e (sym (low-bits 4 (4 * n) z)))
+    xor-assoc c (crcBits (4 * (n + 1)) (z % 16)) (crcBits (4 * n) (z / 16))
+    ∙ ap (bitXor c) (rw e (sym (low-bits 4 (4 * n) z)))
 
 -- a byte is two half bytes
 pub two-halves : (c b p q : ℕ) → p ≡ crcBits 4 (bitXor c b) → q ≡ crcBits 4 p → q ≡ crcByte c b
@@ -58,12 +59,14 @@ two-halves c b p q e f = rw (f, e) (sym (crcBits-add 4 4 (bitXor c b)))
 pub three-words : (a b c : ℕ) → bitXor (bitXor (crcBits 32 c) (crcBits 64 b)) (crcBits 96 a) ≡ crcBits 32 (bitXor (crcBits 32 (bitXor (crcBits 32 a) b)) c)
 three-words a b c =
     rw (crcBits-xor 32 (crcBits 32 a) b, ← crcBits-add 32 32 a, crcBits-xor 32 (bitXor (crcBits 64 a) (crcBits 32 b)) c, crcBits-xor 32 (crcBits 64 a) (crcBits 32 b), ← crcBits-add 64 32 a, ← crcBits-add 32 32 b)
-    (xor-comm (bitXor (crcBits 32 c) (crcBits 64 b)) (crcBits 96 a) ∙ ap (bitXor (crcBits 96 a)) (xor-comm (crcBits 32 c) (crcBits 64 b))
+    (xor-comm (bitXor (crcBits 32 c) (crcBits 64 b)) (crcBits 96 a) ∙ ap (bitXor (crcBits 96 a))
+    (xor-comm (crcBits 32 c) (crcBits 64 b))
     ∙ sym (xor-assoc (crcBits 96 a) (crcBits 64 b) (crcBits 32 c)))
 
 -- ---- words in a list
 
-leOf-part : (n i j : ℕ) (s : List ℕ) → j ≡ i + 1 → i < length s → leOf (part i (suc n) s) ≡ leOf (part j n s) * 256 + getD s i 0
+leOf-part : (n i j : ℕ) (s : List ℕ) → j ≡ i + 1 → i < length s
+    → leOf (part i (suc n) s) ≡ leOf (part j n s) * 256 + getD s i 0
 unfolding leOf
 leOf-part n i j s e h = rw (e, drop-cons s i 0, add-one)
 
@@ -95,7 +98,8 @@ module _ (c i : ℕ) (s : List ℕ) where
   abbrev shifted : ℕ → ℕ → ℕ
   shifted c i = crcBits 32 (bitXor c (leOf (part i 4 s)))
 
-  pub crcFrom-three : Bytes s → i + 12 ≤ length s → crcFrom (shifted (shifted (shifted c i) (i + 4)) (i + 8)) (drop (i + 12) s) ≡ crcFrom c (drop i s)
+  pub crcFrom-three : Bytes s → i + 12 ≤ length s
+      → crcFrom (shifted (shifted (shifted c i) (i + 4)) (i + 8)) (drop (i + 12) s) ≡ crcFrom c (drop i s)
   crcFrom-three b h =
       let e : i + 4 + 4 ≡ i + 8 = omega arith in
       let f : i + 8 + 4 ≡ i + 12 = omega arith in

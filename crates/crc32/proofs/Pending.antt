@@ -83,18 +83,21 @@ pending-low j (e ∷ es) b =
 pub pending-word : (j : ℕ) (b : List ℕ) → pending exponents (drop j b) % 2 ^ 32
     ≡ bitXor (getD b (j + 84) 0 % 2 ^ 32)
     (bitXor (getD b (j + 80) 0 % 2 ^ 32)
-    (bitXor (getD b (j + 70) 0 % 2 ^ 32) (bitXor (getD b (j + 29) 0 % 2 ^ 32) (bitXor (getD b (j + 8) 0 % 2 ^ 32) (getD b j 0 % 2 ^ 32)))))
+    (bitXor (getD b (j + 70) 0 % 2 ^ 32)
+    (bitXor (getD b (j + 29) 0 % 2 ^ 32) (bitXor (getD b (j + 8) 0 % 2 ^ 32) (getD b j 0 % 2 ^ 32)))))
 pending-word j b = pending-low j exponents b ∙ rw (add-zero, xor-zero-r)
 
 lowest-take : (n j k : ℕ) (es b : List ℕ) → Below k es → j + k ≤ n → lowest j es (take n b) ≡ lowest j es b
 lowest-take n j k [] b l h = refl
 lowest-take n j k (e ∷ es) b l h = rw (getD-take n b (j + e) 0 (omega (arith, l .0)), lowest-take n j k es b (l .1) h)
 
-pub low-take : (n j k : ℕ) (es b : List ℕ) → Below k es → j + k ≤ n → pending es (drop j (take n b)) % 2 ^ 32 ≡ pending es (drop j b) % 2 ^ 32
+pub low-take : (n j k : ℕ) (es b : List ℕ) → Below k es → j + k ≤ n
+    → pending es (drop j (take n b)) % 2 ^ 32 ≡ pending es (drop j b) % 2 ^ 32
 low-take n j k es b l h = pending-low j es (take n b) ∙ lowest-take n j k es b l h ∙ sym (pending-low j es b)
 
 -- a later word makes no difference
-pub low-set : (i k w : ℕ) (b : List ℕ) → i + 85 ≤ k → pending exponents (drop i (set b k w)) % 2 ^ 32 ≡ pending exponents (drop i b) % 2 ^ 32
+pub low-set : (i k w : ℕ) (b : List ℕ) → i + 85 ≤ k
+    → pending exponents (drop i (set b k w)) % 2 ^ 32 ≡ pending exponents (drop i b) % 2 ^ 32
 low-set i k w b h =
     sym (low-take k i 85 exponents (set b k w) (omega arith) h)
     ∙ ap (λ (l : List ℕ). pending exponents (drop i l) % 2 ^ 32) (take-set-le k b k w (omega arith))
@@ -107,19 +110,22 @@ folded n (e ∷ es) w = bitXor (w % 2 ^ 32 * 2 ^ (32 * (n - (1 + e)))) (folded n
 
 module _ (h : List ℕ) (w : ℕ) where
   next-at : (e : ℕ) → e < length h →
-      wordsOf (drop e (drop 1 (h ++ w ∷ []))) ≡ bitXor (wordsOf (drop e h) / 2 ^ 32) (w % 2 ^ 32 * 2 ^ (32 * (length h - (1 + e))))
+      wordsOf (drop e (drop 1 (h ++ w ∷ []))) ≡ bitXor (wordsOf (drop e h) / 2 ^ 32)
+      (w % 2 ^ 32 * 2 ^ (32 * (length h - (1 + e))))
   next-at e l =
       let f : e + 1 ≡ 1 + e = omega arith in
       rw (drop-drop e 1 (h ++ w ∷ []), drop-append-le (1 + e) h (w ∷ []) (omega arith), words-more (drop (1 + e) h) w, length-drop (1 + e) h, words-high (drop e h), drop-drop 1 e h, f)
 
-  pub pending-next : (es : List ℕ) → Below (length h) es → pending es (drop 1 (h ++ w ∷ [])) ≡ bitXor (pending es h / 2 ^ 32) (folded (length h) es w)
+  pub pending-next : (es : List ℕ) → Below (length h) es
+      → pending es (drop 1 (h ++ w ∷ [])) ≡ bitXor (pending es h / 2 ^ 32) (folded (length h) es w)
   unfolding pending folded
   pending-next [] l = refl
   pending-next (e ∷ es) l =
       let x = w % 2 ^ 32 * 2 ^ (32 * (length h - (1 + e))) in
       ap₂ bitXor (next-at e (l .0)) (pending-next es (l .1))
       ∙ xor-swap (wordsOf (drop e h) / 2 ^ 32) x (pending es h / 2 ^ 32) (folded (length h) es w)
-      ∙ ap (λ (u : ℕ). bitXor u (bitXor x (folded (length h) es w))) (sym (xor-shr (wordsOf (drop e h)) (pending es h) 32))
+      ∙ ap (λ (u : ℕ). bitXor u (bitXor x (folded (length h) es w)))
+      (sym (xor-shr (wordsOf (drop e h)) (pending es h) 32))
 
 pub pending-none : (es : List ℕ) (n : ℕ) → pending es (replicate n 0) ≡ 0
 unfolding pending
@@ -137,9 +143,11 @@ pending-zeros [] h n l = refl
 pending-zeros (e ∷ es) h n l =
     rw (drop-append-le e h (replicate n 0) (omega (arith, l .0)), words-zeros (drop e h) n, pending-zeros es h n (l .1))
 
-pub cleared : (l z : List ℕ) → length l ≡ 137 → z ≡ l ++ zeros 85 → (drop 137 z ≡ zeros 85) × (pending exponents z ≡ pending exponents l)
+pub cleared : (l z : List ℕ) → length l ≡ 137 → z ≡ l ++ zeros 85
+    → (drop 137 z ≡ zeros 85) × (pending exponents z ≡ pending exponents l)
 unfolding zeros
-cleared l z n e = (ap (drop 137) e ∙ drop-at l (replicate 85 0) 137 n, ap (pending exponents) e ∙ pending-zeros exponents l 85 (rw n (omega arith)))
+cleared l z n e =
+    (ap (drop 137) e ∙ drop-at l (replicate 85 0) 137 n, ap (pending exponents) e ∙ pending-zeros exponents l 85 (rw n (omega arith)))
 
 pub pending-first : (n w : ℕ) → w < 2 ^ 32 → pending exponents (w ∷ replicate n 0) ≡ w
 unfolding pending wordsOf
@@ -153,26 +161,31 @@ drop-take : (n : ℕ) (l : List ℕ) → drop 1 (take (suc n) l) ≡ take n (dro
 drop-take n [] = sym (take-nil n)
 drop-take n (x ∷ l) = refl
 
-pub window : (j n : ℕ) (b : List ℕ) (w : ℕ) → j + n < length b → part (j + 1) n (set b (j + n) w) ≡ drop 1 (part j n b ++ w ∷ [])
+pub window : (j n : ℕ) (b : List ℕ) (w : ℕ) → j + n < length b
+    → part (j + 1) n (set b (j + n) w) ≡ drop 1 (part j n b ++ w ∷ [])
 window j n b w h =
     rw (← take-suc-set (drop j b) n w (rw (length-drop j b) (omega arith)), ← drop-set-add j b n w, drop-take n (drop j (set b (j + n) w)), drop-drop 1 j (set b (j + n) w))
 
 -- ---- a turn of the loops that move words
 
-module _ (n : ℕ) (b₀ b : List ℕ) (j : ℕ) (inside₀ : n + j < length b₀) (inside : j < length b) (rest : drop j b ≡ drop j b₀) where
+module _ (n : ℕ) (b₀ b : List ℕ) (j : ℕ) (inside₀ : n + j < length b₀) (inside : j < length b)
+    (rest : drop j b ≡ drop j b₀) where
   pub slide-low : take j b ≡ part n j b₀ → take (j + 1) (set b j (getD b (n + j) 0)) ≡ part n (j + 1) b₀
   slide-low e =
       let f : n + j ≡ j + n = omega arith in
       let h : getD b (n + j) 0 ≡ getD (drop n b₀) j 0 =
-      ap (λ (i : ℕ). getD b i 0) f ∙ sym (getD-drop j b n 0) ∙ ap (λ (l : List ℕ). getD l n 0) rest ∙ getD-drop j b₀ n 0 ∙ ap (λ (i : ℕ). getD b₀ i 0) (sym f)
+      ap (λ (i : ℕ). getD b i 0) f ∙ sym (getD-drop j b n 0) ∙ ap (λ (l : List ℕ). getD l n 0) rest ∙ getD-drop j b₀ n 0
+      ∙ ap (λ (i : ℕ). getD b₀ i 0) (sym f)
       ∙ sym (getD-drop n b₀ j 0) in
       rw (add-one, take-suc-set b j (getD b (n + j) 0) inside, take-suc (drop n b₀) j 0 (rw (length-drop n b₀) (omega arith)), e, h)
 
   pub slide-rest : drop (j + 1) (set b j (getD b (n + j) 0)) ≡ drop (j + 1) b₀
   slide-rest = rw (drop-set-lt (j + 1) b j (getD b (n + j) 0) (omega arith), ← drop-drop 1 j b, rest) (drop-drop 1 j b₀)
 
-pub clear-turn : (n j : ℕ) (l b : List ℕ) → n + j < length b → take (n + j) b ≡ l ++ zeros j → take (n + (j + 1)) (set b (n + j) 0) ≡ l ++ zeros (j + 1)
+pub clear-turn : (n j : ℕ) (l b : List ℕ) → n + j < length b → take (n + j) b ≡ l ++ zeros j
+    → take (n + (j + 1)) (set b (n + j) 0) ≡ l ++ zeros (j + 1)
 unfolding zeros
 clear-turn n j l b h e =
     let f : n + (j + 1) ≡ n + j + 1 = omega arith in
-    rw (f, add-one, take-suc-set b (n + j) 0 h, e, ← add-one, ← replicate-append-replicate {A = ℕ} j 1 0) (append-assoc l (replicate j 0) (0 ∷ []))
+    rw (f, add-one, take-suc-set b (n + j) 0 h, e, ← add-one, ← replicate-append-replicate {A = ℕ} j 1 0)
+    (append-assoc l (replicate j 0) (0 ∷ []))

@@ -38,7 +38,8 @@ sumOf-xor : (g : ℕ) (es : List ℕ) (y z : ℕ) → sumOf g es (bitXor y z) �
 unfolding sumOf
 sumOf-xor g [] y z = refl
 sumOf-xor g (e ∷ es) y z =
-    rw (crcBits-xor (e * g) y z, sumOf-xor g es y z) (xor-swap (crcBits (e * g) y) (crcBits (e * g) z) (sumOf g es y) (sumOf g es z))
+    rw (crcBits-xor (e * g) y z, sumOf-xor g es y z)
+    (xor-swap (crcBits (e * g) y) (crcBits (e * g) z) (sumOf g es y) (sumOf g es z))
 
 sumOf-bits : (g : ℕ) (es : List ℕ) (n z : ℕ) → sumOf g es (crcBits n z) ≡ crcBits n (sumOf g es z)
 unfolding sumOf
@@ -49,7 +50,8 @@ sumOf-bits g (e ∷ es) n z =
 -- ---- squares: the mixed terms cancel
 
 cancel : (a b d : ℕ) → bitXor (bitXor a b) (bitXor b d) ≡ bitXor a d
-cancel a b d = xor-assoc a b (bitXor b d) ∙ ap (bitXor a) (sym (xor-assoc b b d) ∙ ap (λ (x : ℕ). bitXor x d) (xor-self b))
+cancel a b d =
+    xor-assoc a b (bitXor b d) ∙ ap (bitXor a) (sym (xor-assoc b b d) ∙ ap (λ (x : ℕ). bitXor x d) (xor-self b))
 
 squared : (g : ℕ) (es : List ℕ) (z : ℕ) → sumOf (g + g) es z ≡ sumOf g es (sumOf g es z)
 unfolding sumOf
@@ -60,7 +62,8 @@ squared g (e ∷ es) z =
     let h : e * (g + g) ≡ e * g + e * g = omega arith in
     ap₂ bitXor (ap (λ (n : ℕ). crcBits n z) h ∙ crcBits-add (e * g) (e * g) z) (squared g es z)
     ∙ sym (cancel (crcBits (e * g) x) (crcBits (e * g) y) (sumOf g es y))
-    ∙ ap₂ bitXor (sym (crcBits-xor (e * g) x y)) (ap (λ (u : ℕ). bitXor u (sumOf g es y)) (sym (sumOf-bits g es (e * g) z)) ∙ sym (sumOf-xor g es x y))
+    ∙ ap₂ bitXor (sym (crcBits-xor (e * g) x y))
+    (ap (λ (u : ℕ). bitXor u (sumOf g es y)) (sym (sumOf-bits g es (e * g) z)) ∙ sym (sumOf-xor g es x y))
 
 -- ---- a sum that takes one state to 0 takes all of them to 0
 
@@ -68,7 +71,8 @@ module _ (es : List ℕ) (test : sumOf 1 es (2 ^ 31) ≡ 0) where
   one-bit : (n : ℕ) → n < 32 → sumOf 1 es (2 ^ n) ≡ 0
   one-bit n h =
       let e : n + (31 - n) ≡ 31 = omega arith in
-      ap (sumOf 1 es) (sym (crcBits-shift (31 - n) (2 ^ n)) ∙ ap (crcBits (31 - n)) (sym (pow-add 2 n (31 - n)) ∙ ap (λ (k : ℕ). 2 ^ k) e))
+      ap (sumOf 1 es) (sym (crcBits-shift (31 - n) (2 ^ n)) ∙ ap (crcBits (31 - n))
+      (sym (pow-add 2 n (31 - n)) ∙ ap (λ (k : ℕ). 2 ^ k) e))
       ∙ sumOf-bits 1 es (31 - n) (2 ^ 31)
       ∙ ap (crcBits (31 - n)) test
       ∙ crcBits-zero (31 - n)
@@ -86,13 +90,15 @@ module _ (es : List ℕ) (test : sumOf 1 es (2 ^ 31) ≡ 0) where
       let e : 1 + n ≡ suc n = omega arith in
       ap (sumOf 1 es) (sym (xor-shifted (z / 2 ^ n) n (z % 2 ^ n) (mod-lt z (pow-pos n)) ∙ split z n))
       ∙ sumOf-xor 1 es (z / 2 ^ n * 2 ^ n) (z % 2 ^ n)
-      ∙ ap₂ bitXor (digit (z / 2 ^ n) n (shr-lt 1 n (rw e k)) (omega arith)) (bits n (z % 2 ^ n) (omega arith) (mod-lt z (pow-pos n)))
+      ∙ ap₂ bitXor (digit (z / 2 ^ n) n (shr-lt 1 n (rw e k)) (omega arith))
+      (bits n (z % 2 ^ n) (omega arith) (mod-lt z (pow-pos n)))
 
   vanishes : (k z : ℕ) → z < 2 ^ 32 → sumOf (2 ^ k) es z ≡ 0
   vanishes zero z h = bits 32 z (omega arith) h
   vanishes (suc k) z h =
       let e : 2 ^ suc k ≡ 2 ^ k + 2 ^ k = rw pow-suc (omega arith) in
-      ap (λ (g : ℕ). sumOf g es z) e ∙ squared (2 ^ k) es z ∙ ap (sumOf (2 ^ k) es) (vanishes k z h) ∙ sumOf-zero (2 ^ k) es
+      ap (λ (g : ℕ). sumOf g es z) e ∙ squared (2 ^ k) es z ∙ ap (sumOf (2 ^ k) es) (vanishes k z h)
+      ∙ sumOf-zero (2 ^ k) es
 
 -- ---- the multiple of IEEE 802.3's polynomial, every exponent times 32
 

@@ -25,7 +25,8 @@ pub xor-half : (a b : ℕ) → bitXor a b / 2 ≡ bitXor (a / 2) (b / 2)
 xor-half a b = xor-shr a b 1
 
 pub xor-odd : (a b : ℕ) → bitXor a b % 2 ≡ differ (a % 2) (b % 2)
-xor-odd a b = rw (xor-step a b) (digits-mod (bitXor (a / 2) (b / 2)) (differ-lt (a % 2) (b % 2) (omega arith) (omega arith)))
+xor-odd a b =
+    rw (xor-step a b) (digits-mod (bitXor (a / 2) (b / 2)) (differ-lt (a % 2) (b % 2) (omega arith) (omega arith)))
 
 pub xor-assoc : (a b c : ℕ) → bitXor (bitXor a b) c ≡ bitXor a (bitXor b c)
 xor-assoc a =
@@ -33,8 +34,10 @@ xor-assoc a =
     (λ n ih b c.
     xor-step (bitXor n b) c
     ∙ ap₂ (λ (x y : ℕ). x * 2 + y)
-    (ap (λ (x : ℕ). bitXor x (c / 2)) (xor-half n b) ∙ ih (b / 2) (c / 2) ∙ ap (λ (x : ℕ). bitXor (n / 2) x) (sym (xor-half b c)))
-    (ap (λ (x : ℕ). differ x (c % 2)) (xor-odd n b) ∙ differ-assoc (n % 2) (b % 2) (c % 2) (omega arith) (omega arith) (omega arith) ∙ ap (λ (x : ℕ). differ (n % 2) x) (sym (xor-odd b c)))
+    (ap (λ (x : ℕ). bitXor x (c / 2)) (xor-half n b) ∙ ih (b / 2) (c / 2) ∙ ap (λ (x : ℕ). bitXor (n / 2) x)
+    (sym (xor-half b c)))
+    (ap (λ (x : ℕ). differ x (c % 2)) (xor-odd n b) ∙ differ-assoc (n % 2) (b % 2) (c % 2) (omega arith) (omega arith)
+    (omega arith) ∙ ap (λ (x : ℕ). differ (n % 2) x) (sym (xor-odd b c)))
     ∙ sym (xor-step n (bitXor b c))) a
 
 pub xor-swap : (a b c d : ℕ) → bitXor (bitXor a b) (bitXor c d) ≡ bitXor (bitXor a c) (bitXor b d)

@@ -1,4 +1,4 @@
--- 01: "CRC means CRC-32 of IEEE 802.3, reflected, started at 0xFFFFFFFF, without the final complement (CRC-32/JAMCRC)". Assumes nothing.
+-- 01: "CRC-32 of IEEE 802.3, reflected, started at 0xFFFFFFFF, without the final complement". Assumes nothing.
 use Prim.Native.Nat.{ℕ, zero, suc, _/_, _%_}
 use mathlib.Core.List.{List, [], _∷_}
 use lib.Bits.{bitXor}

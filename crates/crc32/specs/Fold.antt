@@ -1,5 +1,4 @@
--- What the contracts of the private functions cite: what words that were folded add to those after them.
--- No public promise names them. Assumes nothing.
+-- What private contracts cite: what folded words add to those after them. No public promise names it. Assumes nothing.
 use Prim.Native.Nat.{ℕ, _+_, _*_, _%_, _^_}
 use mathlib.Core.List.{List, [], _∷_}
 use lib.Bits.{bitXor}

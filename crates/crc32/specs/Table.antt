@@ -1,4 +1,4 @@
--- What the contracts of the private functions cite: the look-up table and words of bytes. No public promise names them. Assumes nothing.
+-- What private contracts cite: the look-up table and words of bytes. No public promise names them. Assumes nothing.
 use Prim.Native.Nat.{ℕ, _+_, _*_}
 use mathlib.Core.List.{List, [], _∷_}
 use Rattle.base.specs.Lists.{table, rows}

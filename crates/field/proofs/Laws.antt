@@ -24,7 +24,8 @@ unfolding beFrom
 beFrom-snoc acc [] b = refl
 beFrom-snoc acc (x ∷ l) b = beFrom-snoc (acc * 256 + x) l b
 
-pub beOf-next : (s : List ℕ) (at i : ℕ) → at + i < length s → beOf (part at (i + 1) s) ≡ beOf (part at i s) * 256 + getD s (at + i) 0
+pub beOf-next : (s : List ℕ) (at i : ℕ) → at + i < length s
+    → beOf (part at (i + 1) s) ≡ beOf (part at i s) * 256 + getD s (at + i) 0
 beOf-next s at i h =
     let k : i < length (drop at s) = simp length-drop (omega arith) in
     rw (add-one, take-suc (drop at s) i 0, getD-drop, beFrom-snoc)
@@ -42,7 +43,8 @@ below-eight v i h k = omega (arith, pow-le-pow-right {n = 256} (lit< tt) {i = i}
 pub leftTo : ℕ → ℕ → ℕ → List ℕ → List ℕ
 leftTo at i v s = take at s ++ toBeOn i v (drop (at + i) s)
 
-pub store-step : (at i v : ℕ) (s : List ℕ) → 0 < i → at + i ≤ length s → leftTo at (i - 1) (v / 256) (set s (at + (i - 1)) (v % 256)) ≡ leftTo at i v s
+pub store-step : (at i v : ℕ) (s : List ℕ) → 0 < i → at + i ≤ length s
+    → leftTo at (i - 1) (v / 256) (set s (at + (i - 1)) (v % 256)) ≡ leftTo at i v s
 unfolding leftTo toBeOn
 store-step at zero v s h k = absurd (not-suc-le-zero h)
 store-step at (suc j) v s h k =
@@ -55,7 +57,8 @@ store-step at (suc j) v s h k =
 pub toBeOn-append : (n v : ℕ) (a : List ℕ) → toBeOn n v a ≡ toBeOn n v [] ++ a
 unfolding toBeOn
 toBeOn-append zero v a = refl
-toBeOn-append (suc n) v a = rw (toBeOn-append n (v / 256) (v % 256 ∷ a), toBeOn-append n (v / 256) (v % 256 ∷ []), append-assoc)
+toBeOn-append (suc n) v a =
+    rw (toBeOn-append n (v / 256) (v % 256 ∷ a), toBeOn-append n (v / 256) (v % 256 ∷ []), append-assoc)
 
 pub length-toBeOn : (n v : ℕ) (a : List ℕ) → length (toBeOn n v a) ≡ n + length a
 unfolding toBeOn
@@ -91,7 +94,8 @@ read-back n v = beFrom-toBeOn n v 0 [] ∙ omega arith
 pub read-back-fits : (n v : ℕ) → v < 256 ^ n → beOf (toBe n v) ≡ v
 read-back-fits n v h = read-back n v ∙ mod-eq-of-lt h
 
-toBeOn-beFrom : (l : List ℕ) → Bytes l → (n acc : ℕ) (t : List ℕ) → toBeOn (length l + n) (beFrom acc l) t ≡ toBeOn n acc (l ++ t)
+toBeOn-beFrom : (l : List ℕ) → Bytes l → (n acc : ℕ) (t : List ℕ)
+    → toBeOn (length l + n) (beFrom acc l) t ≡ toBeOn n acc (l ++ t)
 unfolding beFrom toBeOn
 toBeOn-beFrom [] b n acc t = rw zero-add
 toBeOn-beFrom (x ∷ l) b n acc t =
@@ -104,7 +108,8 @@ unfolding toBeOn
 store-back l b = rw (add-zero, append-nil) at (toBeOn-beFrom l b 0 0 [])
 
 -- "reading gives back what was written", at any place and width
-pub read-written : (at n v : ℕ) (s : List ℕ) → at + n ≤ length s → v < 256 ^ n → beOf (part at n (put at (toBe n v) s)) ≡ v
+pub read-written : (at n v : ℕ) (s : List ℕ) → at + n ≤ length s → v < 256 ^ n
+    → beOf (part at n (put at (toBe n v) s)) ≡ v
 read-written at n v s h k =
     let e : length (toBe n v) ≡ n = length-toBe n v in
     let p = part-put at (toBe n v) s (omega (arith, e)) in
@@ -132,7 +137,8 @@ beFrom-lt (x ∷ l) b acc most h =
 
 -- a field of bytes is as large as its width allows
 pub field-lt : (at n : ℕ) (s : List ℕ) → at + n ≤ length s → Bytes s → beOf (part at n s) < 256 ^ n
-field-lt at n s h b = rw (length-part at n s h, one-mul) at (beFrom-lt (part at n s) (bytes-part at n s b) 0 1 (lit< tt))
+field-lt at n s h b =
+    rw (length-part at n s h, one-mul) at (beFrom-lt (part at n s) (bytes-part at n s b) 0 1 (lit< tt))
 
 -- ---- tables of fields
 

@@ -1,6 +1,6 @@
 -- Fields of a run of bytes, each given by its offset and width. Assumes nothing.
 use Prim.Native.Nat.{ℕ}
-use mathlib.Core.List.{List}
+use mathlib.Core.List.{List, [], _∷_}
 use lib.ListN.{getD}
 use Rattle.base.specs.Lists.{part, put}
 use Rattle.field.specs.Be.{beOf, toBe}
@@ -24,3 +24,8 @@ numberIn f s = beOf (bytesIn f s)
 -- s with the number v stored in a field
 abbrev pub stored : Field → ℕ → List ℕ → List ℕ
 stored f v s = put (f .at) (toBe (f .width) v) s
+
+-- s with several numbers stored, the first of them first
+abbrev pub storedAll : List (Field × ℕ) → List ℕ → List ℕ
+storedAll [] s = s
+storedAll (x ∷ xs) s = storedAll xs (stored (x .0) (x .1) s)

@@ -15,7 +15,7 @@ use Rattle.header.specs.Ec.{judgeEc, ecBytes, ecOut}
 use Rattle.header.specs.Vid.{judgeVid, vidBytes, vidOut}
 use Rattle.header.specs.declared.EcHeader.{EcHeader}
 use Rattle.header.specs.declared.VidHeader.{VidHeader}
-use Rattle.header.proofs.Writes.{ec-64, vid-64, ec-over, vid-over}
+use Rattle.header.proofs.Writes.{ec-over, vid-over}
 
 -- ---- a run that is copied byte by byte
 

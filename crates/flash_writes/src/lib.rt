@@ -13,7 +13,8 @@ use header::VidHeader;
 
 // The n bytes from `from` on are stored from `to` on, ascending; the two runs do not overlap.
 pub fn copy_run(image: &mut [u8], from: usize, to: usize, n: usize)
-    requires { ⌜ (from + n ≤ length (now image)) × ((to + n ≤ length (now image)) × ((from + n ≤ to) ⊎ (to + n ≤ from))) ⌝ }
+    requires { ⌜ (from + n ≤ length (now image))
+        × ((to + n ≤ length (now image)) × ((from + n ≤ to) ⊎ (to + n ≤ from))) ⌝ }
     ensures { λ _. ⌜ now (image .exit) ≡ put to (part from n (now (image .entry))) (now (image .entry)) ⌝ }
 {
     let mut i: usize = 0;
@@ -34,7 +35,8 @@ pub fn erase(image: &mut [u8], at: usize, n: usize)
 // A good VID header is made in `buffer`, then stored from `at` on, ascending: a stop in a store has to leave a prefix
 // of its bytes, and the fields of a header are not set in that order.
 fn store_vid_by(h: VidHeader, leb_size: u32, buffer: &mut [u8], image: &mut [u8], at: usize)
-    requires { ⌜ (length (now buffer) ≡ 64) × ((at + 64 ≤ length (now image)) × (isGood (judgeVid «leb_size» h) ≡ true)) ⌝ }
+    requires { ⌜ (length (now buffer) ≡ 64)
+        × ((at + 64 ≤ length (now image)) × (isGood (judgeVid «leb_size» h) ≡ true)) ⌝ }
     ensures { λ _. ⌜ now (image .exit) ≡ put at (vidBytes h) (now (image .entry)) ⌝ }
 {
     header::write_vid(h, leb_size, buffer);

@@ -27,8 +27,10 @@ power-range : (m n : ℕ) → anyBelow m (λ (k : ℕ). eqb n (2 ^ k)) ≡ true 
 power-range zero n e = absurd (false≢true e)
 power-range (suc m) n e =
     ⊎-elim
-    (λ (l : anyBelow m (λ (k : ℕ). eqb n (2 ^ k)) ≡ true). let r = power-range m n l in (r .0, rw pow-suc (omega arith)))
-    (λ (l : eqb n (2 ^ m) ≡ true). let q = eqb-true n (2 ^ m) l in let p = one-le-pow m 2 (lit< tt) in (omega arith, rw pow-suc (omega arith)))
+    (λ (l : anyBelow m (λ (k : ℕ). eqb n (2 ^ k)) ≡ true). let r = power-range m n l in
+    (r .0, rw pow-suc (omega arith)))
+    (λ (l : eqb n (2 ^ m) ≡ true). let q = eqb-true n (2 ^ m) l in let p = one-le-pow m 2 (lit< tt) in
+    (omega arith, rw pow-suc (omega arith)))
     (or-true-cases (anyBelow m (λ (k : ℕ). eqb n (2 ^ k))) (eqb n (2 ^ m)) e)
 
 -- a unit is above 0 and below 8,192
@@ -37,7 +39,8 @@ unfolding goodUnit
 unit-range n e = power-range 13 n e
 
 -- a turn of the search for a power
-pub power-more : (n k : ℕ) → anyBelow k (λ (j : ℕ). eqb n (2 ^ j)) ≡ false → (n ≡ 2 ^ k → ⊥) → anyBelow (k + 1) (λ (j : ℕ). eqb n (2 ^ j)) ≡ false
+pub power-more : (n k : ℕ) → anyBelow k (λ (j : ℕ). eqb n (2 ^ j)) ≡ false → (n ≡ 2 ^ k → ⊥)
+    → anyBelow (k + 1) (λ (j : ℕ). eqb n (2 ^ j)) ≡ false
 power-more n k e h = rw (add-one, e, ne-eqb _ _ h)
 
 pub power-found : (n k : ℕ) → k < 13 → n ≡ 2 ^ k → goodUnit n ≡ true
@@ -66,12 +69,14 @@ round-least m x k h l =
     mul-le-mul-right m (omega arith)
 
 -- ---- refusal 2: one rule broken is enough
-pub outside : (peb unit sub k : ℕ) → getD (geometryRules peb unit sub) k true ≡ false → refused 2 0 ≡ geometryOf peb unit sub
+pub outside : (peb unit sub k : ℕ) → getD (geometryRules peb unit sub) k true ≡ false
+    → refused 2 0 ≡ geometryOf peb unit sub
 unfolding geometryOf
 outside peb unit sub k e = rw (one-broken (geometryRules peb unit sub) k e)
 
 -- the geometry where every rule holds; `vid` and `dat` are the starts as computed
-pub inside : (peb unit sub vid dat : ℕ) → goodUnit unit ≡ true → goodUnit sub ≡ true → sub ≤ unit → 1024 ≤ peb → peb ≤ 262144 → peb % unit ≡ 0
+pub inside : (peb unit sub vid dat : ℕ) → goodUnit unit ≡ true → goodUnit sub ≡ true → sub ≤ unit → 1024 ≤ peb
+    → peb ≤ 262144 → peb % unit ≡ 0
     → vid ≡ roundUp sub 64 → dat ≡ roundUp unit (vid + 64) → dat + 172 ≤ peb
     → given (record { «peb_size» = peb; unit = unit; «sub_unit» = sub; «vid_start» = vid; «data_start» = dat; «leb_size» = peb - dat }) ≡ geometryOf peb unit sub
 unfolding geometryOf geometryRules makeGeometry lebSize dataStart vidStart
@@ -79,7 +84,8 @@ inside peb unit sub vid dat u s o l h m v d z =
     let w : 172 ≤ peb - dat = omega arith in
     rw (← v, ← d, u, s, le-leb _ _ o, le-leb _ _ l, le-leb _ _ h, eq-eqb _ _ m, le-leb _ _ w)
 
-pub too-short : (peb unit sub vid dat : ℕ) → vid ≡ roundUp sub 64 → dat ≡ roundUp unit (vid + 64) → peb < dat + 172 → refused 2 0 ≡ geometryOf peb unit sub
+pub too-short : (peb unit sub vid dat : ℕ) → vid ≡ roundUp sub 64 → dat ≡ roundUp unit (vid + 64) → peb < dat + 172
+    → refused 2 0 ≡ geometryOf peb unit sub
 unfolding geometryRules lebSize dataStart vidStart
 too-short peb unit sub vid dat v d z =
     let w : peb - dat < 172 = omega arith in
@@ -92,7 +98,8 @@ pub no-head : (s : List ℕ) (k : ℕ) → getD (headRules s) k true ≡ false �
 no-head s k e = sym (one-broken (headRules s) k e)
 
 -- with the other tests passed, the last field decides
-pub last-field : (s : List ℕ) {r : Bool} → 17 ≤ length s → hasField 0 1 4 s ≡ true → hasField 7 2 2 s ≡ true → r ≡ hasField 12 3 2 s
+pub last-field : (s : List ℕ) {r : Bool} → 17 ≤ length s → hasField 0 1 4 s ≡ true → hasField 7 2 2 s ≡ true
+    → r ≡ hasField 12 3 2 s
     → r ≡ allOf (headRules s)
 unfolding headRules
 last-field s l a b e = e ∙ rw (le-leb _ _ l, a, b) (sym (and-true (hasField 12 3 2 s)))
@@ -135,7 +142,9 @@ made peb unit sub e =
       leb-least = l;
       peb-most = leb-true peb 262144 (r 4);
       unit-above = u .0;
-      unit-divides = sub-multiple peb (roundUp unit (roundUp sub 64 + 64)) unit (eqb-true (peb % unit) 0 (r 5)) (round-multiple unit (roundUp sub 64 + 64));
+      unit-divides =
+          sub-multiple peb (roundUp unit (roundUp sub 64 + 64)) unit (eqb-true (peb % unit) 0 (r 5))
+          (round-multiple unit (roundUp sub 64 + 64));
     }
 
 given-is : {a b : Geometry} → _≡_ {A = Answer Geometry} (given a) (given b) → a ≡ b

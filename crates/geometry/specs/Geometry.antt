@@ -13,7 +13,7 @@ use Rattle.geometry.specs.declared.GeometryRead.the-variants.{Good, Malf
 unfoldable pub goodUnit : ℕ → Bool
 goodUnit n = anyBelow 13 (λ (k : ℕ). eqb n (2 ^ k))
 
--- the smallest multiple of m (above 0) that is at least x; that it is so: proofs/Laws.antt, `round-at-least`, `round-multiple`, `round-least`
+-- the smallest multiple of m (above 0) that is at least x: `round-at-least`, `round-multiple`, `round-least` of proofs
 unfoldable pub roundUp : ℕ → ℕ → ℕ
 roundUp m x = (x + (m - 1)) / m * m
 

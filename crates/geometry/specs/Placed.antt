@@ -1,4 +1,4 @@
--- What a geometry within the rules has; contracts of inner functions ask for it, and no public promise does. Assumes nothing.
+-- What a geometry within the rules has: contracts of inner functions ask for it, no public one does. Assumes nothing.
 use mathlib.Core.Path.{_≡_}
 use Prim.Native.Nat.{_+_, _%_, _≤_, _<_}
 use Rattle.geometry.specs.declared.Geometry.{Geometry}

@@ -18,7 +18,7 @@ hasField at tag len s = eqs (part at 3 s) (tag ∷ toBe 2 len)
 unfoldable pub valueAt : ℕ → ℕ → List ℕ → ℕ
 valueAt at len s = beOf (part (at + 3) len s)
 
--- the head, 17 bytes: "In this order, each once: tag 1, length 4, PEB size; tag 2, length 2, unit; tag 3, length 2, sub-unit"
+-- the head: "In this order, each once: tag 1, length 4, PEB size; tag 2, length 2, unit; tag 3, length 2, sub-unit"
 unfoldable pub headRules : List ℕ → List Bool
 headRules s = leb 17 (length s) ∷ hasField 0 1 4 s ∷ hasField 7 2 2 s ∷ hasField 12 3 2 s ∷ []
 

@@ -10,7 +10,9 @@ pub use slip::read_slip;
 // Where headers and data stand in a physical block (PEB), and how long a logical one (LEB) is.
 pub struct Geometry {
     pub peb_size: u32,
+    // the minimal I/O unit: the page that is written at once
     pub unit: u32,
+    // the part of a page that can be written alone, where the VID header may start
     pub sub_unit: u32,
     pub vid_start: u32,
     pub data_start: u32,

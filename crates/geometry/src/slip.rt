@@ -1,4 +1,4 @@
-// The slip: a run of fields, each a one-byte tag, a two-byte length and a value. It is a head of three numbers and a tail.
+// The slip: a run of fields, each a one-byte tag, a two-byte length and a value; a head of three numbers, and a tail.
 ghost use mathlib.Core.Path.{_≡_};
 ghost use Rattle.base.specs.Answers.{allOf};
 ghost use Rattle.geometry.specs.Geometry.{geometryRead};

@@ -1,3 +1,1 @@
-pub mod Laws
-pub mod Told
-pub mod Count
+pub mod Graded

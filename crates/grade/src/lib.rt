@@ -1,50 +1,39 @@
-// From the words of the report: how many entries the map has, and the grade.
+// The grade, from the words of the report.
 ghost use mathlib.Core.Path.{_≡_};
-ghost use Prim.Native.Nat.{_+_, _*_, _≤_, _<_};
-ghost use lib.ListN.{length, take};
+ghost use mathlib.Core.List.{List};
+ghost use Prim.Native.Nat.{ℕ, _≤_};
+ghost use lib.ListN.{length};
 ghost use Rattle.base.specs.Below.{allBelow};
 ghost use Rattle.geometry.specs.declared.Geometry.{Geometry};
-ghost use Rattle.report.specs.View.{Views};
-ghost use Rattle.report.specs.Report.{entries, gradeOf};
-ghost use Rattle.report.specs.Attach.{mapWords};
+ghost use Rattle.words.specs.Words.{pebWordsNeeded, stateWordsNeeded, HasPeb};
+ghost use Rattle.report.specs.View.{mediumOf};
+ghost use Rattle.report.specs.Report.{gradeOf};
 ghost use Rattle.grade.specs.Words.{soundPeb, soundState, Read};
-use report::NO_WORD;
 use report::class;
 use report::state;
-
-// How many entries the sorted map has: no entry's volume is the unused word, and unused words come last.
-pub fn count_entries(map: &[u32], n: usize) -> usize
-    requires { ⌜ n * 3 ≤ length (now map) ⌝ }
-    ensures { λ r. ⌜ ((g : Geometry) (vs : Views) → take (n * 3) (now (map .entry)) ≡ mapWords n (entries g n vs)
-        → r ≡ length (entries g n vs)) ⌝ }
-{
-    let mut k: usize = 0;
-    while k < n {
-        if map[k * 3] == NO_WORD {
-            return k;
-        }
-        k += 1;
-    }
-    n
-}
+use words::NO_WORD;
+use words::STATE_WORDS;
+use words::class_word;
+use words::counter_word;
 
 // Is the PEB readable, with its counter unless it is blank?
 fn peb_sound(pebs: &[u32], i: usize) -> bool
-    requires { ⌜ (i < 4096) × (i * 2 + 2 ≤ length (now pebs)) ⌝ }
+    requires { ⌜ HasPeb (now pebs) i ⌝ }
     ensures { λ r. ⌜ r ≡ soundPeb (now (pebs .entry)) i ⌝ }
 {
-    if pebs[i * 2] == class::UNREADABLE {
+    let peb_class = class_word(pebs, i);
+    if peb_class == class::UNREADABLE {
         return false;
     }
-    if pebs[i * 2] == class::BLANK {
+    if peb_class == class::BLANK {
         return true;
     }
-    pebs[i * 2 + 1] != NO_WORD
+    counter_word(pebs, i) != NO_WORD
 }
 
 // Are all n PEBs sound? One that is not decides it.
 fn pebs_sound(pebs: &[u32], n: usize) -> bool
-    requires { ⌜ (n ≤ 4096) × (n * 2 ≤ length (now pebs)) ⌝ }
+    requires { ⌜ pebWordsNeeded n ≤ length (now pebs) ⌝ }
     ensures { λ r. ⌜ r ≡ allBelow n (soundPeb (now (pebs .entry))) ⌝ }
 {
     let mut i: usize = 0;
@@ -59,11 +48,11 @@ fn pebs_sound(pebs: &[u32], n: usize) -> bool
 
 // Is no volume state 2 or 3? One that is decides it.
 fn states_sound(states: &[u32]) -> bool
-    requires { ⌜ 128 ≤ length (now states) ⌝ }
-    ensures { λ r. ⌜ r ≡ allBelow 128 (soundState (now (states .entry))) ⌝ }
+    requires { ⌜ stateWordsNeeded ≤ length (now states) ⌝ }
+    ensures { λ r. ⌜ r ≡ allBelow stateWordsNeeded (soundState (now (states .entry))) ⌝ }
 {
     let mut v: usize = 0;
-    while v < 128 {
+    while v < STATE_WORDS {
         if states[v] == state::UPDATING {
             return false;
         }
@@ -77,8 +66,10 @@ fn states_sound(states: &[u32]) -> bool
 
 // The grade: 0 if nothing in the report is amiss, else 1.
 pub fn grade(pebs: &[u32], states: &[u32], n: usize, mark: u32) -> u32
-    requires { ⌜ (n ≤ 4096) × ((n * 2 ≤ length (now pebs)) × (128 ≤ length (now states))) ⌝ }
-    ensures { λ r. ⌜ ((g : Geometry) (vs : Views) → Read g n vs (now (pebs .entry)) (now (states .entry)) mark → r ≡ gradeOf g n vs) ⌝ }
+    requires { ⌜ (pebWordsNeeded n ≤ length (now pebs)) × (stateWordsNeeded ≤ length (now states)) ⌝ }
+    ensures { λ r. ⌜ ((g : Geometry) (image : List ℕ)
+        → Read (mediumOf g n image) (now (pebs .entry)) (now (states .entry)) mark
+        → r ≡ gradeOf (mediumOf g n image)) ⌝ }
 {
     if mark != 0 {
         return 1;

@@ -77,7 +77,8 @@ pub bad-not : {A : Type 0} {h : A} → bad ≡ good h → ⊥
 bad-not e = let z : _≡_ {A = ℕ} 0 1 = cc in omega arith
 
 module _ {A : Type 0} {x h : A} where
-  judged-good : (one zero b : Bool) → cond one (cond b (good x) bad) (cond zero bad newer) ≡ good h → (x ≡ h) × (b ≡ true)
+  judged-good : (one zero b : Bool) → cond one (cond b (good x) bad) (cond zero bad newer) ≡ good h
+      → (x ≡ h) × (b ≡ true)
   judged-good true zero true e = (cc, refl)
   judged-good true zero false e = absurd (bad-not e)
   judged-good false true b e = absurd (bad-not e)
@@ -95,7 +96,8 @@ ec-good s e =
     let r = read-good (eqs (part 0 4 s) ecMagic && crcMatches s) (ecFields s .version) (ecRules (ecFields s)) e in
     (r .0, rw (← (r .0)) (leb-true (ecFields s .counter) 0x7FFFFFFF (each-holds (ecRules (ecFields s)) (r .1) 0)))
 
-pub vid-good : (size : ℕ) (s : List ℕ) {h : VidHeader} → readVid size s ≡ good h → (vidFields s ≡ h) × (allOf (vidRules size h) ≡ true)
+pub vid-good : (size : ℕ) (s : List ℕ) {h : VidHeader} → readVid size s ≡ good h
+    → (vidFields s ≡ h) × (allOf (vidRules size h) ≡ true)
 unfolding readVid judgeVid
 vid-good size s e =
     let r = read-good (eqs (part 0 4 s) vidMagic && crcMatches s) (vidFields s .version) (vidRules size (vidFields s)) e in

@@ -51,7 +51,8 @@ module _ {A : Type 0} where
 
   module _ (v : Verdict A) (bytes out : List ℕ) where
     -- a good header is written to 64 bytes or more, and the others stay
-    writes : 64 ≤ length out → isGood v ≡ true → (headerWritten v out ≡ given tt) × (headerOut v bytes out ≡ bytes ++ drop 64 out)
+    writes : 64 ≤ length out → isGood v ≡ true
+        → (headerWritten v out ≡ given tt) × (headerOut v bytes out ≡ bytes ++ drop 64 out)
     writes long g = (rw (le-ltb _ _ long, g), rw (le-ltb _ _ long, g))
 
     -- a write that was not refused
@@ -68,7 +69,8 @@ module _ (l : List ℕ) (b : Bytes l) (long : 64 ≤ length l) where
   bytes-on : (at w : ℕ) {a z : List ℕ} → part at w l ≡ z → take at l ≡ a → take (at + w) l ≡ a ++ z
   bytes-on at w q p = take-add at w l ∙ ap₂ _++_ p q
 
-  field-on : (at w : ℕ) {a : List ℕ} → T (leb (at + w) 64) → take at l ≡ a → take (at + w) l ≡ a ++ toBe w (beOf (part at w l))
+  field-on : (at w : ℕ) {a : List ℕ} → T (leb (at + w) 64) → take at l ≡ a
+      → take (at + w) l ≡ a ++ toBe w (beOf (part at w l))
   field-on at w k p =
       let h = leb→le (at + w) 64 k in
       bytes-on at w (sym (written-read at w l (omega arith) b)) p
@@ -84,7 +86,8 @@ module _ (l : List ℕ) (b : Bytes l) (long : 64 ≤ length l) where
   unfolding ecHead ecFields
   ec-head-is z m =
       bytes-on 28 32 (z .zero-28)
-      (field-on 24 4 tt (field-on 20 4 tt (field-on 16 4 tt (field-on 8 8 tt (bytes-on 5 3 (z .zero-5) (field-on 4 1 tt m))))))
+      (field-on 24 4 tt (field-on 20 4 tt
+      (field-on 16 4 tt (field-on 8 8 tt (bytes-on 5 3 (z .zero-5) (field-on 4 1 tt m))))))
 
   vid-head-is : VidPadded l → take 4 l ≡ vidMagic → take 60 l ≡ vidHead (vidFields l)
   unfolding vidHead vidFields
@@ -95,7 +98,8 @@ module _ (l : List ℕ) (b : Bytes l) (long : 64 ≤ length l) where
 
 -- ---- of both headers, by their magic, version, rules, fields and bytes 0-59
 
-module _ {A : Type 0} (magic : List ℕ) (version : A → ℕ) (rules : A → List Bool) (fields : List ℕ → A) (head : A → List ℕ) where
+module _ {A : Type 0} (magic : List ℕ) (version : A → ℕ) (rules : A → List Bool) (fields : List ℕ → A)
+    (head : A → List ℕ) where
   abbrev judge : A → Verdict A
   judge h = judged (version h) (rules h) h
 
@@ -145,7 +149,8 @@ module _ (h : EcHeader) (t : List ℕ) where
 
   ec-crcMatches : crcMatches (ecBytes h ++ t) ≡ true
   unfolding crcMatches ecBytes ecHead toBeOn
-  ec-crcMatches = eq-eqb (crcOf (ecHead h)) _ (sym (read-back-fits 4 (crcOf (ecHead h)) (crcOf-lt (ecHead h) ec-head-bytes)))
+  ec-crcMatches =
+      eq-eqb (crcOf (ecHead h)) _ (sym (read-back-fits 4 (crcOf (ecHead h)) (crcOf-lt (ecHead h) ec-head-bytes)))
 
   ec-magic : eqs (part 0 4 (ecBytes h ++ t)) ecMagic ≡ true
   unfolding eqs ecBytes ecHead toBeOn
@@ -169,13 +174,17 @@ module _ (h : EcHeader) (t : List ℕ) where
 pub ec-written-read : (h : EcHeader) (out : List ℕ) → EcFits h → ecWritten h out ≡ given tt
     → (s : List ℕ) → take 64 s ≡ take 64 (ecOut h out) → ecRead s ≡ given (good h)
 unfolding ecWritten ecOut ecRead readEc judgeEc ecBytes
-ec-written-read h out f = both-written-read ecMagic (λ (x : EcHeader). x .version) ecRules ecFields ecHead h out (ec-64 h) (λ t. ec-judged h t f)
+ec-written-read h out f =
+    both-written-read ecMagic (λ (x : EcHeader). x .version) ecRules ecFields ecHead h out (ec-64 h)
+    (λ t. ec-judged h t f)
 
-pub ec-read-written : (l out : List ℕ) (h : EcHeader) → Bytes l → ecRead l ≡ given (good h) → EcPadded l → 64 ≤ length out
+pub ec-read-written : (l out : List ℕ) (h : EcHeader) → Bytes l → ecRead l ≡ given (good h) → EcPadded l
+    → 64 ≤ length out
     → (ecWritten h out ≡ given tt) × (ecOut h out ≡ take 64 l ++ drop 64 out)
 unfolding ecRead ecWritten ecOut readEc judgeEc ecBytes
 ec-read-written l out h b r z =
-    both-read-written ecMagic (λ (x : EcHeader). x .version) ecRules ecFields ecHead l out h b r (λ n. ec-head-is l b n z)
+    both-read-written ecMagic (λ (x : EcHeader). x .version) ecRules ecFields ecHead l out h b r
+    (λ n. ec-head-is l b n z)
 
 -- what is read is as large as its bytes allow
 pub ec-read-fits : (l : List ℕ) → Bytes l → 64 ≤ length l → EcFits (ecFields l)
@@ -200,7 +209,8 @@ module _ (h : VidHeader) (t : List ℕ) where
 
   vid-crcMatches : crcMatches (vidBytes h ++ t) ≡ true
   unfolding crcMatches vidBytes vidHead toBeOn
-  vid-crcMatches = eq-eqb (crcOf (vidHead h)) _ (sym (read-back-fits 4 (crcOf (vidHead h)) (crcOf-lt (vidHead h) vid-head-bytes)))
+  vid-crcMatches =
+      eq-eqb (crcOf (vidHead h)) _ (sym (read-back-fits 4 (crcOf (vidHead h)) (crcOf-lt (vidHead h) vid-head-bytes)))
 
   vid-magic : eqs (part 0 4 (vidBytes h ++ t)) vidMagic ≡ true
   unfolding eqs vidBytes vidHead toBeOn
@@ -233,13 +243,16 @@ module _ (size : ℕ) where
       → (s : List ℕ) → take 64 s ≡ take 64 (vidOut size h out) → vidRead size s ≡ given (good h)
   unfolding vidWritten vidOut vidRead readVid judgeVid vidBytes
   vid-written-read h out f =
-      both-written-read vidMagic (λ (x : VidHeader). x .version) (vidRules size) vidFields vidHead h out (vid-64 h) (λ t. vid-judged h t size f)
+      both-written-read vidMagic (λ (x : VidHeader). x .version) (vidRules size) vidFields vidHead h out (vid-64 h)
+      (λ t. vid-judged h t size f)
 
-  pub vid-read-written : (l out : List ℕ) (h : VidHeader) → Bytes l → vidRead size l ≡ given (good h) → VidPadded l → 64 ≤ length out
+  pub vid-read-written : (l out : List ℕ) (h : VidHeader) → Bytes l → vidRead size l ≡ given (good h) → VidPadded l
+      → 64 ≤ length out
       → (vidWritten size h out ≡ given tt) × (vidOut size h out ≡ take 64 l ++ drop 64 out)
   unfolding vidRead vidWritten vidOut readVid judgeVid vidBytes
   vid-read-written l out h b r z =
-      both-read-written vidMagic (λ (x : VidHeader). x .version) (vidRules size) vidFields vidHead l out h b r (λ n. vid-head-is l b n z)
+      both-read-written vidMagic (λ (x : VidHeader). x .version) (vidRules size) vidFields vidHead l out h b r
+      (λ n. vid-head-is l b n z)
 
 -- what is read is as large as its bytes allow
 pub vid-read-fits : (l : List ℕ) → Bytes l → 64 ≤ length l → VidFits (vidFields l)

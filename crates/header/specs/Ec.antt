@@ -19,7 +19,7 @@ use Rattle.header.specs.declared.EcRead.the-variants.{Good, Lost, Newer,
 abbrev pub ecMagic : List ℕ
 ecMagic = 0x55 ∷ 0x42 ∷ 0x49 ∷ 0x23 ∷ []
 
--- "version 4, .. counter 8-15, VID start 16-19, data start 20-23, image sequence 24-27"
+-- the fields in a header's bytes
 unfoldable pub ecFields : List ℕ → EcHeader
 ecFields s = record {
   version = numberIn ecVersion s;
@@ -50,12 +50,12 @@ ecAnswer Lost = given bad
 ecAnswer Newer = refused 5 0
 ecAnswer Short = refused 4 0
 
--- bytes 0-59 as they are written: "magic `UBI#` 0-3, version 4, zero 5-7, counter 8-15, VID start 16-19, data start 20-23, image sequence
--- 24-27, zero 28-59"; "Padding is written as zero and read only through the CRC."
+-- bytes 0-59 as they are written: "magic `UBI#` 0-3, version 4, zero 5-7, counter 8-15, VID start 16-19,
+-- data start 20-23, image sequence 24-27, zero 28-59"; "Padding is written as zero and read only through the CRC."
 unfoldable pub ecHead : EcHeader → List ℕ
 ecHead h =
-    ecMagic ++ toBe 1 (h .version) ++ replicate 3 0 ++ toBe 8 (h .counter) ++ toBe 4 (h .«vid_start») ++ toBe 4 (h .«data_start»)
-    ++ toBe 4 (h .«image_seq») ++ replicate 32 0
+    ecMagic ++ toBe 1 (h .version) ++ replicate 3 0 ++ toBe 8 (h .counter)
+    ++ toBe 4 (h .«vid_start») ++ toBe 4 (h .«data_start») ++ toBe 4 (h .«image_seq») ++ replicate 32 0
 
 unfoldable pub ecBytes : EcHeader → List ℕ
 ecBytes h = headerBytes (ecHead h)

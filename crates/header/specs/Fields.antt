@@ -72,15 +72,15 @@ headerCrc = field 60 4
 abbrev pub fields : List Field
 fields =
     ecVersion ∷ ecCounter ∷ ecVidStart ∷ ecDataStart ∷ ecImageSeq
-    ∷ vidVersion ∷ vidType ∷ vidCopyFlag ∷ vidCompat ∷ vidVolume ∷ vidLnum ∷ vidDataSize ∷ vidUsedLebs ∷ vidDataPad ∷ vidDataCrc ∷ vidSequence
-    ∷ headerCrc ∷ []
+    ∷ vidVersion ∷ vidType ∷ vidCopyFlag ∷ vidCompat ∷ vidVolume ∷ vidLnum
+    ∷ vidDataSize ∷ vidUsedLebs ∷ vidDataPad ∷ vidDataCrc ∷ vidSequence ∷ headerCrc ∷ []
 
 -- "CRC of bytes 0-59 at 60-63": does it match?
 unfoldable pub crcMatches : List ℕ → Bool
 crcMatches s = eqb (crcOf (take 60 s)) (numberIn headerCrc s)
 
--- what a header is: good with its fields; bad, which is 01's "lost" of an EC header and "bad" of a VID header; newer, with magic and
--- CRC right and "a version above 1"
+-- what a header is: good with its fields; bad, 01's "lost" of an EC header and "bad" of a VID header; newer, with magic
+-- and CRC right and "a version above 1"
 pub data Verdict (A : Type 0) : Type 0 where
   good : A → Verdict A
   bad : Verdict A
@@ -104,8 +104,7 @@ module _ {A : Type 0} where
   abbrev pub readHeader : List ℕ → (List ℕ → Verdict A) → List ℕ → Verdict A
   readHeader magic judge s = cond (eqs (part 0 4 s) magic && crcMatches s) (judge s) bad
 
-  -- a verdict as an answer: a newer header is refusal 5, "header version above 1"; its place, the PEB, is known to
-  -- attaching alone
+  -- a verdict as an answer: a newer header is refusal 5, "header version above 1"; its place is known to attaching
   abbrev pub verdictAnswer : Verdict A → Answer (Verdict A)
   verdictAnswer (good h) = given (good h)
   verdictAnswer bad = given bad
@@ -115,8 +114,8 @@ module _ {A : Type 0} where
   abbrev pub lentHeader : Verdict A → List ℕ → Answer (Verdict A)
   lentHeader v s = cond (ltb (length s) 64) (refused 4 0) (verdictAnswer v)
 
-  -- refusal 4, then 19: "reader would call the header lost, bad or newer"; that the reader calls a written header what its fields
-  -- make it, good or not, is `ec-judged` and `vid-judged` of proofs/RoundTrip.antt
+  -- refusal 4, then 19: "reader would call the header lost, bad or newer"; that the reader calls a written header what
+  -- its fields make it, good or not, is `ec-judged` and `vid-judged` of proofs/RoundTrip.antt
   abbrev pub headerWritten : Verdict A → List ℕ → Answer (Unit {0})
   headerWritten v out = cond (ltb (length out) 64) (refused 4 0) (cond (isGood v) (given tt) (refused 19 0))
 

@@ -20,8 +20,7 @@ use Rattle.header.specs.declared.VidRead.the-variants.{Good, Bad, Newer,
 abbrev pub vidMagic : List ℕ
 vidMagic = 0x55 ∷ 0x42 ∷ 0x49 ∷ 0x21 ∷ []
 
--- "version 4, type 5, copy flag 6, compatibility 7, volume 8-11, LEB 12-15, .. data size 20-23, used LEBs 24-27, data pad 28-31,
--- data CRC 32-35, .. sequence 40-47"
+-- the fields in a header's bytes
 unfoldable pub vidFields : List ℕ → VidHeader
 vidFields s = record {
   version = numberIn vidVersion s;
@@ -62,9 +61,10 @@ unfoldable pub volumeRule : VidHeader → Bool
 volumeRule h =
     (ltb (h .volume) 128 && eqb (h .compat) 0)
     || (leb layoutVolume (h .volume)
-    && (leb (h .volume) 0x7FFFFFFF && (eqb (h .compat) 1 || (eqb (h .compat) 2 || (eqb (h .compat) 4 || eqb (h .compat) 5)))))
+    && (leb (h .volume) 0x7FFFFFFF
+    && (eqb (h .compat) 1 || (eqb (h .compat) 2 || (eqb (h .compat) 4 || eqb (h .compat) 5)))))
 
--- `size` is the LEB size: "static: LEB below used LEBs, data size above 0, and equal to LEB size less pad unless LEB is the last used"
+-- "static: LEB below used LEBs, data size above 0, and equal to LEB size less pad unless LEB is the last used"
 unfoldable pub staticRule : ℕ → VidHeader → Bool
 staticRule size h =
     implies (eqb (h .«vol_type») 2)
@@ -113,12 +113,14 @@ vidAnswer Bad = given bad
 vidAnswer Newer = refused 5 0
 vidAnswer Short = refused 4 0
 
--- bytes 0-59 as they are written: "magic `UBI!` 0-3, version 4, type 5, copy flag 6, compatibility 7, volume 8-11, LEB 12-15, zero 16-19,
--- data size 20-23, used LEBs 24-27, data pad 28-31, data CRC 32-35, zero 36-39, sequence 40-47, zero 48-59"; "Padding is written as zero and read only through the CRC."
+-- bytes 0-59 as they are written: "magic `UBI!` 0-3, version 4, type 5, copy flag 6, compatibility 7, volume 8-11,
+-- LEB 12-15, zero 16-19, data size 20-23, used LEBs 24-27, data pad 28-31, data CRC 32-35, zero 36-39, sequence 40-47,
+-- zero 48-59"; "Padding is written as zero and read only through the CRC."
 unfoldable pub vidHead : VidHeader → List ℕ
 vidHead h =
-    vidMagic ++ toBe 1 (h .version) ++ toBe 1 (h .«vol_type») ++ toBe 1 (h .«copy_flag») ++ toBe 1 (h .compat) ++ toBe 4 (h .volume)
-    ++ toBe 4 (h .lnum) ++ replicate 4 0 ++ toBe 4 (h .«data_size») ++ toBe 4 (h .«used_lebs») ++ toBe 4 (h .«data_pad»)
+    vidMagic ++ toBe 1 (h .version) ++ toBe 1 (h .«vol_type») ++ toBe 1 (h .«copy_flag») ++ toBe 1 (h .compat)
+    ++ toBe 4 (h .volume) ++ toBe 4 (h .lnum) ++ replicate 4 0
+    ++ toBe 4 (h .«data_size») ++ toBe 4 (h .«used_lebs») ++ toBe 4 (h .«data_pad»)
     ++ toBe 4 (h .«data_crc») ++ replicate 4 0 ++ toBe 8 (h .sequence) ++ replicate 12 0
 
 unfoldable pub vidBytes : VidHeader → List ℕ

@@ -6,7 +6,7 @@ ghost use lib.ListN.{length};
 ghost use Rattle.base.specs.Lists.{part, eqs};
 ghost use Rattle.field.specs.Fields.{row, numberIn, stored};
 ghost use Rattle.header.specs.Fields.{fields, crcMatches};
-ghost use Rattle.header.specs.Stores.{blankHeader, withSum};
+ghost use Rattle.header.specs.Stores.{headerBegun, crcStored};
 use field::Field;
 
 pub const EC_VERSION: usize = 0;
@@ -103,7 +103,7 @@ pub fn is_header(s: &[u8], magic: &[u8]) -> bool
 // The header's bytes are cleared and the magic is stored.
 pub fn begin(out: &mut [u8], magic: &[u8])
     requires { ⌜ (64 ≤ length (now out)) × (length (now magic) ≡ 4) ⌝ }
-    ensures { λ _. ⌜ now (out .exit) ≡ blankHeader (now (magic .entry)) (now (out .entry)) ⌝ }
+    ensures { λ _. ⌜ now (out .exit) ≡ headerBegun (now (magic .entry)) (now (out .entry)) ⌝ }
 {
     base::fill(out, 64, 0);
     base::store(out, 0, magic)
@@ -112,7 +112,7 @@ pub fn begin(out: &mut [u8], magic: &[u8])
 // The header's CRC is stored.
 pub fn finish(out: &mut [u8])
     requires { ⌜ 64 ≤ length (now out) ⌝ }
-    ensures { λ _. ⌜ now (out .exit) ≡ withSum (now (out .entry)) ⌝ }
+    ensures { λ _. ⌜ now (out .exit) ≡ crcStored (now (out .entry)) ⌝ }
 {
     let sum = crc32::crc32(&out[0..60]);
     set(out, HEADER_CRC, sum as u64)

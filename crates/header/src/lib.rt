@@ -1,4 +1,4 @@
-// The erase counter (EC) header and the volume identifier (VID) header of a physical block: 64 bytes each, read and written.
+// The erase counter (EC) and volume identifier (VID) headers of a physical block: 64 bytes each, read and written.
 mod ec_header;
 mod fields;
 mod vid_header;

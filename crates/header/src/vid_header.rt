@@ -5,7 +5,7 @@ ghost use lib.ListN.{length};
 ghost use Rattle.header.specs.Fields.{isGood, written, verdictAnswer};
 ghost use Rattle.header.specs.Vid.{vidFields, IsVidField, vidField, judgeVid, vidRead, vidAnswer, vidWritten};
 ghost use Rattle.header.specs.Vid.{vidOut};
-ghost use Rattle.header.specs.Stores.{kindStored, placeStored, dataStored};
+ghost use Rattle.header.specs.Stores.{kindStored, volumeStored, dataStored};
 use crate::VidHeader;
 use crate::VidRead;
 use crate::Written;
@@ -106,9 +106,9 @@ fn set_kind(h: VidHeader, out: &mut [u8])
 }
 
 // Volume, LEB and sequence are stored.
-fn set_place(h: VidHeader, out: &mut [u8])
+fn set_volume(h: VidHeader, out: &mut [u8])
     requires { ⌜ 64 ≤ length (now out) ⌝ }
-    ensures { λ _. ⌜ now (out .exit) ≡ placeStored h (now (out .entry)) ⌝ }
+    ensures { λ _. ⌜ now (out .exit) ≡ volumeStored h (now (out .entry)) ⌝ }
 {
     set(out, VID_VOLUME, h.volume as u64);
     set(out, VID_LNUM, h.lnum as u64);
@@ -128,7 +128,8 @@ fn set_data(h: VidHeader, out: &mut [u8])
 
 // The header is written to the first 64 bytes, with its CRC and zero padding.
 pub fn write_vid(h: VidHeader, leb_size: u32, out: &mut [u8]) -> Written
-    ensures { λ r. ⌜ (written r ≡ vidWritten «leb_size» h (now (out .entry))) × (now (out .exit) ≡ vidOut «leb_size» h (now (out .entry))) ⌝ }
+    ensures { λ r. ⌜ (written r ≡ vidWritten «leb_size» h (now (out .entry)))
+        × (now (out .exit) ≡ vidOut «leb_size» h (now (out .entry))) ⌝ }
 {
     if out.len() < 64 {
         return Written::Short;
@@ -138,7 +139,7 @@ pub fn write_vid(h: VidHeader, leb_size: u32, out: &mut [u8]) -> Written
     }
     begin(out, b"UBI!");
     set_kind(h, out);
-    set_place(h, out);
+    set_volume(h, out);
     set_data(h, out);
     finish(out);
     Written::Done

@@ -1,14 +1,15 @@
--- A job that is run to its end: done or refused, and the course to the end that the power-cut theorem speaks of. Assumes nothing.
+-- A job that is run to its end: done or refused, and the course to the end that the power-cut theorem speaks of.
+-- Assumes nothing.
 use mathlib.Core.Path.{_≡_, refl, sym, ap, _∙_}
 use mathlib.Core.Logic.{_⊎_, inl, inr}
-use mathlib.Core.Bool.{Bool, true, false, cond}
+use mathlib.Core.Bool.{Bool, true, false}
 use mathlib.Core.List.{List}
 use Prim.Native.Nat.{ℕ, zero, suc, _+_, _-_, _≤_, _<_}
 use native.Mathlib.Omega.{arith}
 use lib.Dec.{ltb}
 use borrow.Author.Tests.{ltb-true, ltb-false}
 use Rattle.base.specs.Answers.{Answer, given, refused}
-use Rattle.job.specs.Write.{nothing, appliedWhole}
+use Rattle.job.specs.Write.{appliedWhole}
 use Rattle.job.specs.Job.{Job, Progress, on, done, stepWrite, stepAnswer, Stepping, stepping, followed, runFor, finishing}
 use Rattle.job.specs.Course.{toEnd, planLeft, nextStep, oneStep, afterSteps, imageLeft}
 use Rattle.job.proofs.Writes.{whole-length}
@@ -104,7 +105,8 @@ module _ {P : Type 0} (J : Job P) (L : Lawful J) where
   none-more p image o i zero = refl
   none-more p image o i (suc k) = ap (oneStep J) (none-more p image o i k) ∙ (λ j. record { plan = plan-stays p o j; image = i j })
 
-  -- after k steps no more go on: the next step's answer and image are what running at most n steps gives, and it changes nothing
+  -- after k steps no more go on: the next step's answer and image are what running at most n steps gives, and it
+  -- changes nothing
   record Ended (n : ℕ) (p : P) (image : List ℕ) (k : ℕ) : Type 0 where
     runs : runFor J n p image ≡ nextStep J (afterSteps J p image k)
     stands : nextStep J (afterSteps J p image k) .image ≡ afterSteps J p image k .image
@@ -136,8 +138,8 @@ module _ {P : Type 0} (J : Job P) (L : Lawful J) where
   enough-steps (suc n) p image k h l =
       by-next n p image k l (next-step p image) (λ q j s e. enough-steps n q (stepping J p image .image) j (omega arith) (omega arith))
 
-  -- of every plan and image, whatever number of further steps the course has: the image is the one that the course to the end leaves, and
-  -- the answer that of a further step: done or refused
+  -- of every plan and image, whatever number of further steps the course has: the image is the one that the course to
+  -- the end leaves, and the answer that of a further step: done or refused
   pub record ToEnd (p : P) (image : List ℕ) (further : ℕ) : Type 0 where
     pub image-is : finishing J p image .image ≡ imageLeft J p image (toEnd further)
     pub answer-is : finishing J p image .answer ≡ nextStep J (afterSteps J p image (J .count p image + further)) .answer

@@ -6,4 +6,5 @@ pub mod Calls
 pub mod Blocks
 pub mod Seen
 pub mod Relocated
+pub mod Stage
 pub mod Outcomes

@@ -1,7 +1,7 @@
 -- A LEB that gets a new PEB: the bytes of the two PEBs after any number of steps and any cut. Assumes nothing.
 use mathlib.Core.Path.{_≡_, refl, sym, _∙_, ap, ap₂, subst}
 use mathlib.Core.Logic.{_≢_, _⊎_, inl, inr, ⊎-elim}
-use mathlib.Core.Bool.{Bool, true, false, cond}
+use mathlib.Core.Bool.{Bool}
 use mathlib.Core.List.{List, _++_}
 use Prim.Native.Nat.{ℕ, zero, suc, _+_, _-_, _*_, _≤_, _<_, min}
 use native.Mathlib.Omega.{arith}
@@ -10,18 +10,19 @@ use lib.Dec.{ltb, eqb}
 use borrow.Author.Tests.{lt-ltb, le-ltb, eq-eqb, ne-eqb, ltb-true}
 use lib.ListN.{length, take, drop, replicate, length-take, length-replicate}
 use lib.Seq.{take-at, take-all, take-add, drop-drop}
-use Rattle.base.specs.Lists.{part, put, Bytes}
+use Rattle.base.specs.Lists.{part, put}
+use Rattle.base.proofs.Answers.{by-test}
 use Rattle.base.proofs.Below.{below-suc}
 use Rattle.base.proofs.Lists.{length-part}
-use Rattle.base.proofs.Stores.{length-put, put-all, put-from, put-before, put-behind}
+use Rattle.base.proofs.Stores.{put-all, put-from, put-before, put-behind}
 use Rattle.geometry.specs.Placed.{Placed}
 use Rattle.geometry.specs.declared.Geometry.{Geometry}
 use Rattle.report.specs.View.{vidPart, pebAt}
 use Rattle.job.specs.Write.{Write, store, erase, nothing, appliedWhole, appliedCut, erasedIn, pebStart}
 use Rattle.job.specs.Relocation.{Relocation, relocating}
-use Rattle.job.proofs.Writes.{Within, length-erased, erased-all, Octets}
+use Rattle.job.proofs.Writes.{length-erased}
 use Rattle.job.proofs.Runs.{written}
-use Rattle.job.proofs.Blocks.{room, peb-length, put-length, put-here, put-else}
+use Rattle.job.proofs.Blocks.{peb-length, put-length, put-here, put-else}
 
 -- ---- the write of each step
 
@@ -53,15 +54,9 @@ module _ (g : Geometry) (r : Relocation) where
       → S (erase (pebStart g (r .old)) (g .«peb_size»)) → S (store (pebStart g (r .old)) (r .ec)) → S nothing → (k : ℕ) → S (relocating g r k)
   unfolding relocating
   each-write S v u e c n zero = v
-  each-write S v u e c n (suc j) = go (ltb j (r .units)) refl (eqb j (r .units)) (eqb j (r .units + 1))
-    where
-      go : (a : Bool) → ltb j (r .units) ≡ a → (x y : Bool)
-          → S (cond a (store (pebStart g (r .target) + (g .«data_start» + j * g .unit)) (r .unit j))
-          (cond x (erase (pebStart g (r .old)) (g .«peb_size»)) (cond y (store (pebStart g (r .old)) (r .ec)) nothing)))
-      go true h x y = u j (ltb-true j (r .units) h)
-      go false h true y = e
-      go false h false true = c
-      go false h false false = n
+  each-write S v u e c n (suc j) =
+      by-test (ltb j (r .units)) (λ h. rw h (u j (ltb-true j (r .units) h)))
+      (λ h. rw h (by-test (eqb j (r .units)) (λ q. rw q e) (λ q. rw q (by-test (eqb j (r .units + 1)) (λ x. rw x c) (λ x. rw x n)))))
 
 -- ---- the two PEBs
 
@@ -81,11 +76,32 @@ pub record Sited (g : Geometry) (n d : ℕ) (r : Relocation) : Type 0 where
 abbrev pub withUnits : Relocation → (ℕ → List ℕ) → Relocation
 withUnits r unit = record { old = r .old; target = r .target; vid = r .vid; ec = r .ec; units = r .units; unit = unit }
 
--- D is the data, O and T the two PEBs at first; as long as the old PEB is what it was, the units are the data's
-module _ (g : Geometry) (n d : ℕ) (r : Relocation) (s : Sited g n d r) (image : List ℕ) (len : length image ≡ n * g .«peb_size»)
-    (D : List ℕ) (long-D : length D ≡ d) (unitIn : List ℕ → ℕ → List ℕ)
-    (unit-is : (y : List ℕ) → length y ≡ length image → pebAt g y (r .old) ≡ pebAt g image (r .old) → (j : ℕ) → j < r .units
-    → unitIn y j ≡ part (j * g .unit) (min (g .unit) (d - j * g .unit)) D) where
+-- on an image of n PEBs, with `size` bytes of data: as long as the old PEB is what it was, the units are those of the
+-- data
+pub record Relocates (g : Geometry) (n : ℕ) (image : List ℕ) : Type 0 where
+  pub relocation : Relocation
+  pub size : ℕ
+  pub bytes : List ℕ
+  pub unit-in : List ℕ → ℕ → List ℕ
+  pub sited : Sited g n size relocation
+  pub long : length image ≡ n * g .«peb_size»
+  pub long-bytes : length bytes ≡ size
+  pub unit-is : (y : List ℕ) → pebAt g y (relocation .old) ≡ pebAt g image (relocation .old) → (j : ℕ) → j < relocation .units
+      → unit-in y j ≡ part (j * g .unit) (min (g .unit) (size - j * g .unit)) bytes
+
+module _ (g : Geometry) (n : ℕ) (image : List ℕ) (R : Relocates g n image) where
+  abbrev r : Relocation
+  r = R .relocation
+
+  abbrev d : ℕ
+  d = R .size
+
+  abbrev D : List ℕ
+  D = R .bytes
+
+  s : Sited g n d r
+  s = R .sited
+
   P : Placed g
   P = s .placed
 
@@ -99,7 +115,7 @@ module _ (g : Geometry) (n d : ℕ) (r : Relocation) (s : Sited g n d r) (image 
   m = r .units
 
   abbrev write : List ℕ → ℕ → Write
-  write y k = relocating g (withUnits r (unitIn y)) k
+  write y k = relocating g (withUnits r (R .unit-in y)) k
 
   -- nothing has changed but what is stored in the target, and the old PEB
   pub record Near (y : List ℕ) : Type 0 where
@@ -132,7 +148,7 @@ module _ (g : Geometry) (n d : ℕ) (r : Relocation) (s : Sited g n d r) (image 
 
   module _ (y : List ℕ) (w : Near y) where
     leny : length y ≡ n * g .«peb_size»
-    leny = w .long ∙ len
+    leny = w .long ∙ R .long
 
     module _ (a : ℕ) (bs : List ℕ) (h : 64 ≤ a) (k : a + length bs ≤ g .«data_start» + d) where
       abbrev y′ : List ℕ
@@ -202,7 +218,10 @@ module _ (g : Geometry) (n d : ℕ) (r : Relocation) (s : Sited g n d r) (image 
   unitOf j = part (j * g .unit) (size j) D
 
   unit-long : (j : ℕ) → j < m → length (unitOf j) ≡ size j
-  unit-long j h = let w = s .unit-starts j h in length-part (j * g .unit) (size j) D (omega arith)
+  unit-long j h =
+      let w = s .unit-starts j h in
+      let l = R .long-bytes in
+      length-part (j * g .unit) (size j) D (omega arith)
 
   unit-room : (j : ℕ) → j < m → (c : ℕ) → (64 ≤ g .«data_start» + j * g .unit)
       × (g .«data_start» + j * g .unit + length (take c (unitOf j)) ≤ g .«data_start» + d)
@@ -250,7 +269,7 @@ module _ (g : Geometry) (n d : ℕ) (r : Relocation) (s : Sited g n d r) (image 
   unit-here : (y : List ℕ) → Near y → pebAt g y o ≡ pebAt g image o → (j : ℕ) → j < m
       → write y (suc j) ≡ store (pebStart g t + (g .«data_start» + j * g .unit)) (unitOf j)
   unit-here y w eo j h =
-      unit-write g (withUnits r (unitIn y)) j h ∙ ap (store (pebStart g t + (g .«data_start» + j * g .unit))) (unit-is y (w .long) eo j h)
+      unit-write g (withUnits r (R .unit-in y)) j h ∙ ap (store (pebStart g t + (g .«data_start» + j * g .unit))) (R .unit-is y eo j h)
 
   at-going : (j : ℕ) (y : List ℕ) → j ≤ m → Near y → Stored (min (j * g .unit) d) y → pebAt g y o ≡ pebAt g image o
       → At (suc (suc j)) (appliedWhole (write y (suc j)) y)
@@ -266,7 +285,7 @@ module _ (g : Geometry) (n d : ℕ) (r : Relocation) (s : Sited g n d r) (image 
       (λ (e : j ≡ m).
       let F : List ℕ = replicate (g .«peb_size») 0xFF in
       let l : length F ≡ g .«peb_size» = length-replicate (g .«peb_size») 0xFF in
-      rw (erase-write g (withUnits r (unitIn y)) j e)
+      rw (erase-write g (withUnits r (R .unit-in y)) j e)
       (erased (omega arith) (near-old y w F (omega arith)) (stored-old y w F (omega arith) d (all-stored j y e x))
       (old-is y w F (omega arith) ∙ put-all F (pebAt g y o) (l ∙ sym (old-long y w)))))
       (lt-or-eq j m h)
@@ -281,13 +300,13 @@ module _ (g : Geometry) (n d : ℕ) (r : Relocation) (s : Sited g n d r) (image 
   take-whole bs = take-all (length bs) bs (omega arith)
 
   ec-here : (y : List ℕ) (k : ℕ) → k ≡ m + 2 → write y k ≡ store (pebStart g o) (r .ec)
-  ec-here y k e = let q : k ≡ suc (m + 1) = omega arith in rw q (ec-write g (withUnits r (unitIn y)) (m + 1) refl)
+  ec-here y k e = let q : k ≡ suc (m + 1) = omega arith in rw q (ec-write g (withUnits r (R .unit-in y)) (m + 1) refl)
 
   at-next : (k : ℕ) (y : List ℕ) → At k y → At (suc k) (appliedWhole (write y k) y)
   at-next k y (fresh e w eo) =
       let f = rw (take-whole (r .vid)) at (vid-room (length (r .vid))) in
       let z : min (0 * g .unit) d ≡ 0 = omega arith in
-      rw (vid-write g (withUnits r (unitIn y)) k e)
+      rw (vid-write g (withUnits r (R .unit-in y)) k e)
       (going 0 (omega arith) (omega arith) (near-target y w (g .«vid_start») (r .vid) (P .vid-after-ec) f) (rw z (stored-vid y w))
       (old-stays y w (g .«vid_start») (r .vid) (P .vid-after-ec) f ∙ eo))
   at-next k y (going j e h w x eo) =
@@ -296,7 +315,7 @@ module _ (g : Geometry) (n d : ℕ) (r : Relocation) (s : Sited g n d r) (image 
       let f = rw (take-whole (r .ec)) at (ec-room (length (r .ec))) in
       rw (ec-here y k e)
       (ended (omega arith) (near-old y w (r .ec) f) (stored-old y w (r .ec) f d x) (old-is y w (r .ec) f ∙ ap (put 0 (r .ec)) eo))
-  at-next k y (ended h w x eo) = rw (late-write g (withUnits r (unitIn y)) k h) (ended (omega arith) w x eo)
+  at-next k y (ended h w x eo) = rw (late-write g (withUnits r (R .unit-in y)) k h) (ended (omega arith) w x eo)
 
   at-steps : (k : ℕ) → At k (written write image k)
   at-steps zero = fresh refl near-first refl
@@ -320,14 +339,14 @@ module _ (g : Geometry) (n d : ℕ) (r : Relocation) (s : Sited g n d r) (image 
         (λ (e : j ≡ m).
         let F : List ℕ = erasedIn set (pebAt g y o) in
         let f : length F ≤ g .«peb_size» = omega (arith, length-erased set (pebAt g y o), old-long y w) in
-        rw (erase-write g (withUnits r (unitIn y)) j e)
+        rw (erase-write g (withUnits r (R .unit-in y)) j e)
         (record { near = near-old y w F f; order = inr (stored-old y w F f d (all-stored j y e x)) }))
         (lt-or-eq j m h)
 
     halt-cut : (k : ℕ) (y : List ℕ) → At k y → Halt (appliedCut c set (write y k) y)
     halt-cut k y (fresh e w eo) =
         let bs : List ℕ = take c (r .vid) in
-        rw (vid-write g (withUnits r (unitIn y)) k e)
+        rw (vid-write g (withUnits r (R .unit-in y)) k e)
         (record {
           near = near-target y w (g .«vid_start») bs (P .vid-after-ec) (vid-room c);
           order = inl (old-stays y w (g .«vid_start») bs (P .vid-after-ec) (vid-room c) ∙ eo);
@@ -336,7 +355,7 @@ module _ (g : Geometry) (n d : ℕ) (r : Relocation) (s : Sited g n d r) (image 
     halt-cut k y (erased e w x eo) =
         rw (ec-here y k e)
         (record { near = near-old y w (take c (r .ec)) (ec-room c); order = inr (stored-old y w (take c (r .ec)) (ec-room c) d x) })
-    halt-cut k y (ended h w x eo) = rw (late-write g (withUnits r (unitIn y)) k h) (record { near = w; order = inr x })
+    halt-cut k y (ended h w x eo) = rw (late-write g (withUnits r (R .unit-in y)) k h) (record { near = w; order = inr x })
 
     pub cut-halts : (k : ℕ) → Halt (appliedCut c set (write (written write image k) k) (written write image k))
     cut-halts k = halt-cut k (written write image k) (at-steps k)

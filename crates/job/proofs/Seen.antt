@@ -1,20 +1,25 @@
 -- What the reader sees of a PEB's headers: written ones, torn ones, and a copy. Assumes nothing.
-use mathlib.Core.Path.{_≡_, refl, subst}
+use mathlib.Core.Path.{_≡_, refl, _∙_, ap, subst}
 use mathlib.Core.Logic.{_⊎_, inl, inr}
-use mathlib.Core.Bool.{Bool, true, false, not, _&&_, _||_, cond}
+use mathlib.Core.Bool.{Bool, true, false, not, _||_, cond, and-false}
 use mathlib.Core.Option.{some}
 use mathlib.Core.List.{List, [], append-nil}
-use Prim.Native.Nat.{ℕ}
-use lib.ListN.{take, replicate}
-use Rattle.base.specs.Lists.{part, eqs}
-use Rattle.base.proofs.Answers.{clash}
+use Prim.Native.Nat.{ℕ, _-_}
+use native.Mathlib.Omega.{arith}
+use lib.ListN.{take, replicate, length-replicate}
+use lib.Seq.{take-at}
+use Rattle.base.specs.Lists.{part, put, eqs}
+use Rattle.base.proofs.Answers.{by-test, clash}
+use Rattle.base.proofs.Stores.{put-behind, drop-replicate, take-replicate}
 use Rattle.field.specs.Be.{toBeOn}
+use Rattle.geometry.specs.Placed.{Placed}
 use Rattle.geometry.specs.declared.Geometry.{Geometry}
 use Rattle.header.specs.Fields.{crcMatches, Verdict, good, bad, newer, readHeader}
 use Rattle.header.specs.Ec.{ecMagic, ecFields, judgeEc, readEc, ecHead, ecBytes, EcFits}
 use Rattle.header.specs.Vid.{vidMagic, vidFields, judgeVid, readVid, vidHead, vidBytes, VidFits}
 use Rattle.header.specs.declared.EcHeader.{EcHeader}
 use Rattle.header.specs.declared.VidHeader.{VidHeader}
+use Rattle.header.proofs.Writes.{ec-64}
 use Rattle.header.proofs.RoundTrip.{ec-judged, vid-judged}
 use Rattle.report.specs.View.{allFF, Copy, ecGood, ecBlank, ecLost, vidGood, vidBlank, vidBad, ecOf, copyOf, vidOf, vidPart, viewOf, goodEc, goodVid}
 use Rattle.report.proofs.First.{none-some}
@@ -36,11 +41,7 @@ vid-reads size h f = rw append-nil at (vid-judged h [] size f)
 
 -- a header whose CRC does not match is bad
 torn-read : {A : Type 0} (magic : List ℕ) (judge : List ℕ → Verdict A) (s : List ℕ) → crcMatches s ≡ false → readHeader magic judge s ≡ bad
-torn-read {A} magic judge s e = rw e (go (eqs (part 0 4 s) magic))
-  where
-    go : (b : Bool) → cond (b && false) (judge s) bad ≡ bad
-    go true = refl
-    go false = refl
+torn-read {A} magic judge s e = rw (e, and-false (eqs (part 0 4 s) magic))
 
 module _ (g : Geometry) (P : List ℕ) where
   -- ---- the EC header
@@ -51,13 +52,10 @@ module _ (g : Geometry) (P : List ℕ) where
 
   pub ec-torn : allFF (take 64 P) || not (crcMatches (take 64 P)) ≡ true → (viewOf g P .ec ≡ ecBlank) ⊎ (viewOf g P .ec ≡ ecLost)
   unfolding viewOf readEc
-  ec-torn e = go (allFF (take 64 P)) (crcMatches (take 64 P)) refl e
-    where
-      go : (b c : Bool) → crcMatches (take 64 P) ≡ c → b || not c ≡ true
-          → (cond b ecBlank (ecOf (readEc (take 64 P))) ≡ ecBlank) ⊎ (cond b ecBlank (ecOf (readEc (take 64 P))) ≡ ecLost)
-      go true c q r = inl refl
-      go false true q r = clash refl r
-      go false false q r = inr (rw (torn-read ecMagic (λ l. judgeEc (ecFields l)) (take 64 P) q))
+  ec-torn e =
+      by-test (allFF (take 64 P)) (λ b. inl (rw b))
+      (λ b. by-test (crcMatches (take 64 P)) (λ q. clash refl (rw (b, q) at e))
+      (λ q. inr (rw (b, torn-read ecMagic (λ l. judgeEc (ecFields l)) (take 64 P) q))))
 
   -- ---- the VID header
 
@@ -68,14 +66,10 @@ module _ (g : Geometry) (P : List ℕ) where
 
   pub vid-torn : allFF (vidPart g P) || not (crcMatches (vidPart g P)) ≡ true → (viewOf g P .vid ≡ vidBlank) ⊎ (viewOf g P .vid ≡ vidBad)
   unfolding viewOf readVid
-  vid-torn e = go (allFF (vidPart g P)) (crcMatches (vidPart g P)) refl e
-    where
-      go : (b c : Bool) → crcMatches (vidPart g P) ≡ c → b || not c ≡ true
-          → (cond b vidBlank (vidOf g P (readVid (g .«leb_size») (vidPart g P))) ≡ vidBlank)
-          ⊎ (cond b vidBlank (vidOf g P (readVid (g .«leb_size») (vidPart g P))) ≡ vidBad)
-      go true c q r = inl refl
-      go false true q r = clash refl r
-      go false false q r = inr (rw (torn-read vidMagic (λ l. judgeVid (g .«leb_size») (vidFields l)) (vidPart g P) q))
+  vid-torn e =
+      by-test (allFF (vidPart g P)) (λ b. inl (rw b))
+      (λ b. by-test (crcMatches (vidPart g P)) (λ q. clash refl (rw (b, q) at e))
+      (λ q. inr (rw (b, torn-read vidMagic (λ l. judgeVid (g .«leb_size») (vidFields l)) (vidPart g P) q))))
 
   pub vid-erased : vidPart g P ≡ replicate 64 0xFF → viewOf g P .vid ≡ vidBlank
   unfolding viewOf allFF
@@ -116,3 +110,18 @@ ec-seen g P h e = go (allFF (take 64 P)) (readEc (take 64 P)) refl e
     go false (good x) r e = let z : x ≡ h = cc in rw z at r
     go false bad r e = none-some e
     go false newer r e = none-some e
+
+-- a PEB that was erased, with its EC header stored again
+module _ (g : Geometry) (P : Placed g) (Y : List ℕ) (h : EcHeader) (is : Y ≡ put 0 (ecBytes h) (replicate (g .«peb_size») 0xFF)) where
+  pub renewed-ec : take 64 Y ≡ ecBytes h
+  renewed-ec = ap (take 64) is ∙ take-at (ecBytes h) _ 64 (ec-64 h)
+
+  pub renewed-vid : vidPart g Y ≡ replicate 64 0xFF
+  renewed-vid =
+      let e = ec-64 h in
+      ap (vidPart g) is
+      ∙ ap (take 64)
+      (put-behind 0 (ecBytes h) (replicate (g .«peb_size») 0xFF)
+      (rw length-replicate (omega (arith, P .vid-after-ec, P .data-after-vid, P .leb-fills))) (g .«vid_start») (omega (arith, P .vid-after-ec))
+      ∙ drop-replicate 0xFF (g .«vid_start») (g .«peb_size»))
+      ∙ take-replicate 0xFF 64 (g .«peb_size» - g .«vid_start») (omega (arith, P .data-after-vid, P .leb-fills))

@@ -5,9 +5,9 @@ use mathlib.Core.List.{List, [], _∷_}
 use Prim.Native.Nat.{ℕ, zero, suc, _+_, _≤_, _<_}
 use native.Mathlib.Omega.{arith}
 use lib.Dec.{lit<}
-use lib.ListN.{length, take, replicate, length-take, length-replicate}
+use lib.ListN.{length, take, replicate, length-take}
 use lib.Seq.{take-all}
-use Rattle.base.specs.Lists.{part, put, Bytes}
+use Rattle.base.specs.Lists.{part, Bytes}
 use Rattle.base.proofs.Lists.{length-part, bytes-take, bytes-part, EachByte, each-append, each-zero, bytes-each}
 use Rattle.base.proofs.Stores.{length-put, bytes-put}
 use Rattle.field.proofs.Laws.{each-toBe}

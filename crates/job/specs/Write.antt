@@ -23,8 +23,8 @@ abbrev pub erasedIn : (ℕ → Bool) → List ℕ → List ℕ
 erasedIn set [] = []
 erasedIn set (b ∷ bs) = cond (set 0) 0xFF b ∷ erasedIn (λ (i : ℕ). set (suc i)) bs
 
--- the image after a write that was cut: "A cut leaves a prefix of the bytes of a store; of an erase, any bytes old or 0xFF": the
--- number of bytes that were stored, or the set of those that were erased
+-- the image after a write that was cut: "A cut leaves a prefix of the bytes of a store; of an erase, any bytes old or
+-- 0xFF": the number of bytes that were stored, or the set of those that were erased
 abbrev pub appliedCut : ℕ → (ℕ → Bool) → Write → List ℕ → List ℕ
 appliedCut stored erased (store at bs) image = put at (take stored bs) image
 appliedCut stored erased (erase at n) image = put at (erasedIn erased (part at n image)) image

@@ -19,9 +19,8 @@ use Rattle.header.specs.Vid.{layoutVolume, layoutRule, vidRules, vidFields}
 use Rattle.report.specs.View.{Copy, mediumOf, viewsOf, vidPart, pebAt, copyOf, copies}
 use Rattle.report.specs.Volumes.{faceOf, layoutContent}
 use Rattle.report.specs.Report.{faces}
-use Rattle.report.proofs.Choice.{chosen-at}
 use Rattle.copies.specs.InPlace.{copyAt, faceAt}
-use Rattle.copies.proofs.Copies.{view-good, place-chosen, face-is}
+use Rattle.copies.proofs.Copies.{view-good, copy-at, face-is}
 use Rattle.layout.specs.Layout.{Found, Chosen}
 use Rattle.layout.proofs.Places.{found-some, found-none}
 
@@ -34,7 +33,8 @@ rule-is h r e =
     rw (eq-eqb _ _ e) at r in
     let b = and-right (eqb (h .compat) 5) _ (and-right (eqb (h .«vol_type») 1) _ a) in
     let l = leb-true (h .lnum) 1 (and-right (eqb (h .«data_pad») 0) _ b) in
-    (eqb-true _ _ (and-left (eqb (h .«vol_type») 1) _ a), eqb-true _ _ (and-left (eqb (h .«data_pad») 0) _ b), omega arith)
+    let p = eqb-true _ _ (and-left (eqb (h .«data_pad») 0) _ b) in
+    (eqb-true _ _ (and-left (eqb (h .«vol_type») 1) _ a), p, omega arith)
 
 module _ (g : Geometry) (image : List ℕ) where
   layout-copy : (i : ℕ) (c : Copy) → copies (viewsOf g image) i ≡ some c → c .header .volume ≡ layoutVolume
@@ -59,7 +59,8 @@ module _ (g : Geometry) (image : List ℕ) where
   content-is p i e v =
       let k = layout-copy i (copyAt g image i) e v in
       let s : g .«leb_size» - 0 ≡ g .«leb_size» = omega arith in
-      sym (part-part (g .«data_start») (g .«leb_size») (i * g .«peb_size») (g .«peb_size») image (omega (arith, p .leb-fills)))
+      sym (part-part (g .«data_start») (g .«leb_size») (i * g .«peb_size») (g .«peb_size») image
+      (omega (arith, p .leb-fills)))
       ∙ rw (k .0, k .1, s)
 
 -- ---- the content of a layout LEB, from where its PEB is found
@@ -83,6 +84,7 @@ module _ {g : Geometry} {image : List ℕ} {n : ℕ} {map pebs : List ℕ} (o : 
     content-slice =
         let p = o .keyed .placed in
         let q = found-some o refl f below in
-        let a = chosen-at n (copies (viewsOf g image)) layoutVolume l i (copyAt g image i) (place-chosen g n image layoutVolume l i q) in
-        let e : i * g .«peb_size» + g .«peb_size» - (i * g .«peb_size» + g .«data_start») ≡ g .«leb_size» = omega (arith, p .leb-fills) in
-        rw (e, face-is g n image layoutVolume l, q) (content-is g image p i (a .1) (a .2))
+        let a = copy-at g n image layoutVolume l i q in
+        let e : i * g .«peb_size» + g .«peb_size» - (i * g .«peb_size» + g .«data_start») ≡ g .«leb_size» =
+        omega (arith, p .leb-fills) in
+        rw (e, face-is g n image layoutVolume l, q) (content-is g image p i (a .is) (a .volume))

@@ -11,13 +11,12 @@ use Rattle.base.proofs.Answers.{clash, by-test, by-option, and-left, and-right}
 use Rattle.words.specs.Words.{classWord, volumeWord}
 use Rattle.words.proofs.Laws.{class-at}
 use Rattle.geometry.specs.declared.Geometry.{Geometry}
-use Rattle.report.specs.View.{Copy, EcView, ecGood, ecNewer, ecBlank, ecLost, VidView, vidGood, vidNewer, vidBlank, vidBad, Views, mediumOf, viewsOf, copies, goodVid, isMappable}
+use Rattle.report.specs.View.{Copy, EcView, ecGood, ecNewer, ecBlank, ecLost, VidView, vidGood, vidNewer, vidBlank, vidBad, Views, mediumOf, viewsOf, goodVid, isMappable}
 use Rattle.report.specs.Volumes.{Places}
 use Rattle.report.specs.Report.{isPlace, places}
 use Rattle.report.specs.Scratch.{markedClass}
-use Rattle.report.proofs.Choice.{chosen-at}
 use Rattle.copies.specs.InPlace.{copyAt}
-use Rattle.copies.proofs.Copies.{place-chosen}
+use Rattle.copies.proofs.Copies.{copy-at}
 use Rattle.choice.proofs.Words.{has-words}
 use Rattle.choice.proofs.Marks.{place-is, class-of}
 use Rattle.layout.specs.Layout.{isChosen, Found, Chosen}
@@ -35,7 +34,8 @@ marked-copy ps i e (vidGood c) q =
     (λ a. by-test (isPlace (ps (c .header .volume) (c .header .lnum)) i)
     (λ b. record { copy = c; is = refl; mappable = a; place = place-is _ i b })
     (λ b. absurd (omega (arith, rw (a, b) at q))))
-    (λ a. by-test (eqb (c .header .compat) 1) (λ b. absurd (omega (arith, rw (a, b) at q))) (λ b. absurd (omega (arith, rw (a, b) at q))))
+    (λ a. by-test (eqb (c .header .compat) 1) (λ b. absurd (omega (arith, rw (a, b) at q)))
+    (λ b. absurd (omega (arith, rw (a, b) at q))))
 marked-copy ps i (ecGood h) vidBlank q = absurd (omega arith)
 marked-copy ps i ecNewer vidBlank q = absurd (omega arith)
 marked-copy ps i ecBlank vidBlank q = absurd (omega arith)
@@ -66,12 +66,13 @@ module _ {g : Geometry} {image : List ℕ} {n : ℕ} {map pebs : List ℕ} (o : 
   word-chosen : (v l p : ℕ) → isMappable v ≡ true → pl v l ≡ some p → (p < n) × (isChosen pebs map v l p ≡ true)
   word-chosen v l p m e =
       let c = copyAt g image p in
-      let a = chosen-at n (copies vs) v l p c (place-chosen g n image v l p e) in
-      let mc : isMappable (c .header .volume) ≡ true = rw (a .2) m in
-      let pc : pl (c .header .volume) (c .header .lnum) ≡ some p = ap₂ pl (a .2) (a .3) ∙ e in
-      let w = has-words (o .keyed) p (a .0) c (a .1) mc in
-      let k : classWord pebs p ≡ 1 = class-word p (a .0) ∙ class-of _ (vs p .ec) (vs p .vid) c (a .1) mc ∙ rw (pc, eq-eqb p p refl) in
-      (a .0, rw (eq-eqb (classWord pebs p) 1 k, eq-eqb _ _ (w .0 ∙ a .2), eq-eqb _ _ (w .1 ∙ a .3)))
+      let a = copy-at g n image v l p e in
+      let mc : isMappable (c .header .volume) ≡ true = rw (a .volume) m in
+      let pc : pl (c .header .volume) (c .header .lnum) ≡ some p = ap₂ pl (a .volume) (a .lnum) ∙ e in
+      let w = has-words (o .keyed) p (a .below) c (a .is) mc in
+      let k : classWord pebs p ≡ 1 =
+      class-word p (a .below) ∙ class-of _ (vs p .ec) (vs p .vid) c (a .is) mc ∙ rw (pc, eq-eqb p p refl) in
+      (a .below, rw (eq-eqb (classWord pebs p) 1 k, eq-eqb _ _ (w .0 ∙ a .volume), eq-eqb _ _ (w .1 ∙ a .lnum)))
 
   module _ {v l r : ℕ} (m : isMappable v ≡ true) (f : Found pebs map n v l r) where
     pub found-some : r < n → pl v l ≡ some r

@@ -1,10 +1,14 @@
 // Reading a report's tables: what they say of one PEB, and where a LEB is.
 ghost use mathlib.Core.Path.{_≡_};
-ghost use mathlib.Core.Bool.{_&&_};
-ghost use Prim.Native.Nat.{_+_, _*_, _≤_};
-ghost use lib.Dec.{eqb};
-ghost use lib.ListN.{length};
-ghost use Rattle.lookup.specs.Lookup.{pebAnswer, pebIn, placeAnswer, placeIn, volumeWord, lebWord};
+ghost use Rattle.words.specs.Words.{HasEntry};
+ghost use Rattle.lookup.specs.Lookup.{pebAnswer, pebIn, isEntry, placeAnswer, placeIn};
+use words::ENTRY_WORDS;
+use words::PEB_WORDS;
+use words::class_word;
+use words::counter_word;
+use words::lnum_word;
+use words::peb_word;
+use words::volume_word;
 
 // A PEB's class and erase counter (0xFFFFFFFF if it is lost).
 pub enum PebReport {
@@ -25,41 +29,42 @@ pub fn peb_report(pebs: &[u32], peb_count: u32, peb: u32) -> PebReport
     if peb_count <= peb {
         return PebReport::Absent;
     }
-    let at = peb as usize * 2;
-    if pebs.len() < at + 2 {
+    let i = peb as usize;
+    if pebs.len() < i * PEB_WORDS + PEB_WORDS {
         return PebReport::Absent;
     }
     PebReport::Given {
-        class: pebs[at],
-        counter: pebs[at + 1],
+        class: class_word(pebs, i),
+        counter: counter_word(pebs, i),
     }
 }
 
-// Is entry i that of the volume's LEB?
-fn is_entry(map: &[u32], i: usize, volume: u32, lnum: u32) -> bool
-    requires { ⌜ i * 3 + 3 ≤ length (now map) ⌝ }
-    ensures { λ r. ⌜ r ≡ eqb (volumeWord (now (map .entry)) i) volume && eqb (lebWord (now (map .entry)) i) lnum ⌝ }
+// Is entry k that of the volume's LEB?
+fn is_entry(map: &[u32], k: usize, volume: u32, lnum: u32) -> bool
+    requires { ⌜ HasEntry (now map) k ⌝ }
+    ensures { λ r. ⌜ r ≡ isEntry (now (map .entry)) volume lnum k ⌝ }
 {
-    if map[i * 3] != volume {
+    if volume_word(map, k) != volume {
         return false;
     }
-    map[i * 3 + 1] == lnum
+    lnum_word(map, k) == lnum
 }
 
-// The PEB of a volume's LEB by the map's entries; absent where it has no entry, or the map has fewer words than so many entries.
+// The PEB of a volume's LEB by the map's entries; absent where it has no entry, or the map has fewer words than so many
+// entries.
 pub fn find_leb(map: &[u32], entries: u32, volume: u32, lnum: u32) -> LebPlace
     ensures { λ r. ⌜ placeAnswer r ≡ placeIn (now (map .entry)) entries volume lnum ⌝ }
 {
     let count = entries as usize;
-    if map.len() < count * 3 {
+    if map.len() < count * ENTRY_WORDS {
         return LebPlace::Absent;
     }
-    let mut i: usize = 0;
-    while i < count {
-        if is_entry(map, i, volume, lnum) {
-            return LebPlace::At(map[i * 3 + 2]);
+    let mut k: usize = 0;
+    while k < count {
+        if is_entry(map, k, volume, lnum) {
+            return LebPlace::At(peb_word(map, k));
         }
-        i += 1;
+        k += 1;
     }
     LebPlace::Absent
 }

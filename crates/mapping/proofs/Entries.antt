@@ -39,9 +39,11 @@ use Rattle.mapping.proofs.SlotLaws.{HasSlot, slot-within, slot-apart, n
 -- a marked class, settled, is the report's
 class-is : (t : List ℕ) (ps : Places) (i : ℕ) (e : EcView) (v : VidView)
     → settledClass t (markedClass ps i e v) (getD (keyWords i v) 0 0) (getD (keyWords i v) 1 0) ≡ classOf t ps i e v
-class-is t ps i e (vidGood c) =
-    go (isMappable (c .header .volume)) (isPlace (ps (c .header .volume) (c .header .lnum)) i) (eqb (c .header .compat) 1)
+class-is t ps i e (vidGood c) = go (isMappable (c .header .volume)) (isPlace at i) (eqb (c .header .compat) 1)
   where
+    at : Option ℕ
+    at = ps (c .header .volume) (c .header .lnum)
+
     words : Bool → List ℕ
     words m = cond m (c .header .volume ∷ c .header .lnum ∷ i ∷ []) (noWord ∷ noWord ∷ noWord ∷ [])
 
@@ -60,15 +62,16 @@ class-is t ps i e vidBad = refl
 
 -- ---- which PEBs are in the map
 
-pub place-is : (x : Option ℕ) (i : ℕ) → isPlace x i ≡ true → x ≡ some i
+place-is : (x : Option ℕ) (i : ℕ) → isPlace x i ≡ true → x ≡ some i
 place-is none i e = absurd (false≢true e)
 place-is (some p) i e = ap some (eqb-true p i e)
 
-pub place-chosen : (x : Option (ℕ × Copy)) (p : ℕ) → mapO (λ (y : ℕ × Copy). y .0) x ≡ some p → (c : Copy) × (x ≡ some (p, c))
+place-chosen : (x : Option (ℕ × Copy)) (p : ℕ) → mapO (λ (y : ℕ × Copy). y .0) x ≡ some p
+    → (c : Copy) × (x ≡ some (p, c))
 place-chosen none p e = none-some e
 place-chosen (some y) p e = (y .1, ap (λ (q : ℕ). some (q, y .1)) (let z : y .0 ≡ p = cc in z))
 
-pub good-inv : (v : VidView) (c : Copy) → goodVid v ≡ some c → v ≡ vidGood c
+good-inv : (v : VidView) (c : Copy) → goodVid v ≡ some c → v ≡ vidGood c
 good-inv (vidGood d) c e = ap vidGood (let z : d ≡ c = cc in z)
 good-inv vidNewer c e = none-some e
 good-inv vidBlank c e = none-some e
@@ -82,7 +85,7 @@ abbrev unused : List ℕ
 unused = noWord ∷ noWord ∷ noWord ∷ []
 
 module _ (m : Medium) where
-  abbrev pub keyRow : ℕ → List ℕ
+  abbrev keyRow : ℕ → List ℕ
   keyRow i = keyWords i (m .views i .vid)
 
   abbrev markedRow : ℕ → List ℕ
@@ -96,7 +99,8 @@ module _ (m : Medium) where
 -- ---- the rows in their slots
 
 module _ (t : List ℕ) (m : Medium)
-    (layout-small : (i : ℕ) (c : Copy) → copies (m .views) i ≡ some c → c .header .volume ≡ layoutVolume → c .header .lnum < 2)
+    (layout-small : (i : ℕ) (c : Copy) → copies (m .views) i ≡ some c → c .header .volume ≡ layoutVolume
+    → c .header .lnum < 2)
     (two : 2 ≤ m .count) (few : m .count ≤ mostPebs)
     (fits : (v : ℕ) → sumBelow v (λ (v : ℕ). reservedOf (recordFor t v)) ≤ m .count - 2) (rows : List ℕ)
     (row : (i : ℕ) → i < m .count → rowAt rows i ≡ settledRow m t i) where
@@ -131,7 +135,8 @@ module _ (t : List ℕ) (m : Medium)
       none-of true = refl
       none-of false = refl
 
-      same-leb : (v′ l′ : ℕ) → HasSlot t v′ l′ → ps v′ l′ ≡ some i → rowAt rows i ≡ v′ ∷ l′ ∷ noWord ∷ [] → ps v l ≡ some i
+      same-leb : (v′ l′ : ℕ) → HasSlot t v′ l′ → ps v′ l′ ≡ some i → rowAt rows i ≡ v′ ∷ l′ ∷ noWord ∷ []
+          → ps v l ≡ some i
       same-leb v′ l′ k p q =
           let x : volumeWord rows i ≡ v′ = cc in
           let y : lnumWord rows i ≡ l′ = cc in
@@ -149,7 +154,8 @@ module _ (t : List ℕ) (m : Medium)
 
           at : (a : Bool) → isMappable cv ≡ a → (b : Bool) → isPlace (ps cv cl) i ≡ b → (s : Bool) → staysIn t cv cl ≡ s
               → ps v l ≡ some i
-          at true x true y true z = same-leb cv cl (has-slot i c (ap goodVid q) x z) (place-is _ i y) (row i j ∙ rw (q, x, y, z))
+          at true x true y true z =
+              same-leb cv cl (has-slot i c (ap goodVid q) x z) (place-is _ i y) (row i j ∙ rw (q, x, y, z))
           at true x true y false z = not-unused (row i j ∙ rw (q, x, y, z))
           at true x false y s z = not-unused (row i j ∙ rw (q, x, y))
           at false x b y s z = not-unused (row i j ∙ rw (q, x) (none-of (eqb (cond (eqb (c .header .compat) 1) 5 6) 1)))
@@ -199,13 +205,15 @@ module _ (t : List ℕ) (m : Medium)
 -- ---- both tables
 
 module _ {m : Medium} {t pebs map : List ℕ} (o : Marked m t pebs map) where
-  pub class-word : (i : ℕ) → i < m .count → classWord pebs i ≡ markedClass (places m) i (m .views i .ec) (m .views i .vid)
+  class-word : (i : ℕ) → i < m .count
+      → classWord pebs i ≡ markedClass (places m) i (m .views i .ec) (m .views i .vid)
   class-word = class-at (m .count) (markedRow m) _ (o .pebs-are) (λ j. refl)
 
   counter-word : (i : ℕ) → i < m .count → counterWord pebs i ≡ counterOr noWord (ecs (m .views) i)
   counter-word = counter-at (m .count) (markedRow m) _ (o .pebs-are) (λ j. refl)
 
-  class-settled : (i : ℕ) → i < m .count → classFrom t pebs map i ≡ classOf t (places m) i (m .views i .ec) (m .views i .vid)
+  class-settled : (i : ℕ) → i < m .count
+      → classFrom t pebs map i ≡ classOf t (places m) i (m .views i .ec) (m .views i .vid)
   class-settled i h =
       rw (class-word i h, o .volumes i h, o .lnums i h) (class-is t (places m) i (m .views i .ec) (m .views i .vid))
 
@@ -218,8 +226,9 @@ module _ {m : Medium} {t pebs map : List ℕ} (o : Marked m t pebs map) where
   peb-words = concat-cong (m .count) _ _ peb-row
 
   -- settled, and then through the slots, with the rows behind the last entry left unused
-  module _ {pebs′ map₁ map₂ map₃ fs : List ℕ} {k : ℕ} (s : Settled t (m .count) pebs pebs′ map map₁) (two : 2 ≤ m .count)
-      (few : m .count ≤ mostPebs) (q : fs ≡ firstSlots (m .count) t) (long : mapWordsNeeded (m .count) ≤ length map₃)
+  module _ {pebs′ map₁ map₂ map₃ fs : List ℕ} {k : ℕ} (s : Settled t (m .count) pebs pebs′ map map₁)
+      (two : 2 ≤ m .count) (few : m .count ≤ mostPebs) (q : fs ≡ firstSlots (m .count) t)
+      (long : mapWordsNeeded (m .count) ≤ length map₃)
       (f : Slots (m .count) (slotWord fs map₁ (m .count)) map₁ map₂)
       (x : Collected (allEntries fs (m .count) map₂) 0 (m .count) k map₂ map₃) where
     row : (i : ℕ) → i < m .count → rowAt map₁ i ≡ settledRow m t i
@@ -265,7 +274,8 @@ module _ {m : Medium} {t pebs map : List ℕ} (o : Marked m t pebs map) where
         let z : length (part at behind map₃) ≤ behind = omega (arith, length-part at behind map₃ (omega (arith, b))) in
         record {
           pebs-are = rw (← peb-words) (s .pebs-are);
-          map-is = rw (e, drop-of-length-le (part at behind map₃) z, append-nil, drop-drop behind at map₃, b, tail-is, collected, words-long)
-              (sym (append-assoc (entryWords (entries m)) _ (drop (mapWordsNeeded (m .count)) map)));
+          map-is = rw (e, drop-of-length-le (part at behind map₃) z, append-nil, drop-drop behind at map₃, b)
+              (rw (tail-is, collected, words-long)
+              (sym (append-assoc (entryWords (entries m)) _ (drop (mapWordsNeeded (m .count)) map))));
           count-is = omega (arith, words-long, entry-words-length (entries m));
         }

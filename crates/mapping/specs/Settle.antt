@@ -1,15 +1,16 @@
 -- What the contracts here cite: the words of a PEB once the table is known. No public promise names them. Assumes
 -- nothing.
 use mathlib.Core.Path.{_≡_}
-use Prim.Native.Nat.{ℕ, _<_}
+use Prim.Native.Nat.{ℕ, _*_, _<_}
 use mathlib.Core.Bool.{cond}
 use mathlib.Core.List.{List, [], _∷_, _++_}
 use mathlib.Core.Option.{some}
 use lib.Dec.{eqb}
 use lib.ListN.{length, getD, drop}
 use Rattle.base.specs.Below.{concatBelow}
+use Rattle.base.specs.Lists.{put}
 use Rattle.header.specs.Vid.{layoutVolume}
-use Rattle.words.specs.Words.{noWord, pebWordsNeeded, mapWordsNeeded, classWord, counterWord, volumeWord, lnumWord}
+use Rattle.words.specs.Words.{noWord, pebStride, entryStride, pebWordsNeeded, mapWordsNeeded, classWord, counterWord, volumeWord, lnumWord}
 use Rattle.report.specs.View.{Copy, Medium, copies}
 use Rattle.report.specs.Report.{staysIn, records, places, entries}
 use Rattle.report.specs.Attach.{pebWords, mapWords}
@@ -33,13 +34,18 @@ pebRow t pebs map i = classFrom t pebs map i ∷ counterWord pebs i ∷ []
 abbrev pub mapRow : List ℕ → List ℕ → List ℕ → ℕ → List ℕ
 mapRow t pebs map i = settledKey (classFrom t pebs map i) (volumeWord map i) (lnumWord map i)
 
+-- PEB i is settled
+pub record PebSettled (t : List ℕ) (i : ℕ) (pebs pebs′ map map′ : List ℕ) : Type 0 where
+  pub pebs-are : pebs′ ≡ put (i * pebStride) (pebRow t pebs map i) pebs
+  pub map-is : map′ ≡ put (i * entryStride) (mapRow t pebs map i) map
+
 -- the first n PEBs are settled, and the others as they were
 pub record Settled (t : List ℕ) (n : ℕ) (pebs pebs′ map map′ : List ℕ) : Type 0 where
   pub pebs-are : pebs′ ≡ concatBelow n (pebRow t pebs map) ++ drop (pebWordsNeeded n) pebs
   pub map-is : map′ ≡ concatBelow n (mapRow t pebs map) ++ drop (mapWordsNeeded n) map
 
--- the words once the copies are chosen: marked classes with counters, volumes and LEBs of all copies; and the records of
--- the table taken
+-- the words once the copies are chosen: marked classes with counters, volumes and LEBs of all copies; and the records
+-- of the table taken
 pub record Marked (m : Medium) (t pebs map : List ℕ) : Type 0 where
   pub table-is : t ≡ records m
   pub pebs-are : pebs ≡ markedWords (places m) (m .count) (m .views) ++ drop (pebWordsNeeded (m .count)) pebs

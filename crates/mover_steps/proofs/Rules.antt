@@ -3,11 +3,11 @@ use mathlib.Core.Path.{_≡_, refl, sym, _∙_}
 use mathlib.Core.Logic.{_≢_}
 use mathlib.Core.Bool.{Bool, true, false, cond, and-true}
 use mathlib.Core.List.{List}
-use Prim.Native.Nat.{ℕ, _+_, _-_, _*_, _/_, _%_, _≤_, _<_}
+use Prim.Native.Nat.{ℕ, _+_, _-_, _/_, _≤_, _<_}
 use native.Mathlib.Nat.{mul-le-mul-right, div-lt-iff-lt-mul}
 use native.Mathlib.Omega.{arith}
 use lib.ListN.{length, getD}
-use borrow.Author.Tests.{lt-ltb, le-ltb, le-leb, lt-leb, eq-eqb, ne-eqb}
+use borrow.Author.Tests.{lt-ltb, le-ltb, eq-eqb, ne-eqb}
 use Rattle.base.specs.Answers.{given, refused, allOf}
 use Rattle.base.proofs.Answers.{one-broken}
 use Rattle.geometry.specs.Geometry.{geometryRules, geometryOf, makeGeometry}
@@ -27,21 +27,9 @@ module _ (g : Geometry) (p : Plan) (m : Measured g p) (image : List ℕ) where
   unfolding runnable
   broken k e = sym (one-broken (stepRules p image) k e)
 
-  image-broken : (k : ℕ) → getD (imageRules g image) k true ≡ false → false ≡ runnable p image
+  pub not-fitting : allOf (imageRules g image) ≡ false → false ≡ runnable p image
   unfolding stepRules
-  image-broken k e = broken 1 (rw (← (m .is)) (one-broken (imageRules g image) k e))
-
-  pub not-whole : length image % g .«peb_size» ≢ 0 → false ≡ runnable p image
-  unfolding imageRules
-  not-whole h = image-broken 0 (ne-eqb _ _ h)
-
-  pub too-few : length image / g .«peb_size» < 2 → false ≡ runnable p image
-  unfolding imageRules
-  too-few h = image-broken 1 (lt-leb _ _ h)
-
-  pub too-many : 4096 < length image / g .«peb_size» → false ≡ runnable p image
-  unfolding imageRules
-  too-many h = image-broken 2 (lt-leb _ _ h)
+  not-fitting e = broken 1 (rw (← (m .is)) e)
 
   pub old-absent : length image / g .«peb_size» ≤ p .old → false ≡ runnable p image
   unfolding stepRules
@@ -60,13 +48,12 @@ module _ (g : Geometry) (p : Plan) (m : Measured g p) (image : List ℕ) where
   vid-not-good h = broken 5 (rw (← (m .is)) h)
 
   -- with the other rules met, the last one decides
-  pub last-rule : {r : Bool} → length image % g .«peb_size» ≡ 0 → 2 ≤ length image / g .«peb_size» → length image / g .«peb_size» ≤ 4096
-      → p .old < length image / g .«peb_size» → p .target < length image / g .«peb_size» → p .old ≢ p .target
-      → isGood (judgeVid (g .«leb_size») (p .vid)) ≡ true → r ≡ isGood (judgeEc (p .ec)) → r ≡ runnable p image
-  unfolding runnable stepRules imageRules
-  last-rule w f t o n ne v e =
-      e ∙ rw (← (m .is), m .inside, eq-eqb _ _ w, le-leb _ _ f, le-leb _ _ t, lt-ltb _ _ o, lt-ltb _ _ n, ne-eqb _ _ ne, v)
-      (sym (and-true (isGood (judgeEc (p .ec)))))
+  pub last-rule : {r : Bool} → allOf (imageRules g image) ≡ true → p .old < length image / g .«peb_size»
+      → p .target < length image / g .«peb_size» → p .old ≢ p .target → isGood (judgeVid (g .«leb_size») (p .vid)) ≡ true
+      → r ≡ isGood (judgeEc (p .ec)) → r ≡ runnable p image
+  unfolding runnable stepRules
+  last-rule f o n ne v e =
+      e ∙ rw (← (m .is), m .inside, f, lt-ltb _ _ o, lt-ltb _ _ n, ne-eqb _ _ ne, v) (sym (and-true (isGood (judgeEc (p .ec)))))
 
 -- ---- the geometry
 

@@ -17,17 +17,10 @@ fn may_run(plan: Plan, g: Geometry, image: &[u8]) -> bool
     requires { ⌜ Measured g plan ⌝ }
     ensures { λ r. ⌜ r ≡ runnable plan (now (image .entry)) ⌝ }
 {
-    let size = g.peb_size as usize;
-    let n = image.len() / size;
-    if image.len() % size != 0 {
+    if !geometry::image_fits(image, g) {
         return false;
     }
-    if n < 2 {
-        return false;
-    }
-    if 4096 < n {
-        return false;
-    }
+    let n = image.len() / g.peb_size as usize;
     if n <= plan.old as usize {
         return false;
     }
@@ -75,7 +68,8 @@ fn unit_length(plan: Plan, done: usize) -> usize
 // Unit j of the data is stored.
 fn store_unit(plan: Plan, g: Geometry, j: u32, image: &mut [u8])
     requires { ⌜ (Running g plan (now image)) × (j < dataSteps plan) ⌝ }
-    ensures { λ _. ⌜ now (image .exit) ≡ put (pebStart g (plan .target) + (g .«data_start» + j * g .unit)) (unitBytes plan (now (image .entry)) j) (now (image .entry)) ⌝ }
+    ensures { λ _. ⌜ now (image .exit) ≡ put (pebStart g (plan .target) + (g .«data_start» + j * g .unit))
+        (unitBytes plan (now (image .entry)) j) (now (image .entry)) ⌝ }
 {
     let done = j as usize * g.unit as usize;
     let n = unit_length(plan, done);
@@ -88,7 +82,8 @@ fn store_unit(plan: Plan, g: Geometry, j: u32, image: &mut [u8])
 // The write of the next step, where one is left.
 fn write_next(plan: Plan, g: Geometry, image: &mut [u8])
     requires { ⌜ (Running g plan (now image)) × (plan .steps < stepCount plan) ⌝ }
-    ensures { λ _. ⌜ now (image .exit) ≡ appliedWhole (writeAfter plan (now (image .entry)) (plan .steps)) (now (image .entry)) ⌝ }
+    ensures { λ _. ⌜ now (image .exit)
+        ≡ appliedWhole (writeAfter plan (now (image .entry)) (plan .steps)) (now (image .entry)) ⌝ }
 {
     if plan.steps == 0 {
         let at = peb_start(g, plan.target) + g.vid_start as usize;

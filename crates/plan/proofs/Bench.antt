@@ -17,7 +17,7 @@ use Rattle.header.specs.Ec.{ecFields, ecRules, judgeEc, readEc, ecHead, ecBytes
 use Rattle.header.specs.Vid.{layoutVolume, vidFields, volumeRule, staticRule, dynamicRule, layoutRule, vidRules, judgeVid, readVid, vidHead, vidBytes}
 use Rattle.header.specs.declared.EcHeader.{EcHeader}
 use Rattle.header.specs.declared.VidHeader.{VidHeader}
-use Rattle.volume_table.specs.Record.{recordOf, recordCrcMatches, emptyRecord, isEmpty, nameEnds, recordRules, recordGood}
+use Rattle.volume_record.specs.Record.{recordOf, recordCrcMatches, emptyRecord, isEmpty, nameEnds, recordRules, recordGood}
 use Rattle.volume_table.specs.Table.{recordCount, recordsPart, emptyOrGood, nameOf, sameNames, autoresizes, tableRules, tableTests, tableGood, takenLeb, takenRecords}
 use Rattle.report.specs.View.{Copy, Views, Medium, ecGood, vidBlank, allFF, copyOf, viewOf}
 use Rattle.report.specs.Scan.{imageSeq, viewRefusal, refusal5678, refusal10}
@@ -78,8 +78,8 @@ abc = 0x61 ∷ 0x62 ∷ 0x63 ∷ []
 pebOf : ℕ → VidHeader → List ℕ → List ℕ
 pebOf counter h leb = ecBytes (ec counter) ++ vidBytes h ++ leb
 
--- "four PEBs with counters 3, 5, 9, 4 holding layout LEBs 0 and 1 (sequences 1, 2), volume 0 LEB 0 (sequence 3, dynamic, "abc" and then
--- 0xFF) and nothing"
+-- "four PEBs with counters 3, 5, 9, 4 holding layout LEBs 0 and 1 (sequences 1, 2), volume 0 LEB 0 (sequence 3,
+-- dynamic, "abc" and then 0xFF) and nothing"
 pub image : List ℕ
 image =
     pebOf 3 (vid layoutVolume 0 5 1) layout ++ pebOf 5 (vid layoutVolume 1 5 2) layout ++ pebOf 9 (vid 0 0 0 3) (abc ++ replicate 893 0xFF)
@@ -161,7 +161,8 @@ shown (store at bs) = 1 ∷ at ∷ length bs ∷ []
 shown (erase at n) = 2 ∷ at ∷ n ∷ []
 shown nothing = []
 
--- the new headers: data size, flag, CRC and sequence; with unit 128; with no data; "free with 10", image sequence; "6 steps"
+-- the new headers: data size, flag, CRC and sequence; with unit 128; with no data; "free with 10", image sequence; "6
+-- steps"
 bench-headers :
     _≡_ {A = List ℕ}
     (newSize chip (copy chip abc) ∷ newFlag chip (copy chip abc) ∷ newCrc chip (copy chip abc) ∷ newVid chip 3 (copy chip abc) .sequence

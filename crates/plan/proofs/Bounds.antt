@@ -10,10 +10,10 @@ use native.Mathlib.Nat.{sub-zero}
 use lib.Dec.{eqb, leb, lit<}
 use borrow.Author.Tests.{eqb-true, eq-eqb, leb-true}
 use lib.ListN.{length, take, drop, getD, length-take, length-drop}
-use Rattle.base.specs.Answers.{allOf, mapO}
+use Rattle.base.specs.Answers.{allOf}
 use Rattle.base.specs.Below.{firstBelow}
 use Rattle.base.specs.Lists.{Bytes}
-use Rattle.base.proofs.Answers.{clash, and-left, and-right, each-holds}
+use Rattle.base.proofs.Answers.{by-option, clash, and-left, and-right, each-holds}
 use Rattle.base.proofs.Below.{first-hit}
 use Rattle.base.proofs.Highest.{max-most}
 use Rattle.base.proofs.Lists.{length-part, bytes-take, bytes-drop, bytes-part}
@@ -27,22 +27,23 @@ use Rattle.header.specs.declared.EcHeader.{EcHeader}
 use Rattle.header.proofs.Laws.{ec-good, vid-good}
 use Rattle.header.proofs.RoundTrip.{ec-read-fits, vid-read-fits}
 use Rattle.volume_table.specs.Table.{recordAt}
-use Rattle.volume_table.specs.declared.VolumeRecord.{VolumeRecord}
+use Rattle.volume_record.specs.declared.VolumeRecord.{VolumeRecord}
 use Rattle.volume_table.proofs.Good.{good-pads}
 use Rattle.report.specs.View.{Copy, copyOf, vidPart, pebAt, Views, Medium, mediumOf, ecs, copies}
 use Rattle.report.specs.Scan.{imageSeq}
 use Rattle.report.specs.Choice.{chosen}
 use Rattle.report.specs.Volumes.{faceOf, facesOf, tableLeb, recordFor, reservedOf, orZero}
-use Rattle.report.specs.Report.{counterOr, meanOf, highestOf, sequenceOr0, faces, places, records, refusal}
+use Rattle.report.specs.Report.{meanOf, highestOf, sequenceOr0, faces, places, records, refusal}
 use Rattle.report.proofs.Choice.{chosen-at}
 use Rattle.report.proofs.Facts.{parts}
 use Rattle.report.proofs.Mean.{mean-between}
 use Rattle.report.proofs.Tables.{no-misfit, entry-fits, record-good, table-good}
-use Rattle.plan.specs.Headers.{isStatic, dataEnd, newSize, oldCounter}
+use Rattle.plan.specs.Headers.{isStatic, dataEnd, newSize, newVid, oldCounter, newEc}
 use Rattle.job.proofs.Blocks.{peb-length}
 use Rattle.plan.proofs.Data.{end-within, round-within}
 use Rattle.job.proofs.Seen.{Read, copy-read, ec-seen}
-use Rattle.plan.proofs.Accepted.{InMap}
+use Rattle.plan.proofs.Accepted.{InMap, Accepted}
+use Rattle.plan.proofs.Good.{Good, Moves, good-headers}
 
 -- ---- the numbers in an image
 
@@ -79,7 +80,7 @@ module _ (g : Geometry) (P : Placed g) (n : ℕ) (image : List ℕ) (bytes : Byt
     fields : vidFields (vidPart g (peb i)) ≡ c .header
     fields = vid-good (g .«leb_size») (vidPart g (peb i)) (read .reads) .0
 
-    pub copy-widths : VidFits (c .header)
+    copy-widths : VidFits (c .header)
     copy-widths = subst VidFits fields (vid-read-fits (vidPart g (peb i)) (bytes-part (g .«vid_start») 64 (peb i) (peb-bytes i)) (vid-long i i<n))
 
     pub copy-rules : allOf (vidRules (g .«leb_size») (c .header)) ≡ true
@@ -89,13 +90,13 @@ module _ (g : Geometry) (P : Placed g) (n : ℕ) (image : List ℕ) (bytes : Byt
     unfolding copyOf
     body-is = ap (λ (x : Copy). x .body) (read .is)
 
-    pub body-long : length (c .body) ≡ g .«leb_size»
+    body-long : length (c .body) ≡ g .«leb_size»
     body-long = rw body-is (length-drop (g .«data_start») (peb i) ∙ omega (arith, peb-length g n image len i i<n, P .leb-fills))
 
-    pub body-bytes : Bytes (c .body)
+    body-bytes : Bytes (c .body)
     body-bytes = rw body-is (bytes-drop (g .«data_start») (peb i) (peb-bytes i))
 
-    pub matches-is : c .matches ≡ eqb (crcOf (take (c .header .«data_size») (c .body))) (c .header .«data_crc»)
+    matches-is : c .matches ≡ eqb (crcOf (take (c .header .«data_size») (c .body))) (c .header .«data_crc»)
     unfolding copyOf
     matches-is = rw body-is (ap (λ (x : Copy). x .matches) (read .is))
 
@@ -111,13 +112,10 @@ module _ (g : Geometry) (P : Placed g) (n : ℕ) (image : List ℕ) (bytes : Byt
     counter-most = ec-good (take 64 (peb i)) (ec-seen g (peb i) h is) .1
 
   -- the highest sequence
-  sequence-most : (i : ℕ) → i < n → (x : Option Copy) → copies vs i ≡ x → sequenceOr0 x ≤ 256 ^ 8 - 1
-  sequence-most i h none e = omega arith
-  sequence-most i h (some c) e = let w = copy-widths i h c e .sequence in omega arith
-
-  pub highest-most : highestOf n (copies vs) ≤ 256 ^ 8 - 1
+  highest-most : highestOf n (copies vs) ≤ 256 ^ 8 - 1
   unfolding highestOf
-  highest-most = max-most n (λ i. sequenceOr0 (copies vs i)) (256 ^ 8 - 1) (λ i h. sequence-most i h (copies vs i) refl)
+  highest-most = max-most n (λ i. sequenceOr0 (copies vs i)) (256 ^ 8 - 1)
+      (λ i h. by-option (copies vs i) (λ e. rw e (omega arith)) (λ c e. rw e (let w = copy-widths i h c e .sequence in omega arith)))
 
   -- where one EC header is good: the old PEB's counter, and the image sequence
   module _ (t : ℕ) (t<n : t < n) (s : EcHeader) (is : ecs vs t ≡ some s) where
@@ -127,21 +125,15 @@ module _ (g : Geometry) (P : Placed g) (n : ℕ) (image : List ℕ) (bytes : Byt
         let b = r .1 in
         omega (arith, r .3, counter-most (b .at) (b .below) (b .value) (b .is))
 
-    pub old-counter-most : (o : ℕ) → o < n → oldCounter m o ≤ 0x7FFFFFFF
+    old-counter-most : (o : ℕ) → o < n → oldCounter m o ≤ 0x7FFFFFFF
     unfolding oldCounter
-    old-counter-most o h = go (ecs vs o) refl
-      where
-        go : (x : Option EcHeader) → ecs vs o ≡ x → counterOr (meanOf m) x ≤ 0x7FFFFFFF
-        go none e = mean-most
-        go (some x) e = counter-most o h x e
+    old-counter-most o h = by-option (ecs vs o) (λ e. rw e mean-most) (λ x e. rw e (counter-most o h x e))
 
-  pub image-small : orZero (imageSeq n vs) < 256 ^ 4
+  image-small : orZero (imageSeq n vs) < 256 ^ 4
   unfolding imageSeq
-  image-small = go (firstBelow n (ecs vs)) refl
-    where
-      go : (x : Option (ℕ × EcHeader)) → firstBelow n (ecs vs) ≡ x → orZero (mapO (λ (x : ℕ × EcHeader). x .1 .«image_seq») x) < 256 ^ 4
-      go none q = lit< tt
-      go (some x) q = let h = first-hit n (ecs vs) (x .0) (x .1) q in ec-widths (x .0) (h .0) (x .1) (h .1) .image-seq
+  image-small =
+      by-option (firstBelow n (ecs vs)) (λ q. rw q (lit< tt))
+      (λ x q. let h = first-hit n (ecs vs) (x .0) (x .1) q in rw q (ec-widths (x .0) (h .0) (x .1) (h .1) .image-seq))
 
   -- ---- the rounded data size fits the LEB: by the table's rule on pads and refusal 12
 
@@ -186,7 +178,7 @@ module _ (g : Geometry) (P : Placed g) (n : ℕ) (image : List ℕ) (bytes : Byt
             let q = record-good _ _ _ _ _ t (table-good m ok) v r e in
             rw (p, q .2) (good-pads (g .«leb_size») (g .unit) (recordAt t v) (q .1) (P .unit-divides))
 
-    pub size-fits : InMap t v l → newSize g c ≤ g .«leb_size» - c .header .«data_pad»
+    size-fits : InMap t v l → newSize g c ≤ g .«leb_size» - c .header .«data_pad»
     unfolding newSize vidRules
     size-fits k = go (isStatic c)
       where
@@ -199,3 +191,30 @@ module _ (g : Geometry) (P : Placed g) (n : ℕ) (image : List ℕ) (bytes : Byt
             let q = end-within (take top (c .body)) in
             let r = length-take top (c .body) in
             round-within (g .unit) (dataEnd (take top (c .body))) top (P .unit-above) (pad-units k) (omega arith)
+
+  -- ---- the headers of an accepted move are good
+
+  module _ (ok : refusal m ≡ none) (v l t o : ℕ) (c : Copy) (a : Accepted m v l t o c) where
+    moves : Moves g c
+    moves =
+        let h = chosen-at n (copies vs) v l o c (a .is-chosen) in
+        record {
+          is-sound = a .is-sound;
+          is-right = a .is-right;
+          long = body-long o (h .0) c (h .1);
+          bytes = body-bytes o (h .0) c (h .1);
+          matches-is = matches-is o (h .0) c (h .1);
+          rules = copy-rules o (h .0) c (h .1);
+          widths = copy-widths o (h .0) c (h .1);
+          size-fits = size-fits ok v l o c (a .is-chosen) (a .in-map);
+        }
+
+    pub goods : Good g (imageSeq n vs) c (newVid g (highestOf n (copies vs)) c) (newEc m o)
+    goods =
+        let h = chosen-at n (copies vs) v l o c (a .is-chosen) in
+        let f = a .target-free .1 in
+        let count = old-counter-most t (a .target-there) (f .0) (rw (f .1)) o (h .0) in
+        let high = highest-most in
+        let left = a .sequence-left in
+        let more = a .counter-left in
+        good-headers g P c moves (highestOf n (copies vs)) (omega arith) n vs o (omega arith) image-small

@@ -1,17 +1,18 @@
--- The headers of an accepted move: what they have to do with the copy that it moves, and that they are good. Assumes nothing.
+-- The headers of an accepted move: what they have to do with the copy that it moves, and that they are good. Assumes
+-- nothing.
 use mathlib.Core.Path.{_≡_, refl, sym, _∙_}
-use mathlib.Core.Logic.{_≢_, _⊎_, inl, inr}
+use mathlib.Core.Logic.{_≢_, _⊎_, inl, inr, ⊎-elim}
 use mathlib.Core.Bool.{Bool, true, false, not, _&&_, _||_, cond}
-use mathlib.Core.Option.{Option, none, some}
+use mathlib.Core.Option.{Option, none}
 use mathlib.Core.List.{List}
 use Prim.Native.Nat.{ℕ, _+_, _-_, _^_, _≤_, _<_}
 use native.Mathlib.Omega.{arith}
-use lib.Dec.{eqb, ltb, leb, lit<}
+use lib.Dec.{eqb, ltb, lit<}
 use borrow.Author.Tests.{eqb-true, eqb-false, eq-eqb, lt-ltb, le-leb}
 use lib.ListN.{length, take, drop, getD, replicate}
 use Rattle.base.specs.Answers.{allOf}
 use Rattle.base.specs.Lists.{Bytes}
-use Rattle.base.proofs.Answers.{and-left, each-holds}
+use Rattle.base.proofs.Answers.{by-test, by-option, and-left, each-holds}
 use Rattle.base.proofs.Lists.{bytes-take}
 use Rattle.crc32.specs.Crc.{crcOf}
 use Rattle.crc32.proofs.Laws.{crcOf-lt}
@@ -25,7 +26,7 @@ use Rattle.header.specs.Vid.{implies, volumeRule, staticRule, dynamicRule, layo
 use Rattle.header.specs.declared.EcHeader.{EcHeader}
 use Rattle.header.specs.declared.VidHeader.{VidHeader}
 use Rattle.report.specs.View.{Copy, ecGood, Views, Medium}
-use Rattle.report.specs.Scan.{when, differs, imageSeq, ecRefusal}
+use Rattle.report.specs.Scan.{imageSeq, ecRefusal}
 use Rattle.report.specs.Choice.{sound}
 use Rattle.report.specs.Volumes.{contentOf, orZero}
 use Rattle.plan.specs.Headers.{isStatic, dataEnd, newSize, newFlag, newCrc, newVid, oldCounter, newEc}
@@ -80,14 +81,13 @@ module _ (g : Geometry) (P : Placed g) (c : Copy) (m : Moves g c) (highest : ℕ
   unfolding newSize
   dynamic-size e = rw e
 
-  no-data : newFlag g c ≡ 0 → d ≡ 0
+  flag-is : (newFlag g c ≡ 1) ⊎ ((newFlag g c ≡ 0) × (d ≡ 0))
   unfolding newFlag
-  no-data e = go (isStatic c) (eqb d 0) refl e
-    where
-      go : (s b : Bool) → eqb d 0 ≡ b → cond {A = ℕ} s 1 (cond b 0 1) ≡ 0 → d ≡ 0
-      go true b q r = absurd (omega arith)
-      go false true q r = eqb-true d 0 q
-      go false false q r = absurd (omega arith)
+  flag-is =
+      by-test (isStatic c) (λ s. inl (rw s)) (λ s. by-test (eqb d 0) (λ z. inr (rw (s, z), eqb-true d 0 z)) (λ z. inl (rw (s, z))))
+
+  flag-most : newFlag g c ≤ 1
+  flag-most = ⊎-elim (λ q. omega arith) (λ q. omega (arith, q .0)) flag-is
 
   crc-static : isStatic c ≡ true → eqb (crcOf (take d (c .body))) (newCrc g c) ≡ true
   unfolding newCrc
@@ -95,19 +95,12 @@ module _ (g : Geometry) (P : Placed g) (c : Copy) (m : Moves g c) (highest : ℕ
 
   summed : (newFlag g c ≡ 0) ⊎ (newCrc g c ≡ crcOf (take d (c .body)))
   unfolding newFlag newCrc
-  summed = go (isStatic c) refl (eqb d 0) refl
-    where
-      go : (s : Bool) → isStatic c ≡ s → (b : Bool) → eqb d 0 ≡ b → (newFlag g c ≡ 0) ⊎ (newCrc g c ≡ crcOf (take d (c .body)))
-      go true q b r = inr (sym (eqb-true (crcOf (take d (c .body))) (newCrc g c) (crc-static q)))
-      go false q true r = inl (rw (q, r))
-      go false q false r = inr (rw (q, r))
+  summed =
+      by-test (isStatic c) (λ q. inr (sym (eqb-true (crcOf (take d (c .body))) (newCrc g c) (crc-static q))))
+      (λ q. by-test (eqb d 0) (λ r. inl (rw (q, r))) (λ r. inr (rw (q, r))))
 
   new-right : not (isStatic c) || eqb (crcOf (take d (c .body))) (newCrc g c) ≡ true
-  new-right = go (isStatic c) refl
-    where
-      go : (s : Bool) → isStatic c ≡ s → not s || eqb (crcOf (take d (c .body))) (newCrc g c) ≡ true
-      go true q = crc-static q
-      go false q = refl
+  new-right = by-test (isStatic c) (λ q. rw q (crc-static q)) (λ q. rw q)
 
   content : (b : List ℕ) → take d b ≡ take d (c .body) → drop d b ≡ replicate (g .«leb_size» - d) 0xFF
       → take (cond (isStatic c) d (g .«leb_size» - c .header .«data_pad»)) b ≡ contentOf g c
@@ -128,25 +121,9 @@ module _ (g : Geometry) (P : Placed g) (c : Copy) (m : Moves g c) (highest : ℕ
   rule : (k : ℕ) → getD (vidRules (g .«leb_size») (c .header)) k true ≡ true
   rule = each-holds (vidRules (g .«leb_size») (c .header)) (m .rules)
 
-  flag-rule : leb (h .«copy_flag») 1 ≡ true
-  unfolding newVid newFlag
-  flag-rule = go (isStatic c) (eqb d 0)
-    where
-      go : (a b : Bool) → leb (cond {A = ℕ} a 1 (cond b 0 1)) 1 ≡ true
-      go true b = refl
-      go false true = refl
-      go false false = refl
-
   static-rule : staticRule (g .«leb_size») h ≡ true
-  unfolding newVid vidRules staticRule newSize
-  static-rule = go (isStatic c) refl (rule 7)
-    where
-      then : ℕ → Bool
-      then x = ltb (c .header .lnum) (c .header .«used_lebs») && (ltb 0 x && (eqb (c .header .lnum + 1) (c .header .«used_lebs») || eqb x (g .«leb_size» - c .header .«data_pad»)))
-
-      go : (a : Bool) → isStatic c ≡ a → implies a (then (c .header .«data_size»)) ≡ true → implies a (then d) ≡ true
-      go true e r = rw e r
-      go false e r = refl
+  unfolding newVid vidRules staticRule
+  static-rule = by-test (isStatic c) (λ e. rw (static-size e) (rule 7)) (λ e. rw e)
 
   dynamic-rule : dynamicRule h ≡ true
   unfolding newVid vidRules dynamicRule newFlag newCrc
@@ -179,7 +156,7 @@ module _ (g : Geometry) (P : Placed g) (c : Copy) (m : Moves g c) (highest : ℕ
   unfolding vidRules newVid
   all-rules =
       rw (
-        flag-rule,
+        le-leb (newFlag g c) 1 flag-most,
         rule 1,
         kept-rule .0,
         rule 3,
@@ -197,23 +174,11 @@ module _ (g : Geometry) (P : Placed g) (c : Copy) (m : Moves g c) (highest : ℕ
 
   -- ---- the widths
 
-  flag-small : newFlag g c < 256 ^ 1
-  unfolding newFlag
-  flag-small = go (isStatic c) (eqb d 0)
-    where
-      go : (a b : Bool) → cond {A = ℕ} a 1 (cond b 0 1) < 256 ^ 1
-      go true b = lit< tt
-      go false true = lit< tt
-      go false false = lit< tt
-
   crc-small : newCrc g c < 256 ^ 4
   unfolding newCrc
-  crc-small = go (isStatic c) (eqb d 0)
-    where
-      go : (a b : Bool) → cond a (c .header .«data_crc») (cond b 0 (crcOf (take d (c .body)))) < 256 ^ 4
-      go true b = m .widths .data-crc
-      go false true = lit< tt
-      go false false = crcOf-lt (take d (c .body)) (bytes-take d (c .body) (m .bytes))
+  crc-small =
+      by-test (isStatic c) (λ q. rw q (m .widths .data-crc))
+      (λ q. by-test (eqb d 0) (λ r. rw (q, r) (lit< tt)) (λ r. rw (q, r) (crcOf-lt (take d (c .body)) (bytes-take d (c .body) (m .bytes)))))
 
   data-within : d ≤ g .«leb_size»
   data-within = let s = m .size-fits in omega arith
@@ -223,7 +188,7 @@ module _ (g : Geometry) (P : Placed g) (c : Copy) (m : Moves g c) (highest : ℕ
   vid-widths = record {
     version = lit< tt;
     vol-type = m .widths .vol-type;
-    copy-flag = flag-small;
+    copy-flag = omega (arith, flag-most);
     compat = m .widths .compat;
     volume = m .widths .volume;
     lnum = m .widths .lnum;
@@ -260,11 +225,9 @@ module _ (g : Geometry) (P : Placed g) (c : Copy) (m : Moves g c) (highest : ℕ
 
     ec-stands : ecRefusal g (imageSeq n vs) (ecGood e) ≡ none
     unfolding newEc
-    ec-stands = rw (eq-eqb (g .«vid_start») (g .«vid_start») refl, eq-eqb (g .«data_start») (g .«data_start») refl) (go (imageSeq n vs))
-      where
-        go : (r : Option ℕ) → when (differs r (orZero r)) 7 ≡ none
-        go none = refl
-        go (some s) = rw (eq-eqb s s refl)
+    ec-stands =
+        rw (eq-eqb (g .«vid_start») (g .«vid_start») refl, eq-eqb (g .«data_start») (g .«data_start») refl)
+        (by-option (imageSeq n vs) (λ q. rw q) (λ s q. rw (q, eq-eqb s s refl)))
 
     pub good-headers : Good g (imageSeq n vs) c h e
     unfolding newVid
@@ -278,7 +241,7 @@ module _ (g : Geometry) (P : Placed g) (c : Copy) (m : Moves g c) (highest : ℕ
       same-pad = refl;
       same-used = refl;
       data-fits = data-within;
-      no-data = no-data;
+      no-data = λ e. ⊎-elim (λ q. absurd (omega arith)) (λ q. q .1) flag-is;
       summed = summed;
       old-sound = m .is-sound;
       old-right = m .is-right;

@@ -14,7 +14,6 @@ use Rattle.geometry.specs.Geometry.{geometryRules, geometryOf, makeGeometry}
 use Rattle.geometry.specs.declared.Geometry.{Geometry}
 use Rattle.geometry.proofs.Laws.{placed, unit-range}
 use Rattle.header.specs.Fields.{good, bad, newer, judged, isGood}
-use Rattle.header.specs.Ec.{judgeEc}
 use Rattle.header.specs.Vid.{judgeVid, vidRules}
 use Rattle.header.specs.declared.VidHeader.{VidHeader}
 use Rattle.geometry.specs.Image.{imageRules}

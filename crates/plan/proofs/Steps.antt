@@ -1,13 +1,12 @@
 -- A move is a job: its steps fulfil the laws of all jobs. Assumes nothing.
-use mathlib.Core.Path.{_≡_, refl, _∙_, ap}
+use mathlib.Core.Path.{_≡_, refl}
 use mathlib.Core.Bool.{true}
 use mathlib.Core.List.{List}
 use Prim.Native.Nat.{ℕ, _+_, _-_, _*_, _/_, _≤_, _<_, min}
 use native.Mathlib.Omega.{arith}
-use lib.ListN.{length, length-take}
+use lib.ListN.{length-take}
 use Rattle.base.specs.Lists.{Bytes}
 use Rattle.base.proofs.Lists.{bytes-part}
-use Rattle.geometry.specs.Placed.{Placed}
 use Rattle.geometry.specs.declared.Geometry.{Geometry}
 use Rattle.header.proofs.Writes.{vid-64, ec-64}
 use Rattle.geometry.specs.Image.{imageRules}

@@ -35,7 +35,9 @@ module _ (m : Medium) where
   -- 13 "read-only mark, or a compatibility 1 block stands"
   unfoldable pub refusal13 : Option ℕ
   refusal13 =
-      when (readOnlyOf (m .count) (copies (m .views)) || anyBelow (m .count) (λ (i : ℕ). isInternal 1 (copies (m .views) i))) 13
+      when
+      (readOnlyOf (m .count) (copies (m .views)) || anyBelow (m .count) (λ (i : ℕ). isInternal 1 (copies (m .views) i)))
+      13
 
   -- PEB and copy of a LEB that is in the map
   unfoldable pub mapped : ℕ → ℕ → Option (ℕ × Copy)
@@ -47,7 +49,8 @@ module _ (m : Medium) where
 
   -- 17 "highest sequence 2^64-1, or the old PEB's counter (mean if lost) 0x7FFFFFFF"
   unfoldable pub refusal17 : ℕ → Option ℕ
-  refusal17 old = when (eqb (highestOf (m .count) (copies (m .views))) (2 ^ 64 - 1) || eqb (oldCounter m old) 0x7FFFFFFF) 17
+  refusal17 old =
+      when (eqb (highestOf (m .count) (copies (m .views))) (2 ^ 64 - 1) || eqb (oldCounter m old) 0x7FFFFFFF) 17
 
   -- the plan of a move of this copy
   unfoldable pub makePlan : ℕ → ℕ → Copy → Plan
@@ -79,9 +82,9 @@ beginOn (early k) v l t = refused k 0
 beginOn (late n r) v l t = refused (r .number) (r .place)
 beginOn (whole m) v l t = planOf m v l t
 
--- "Beginning a move first attaches into the lent tables ..; after 13 to 17, or its success, they hold that report": the lent tables
--- afterwards are those after attaching in every case, `tablesAfter` of report's specs/Attach.antt. `room` says of a PEB count
--- whether they are long enough for it
+-- "Beginning a move first attaches into the lent tables ..; after 13 to 17, or its success, they hold that report": the
+-- lent tables afterwards are those after attaching in every case, `tablesAfter` of report's specs/Attach.antt. `room`
+-- says of a PEB count whether they are long enough for it
 unfoldable pub beginning : AttachRequest → List ℕ → (ℕ → Bool) → ℕ → ℕ → ℕ → Answer Plan
 beginning req image room v l t = beginOn (attaching req image room) v l t
 

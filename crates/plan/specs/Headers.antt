@@ -23,9 +23,10 @@ unfoldable pub dataEnd : List ℕ → ℕ
 dataEnd [] = 0
 dataEnd (b ∷ bs) = cond (allFF (b ∷ bs)) 0 (suc (dataEnd bs))
 
--- "Static keeps data size and CRC, flag 1. Dynamic: data size is the place after the last non-0xFF byte of the first (LEB size less
--- pad) bytes, rounded up to the unit, with its CRC and flag 1; if that is 0, flag, size and CRC are 0." These bytes are the LEB's
--- content: "A LEB's content is its first (LEB size less pad) bytes, or data size bytes if static."
+-- "Static keeps data size and CRC, flag 1. Dynamic: data size is the place after the last non-0xFF byte of the first
+-- (LEB size less pad) bytes, rounded up to the unit, with its CRC and flag 1; if that is 0, flag, size and CRC are 0."
+-- These bytes are the LEB's content: "A LEB's content is its first (LEB size less pad) bytes, or data size bytes if
+-- static."
 unfoldable pub newSize : Geometry → Copy → ℕ
 newSize g c = cond (isStatic c) (c .header .«data_size») (roundUp (g .unit) (dataEnd (contentOf g c)))
 
@@ -33,10 +34,12 @@ unfoldable pub newFlag : Geometry → Copy → ℕ
 newFlag g c = cond (isStatic c) 1 (cond (eqb (newSize g c) 0) 0 1)
 
 unfoldable pub newCrc : Geometry → Copy → ℕ
-newCrc g c = cond (isStatic c) (c .header .«data_crc») (cond (eqb (newSize g c) 0) 0 (crcOf (take (newSize g c) (c .body))))
+newCrc g c =
+    cond (isStatic c) (c .header .«data_crc»)
+    (cond (eqb (newSize g c) 0) 0 (crcOf (take (newSize g c) (c .body))))
 
--- "The new VID header keeps volume, LEB, type, compatibility, used LEBs and pad; sequence is highest plus 1. Both new headers have
--- version 1 and zero padding"
+-- "The new VID header keeps volume, LEB, type, compatibility, used LEBs and pad; sequence is highest plus 1. Both new
+-- headers have version 1 and zero padding"
 unfoldable pub newVid : Geometry → ℕ → Copy → VidHeader
 newVid g highest c = record {
   version = 1;
@@ -56,8 +59,8 @@ newVid g highest c = record {
 unfoldable pub oldCounter : Medium → ℕ → ℕ
 oldCounter m old = counterOr (meanOf m) (ecs (m .views) old)
 
--- "the EC header has the geometry's starts and the image sequence that refusal 7 compares with"; "with counter (mean if lost) plus 1".
--- Where a move is accepted there is such a sequence: the target has a good EC header
+-- "the EC header has the geometry's starts and the image sequence that refusal 7 compares with"; "with counter (mean if
+-- lost) plus 1". Where a move is accepted there is such a sequence: the target has a good EC header
 unfoldable pub newEc : Medium → ℕ → EcHeader
 newEc m old = record {
   version = 1;

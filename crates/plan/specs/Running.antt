@@ -1,5 +1,5 @@
--- What is known of a plan whose steps may run on an image; contracts of inner functions ask for it, and no public promise does. Assumes
--- nothing.
+-- What is known of a plan whose steps may run on an image; contracts of inner functions ask for it, and no public
+-- promise does. Assumes nothing.
 use mathlib.Core.Path.{_≡_}
 use mathlib.Core.Bool.{true}
 use mathlib.Core.Logic.{_≢_}

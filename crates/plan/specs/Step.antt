@@ -15,8 +15,8 @@ use Rattle.plan.specs.declared.Plan.{Plan}
 use Rattle.plan.specs.declared.Stepped.{Stepped}
 use Rattle.plan.specs.declared.Stepped.the-variants.{On, Done, Refused}
 
--- what refusal 18 asks of a plan and an image: "plan's geometry meets 2 or the image 3, a PEB is absent, both are one, or 19 would
--- refuse a header of the plan"
+-- what refusal 18 asks of a plan and an image: "plan's geometry meets 2 or the image 3, a PEB is absent, both are one,
+-- or 19 would refuse a header of the plan"
 unfoldable pub stepRules : Plan → List ℕ → List Bool
 stepRules p image =
     allOf (geometryRules (p .«peb_size») (p .unit) (p .«sub_unit»)) ∷ allOf (imageRules (planGeometry p) image)
@@ -43,7 +43,13 @@ oneOn p = record {
 
 -- the job whose steps are a move
 abbrev pub moverJob : Job Plan
-moverJob = record { runnable = runnable; count = λ p image. stepCount p; ran = λ p. p .steps; next = oneOn; write = writeAfter }
+moverJob = record {
+  runnable = runnable;
+  count = λ p image. stepCount p;
+  ran = λ p. p .steps;
+  next = oneOn;
+  write = writeAfter;
+}
 
 -- what each case of the answer is in 01
 abbrev pub steppedAnswer : Stepped → Answer (Progress Plan)

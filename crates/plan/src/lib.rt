@@ -1,5 +1,5 @@
-// A move of one logical block: what its beginning and its steps answer. The definitions and laws that the mover and the power-cut
-// theorem cite stand in specs/ and proofs/.
+// A move of one logical block: what its beginning and its steps answer. The definitions and laws that the mover and the
+// power-cut theorem cite stand in specs/ and proofs/.
 use header::EcHeader;
 use header::VidHeader;
 

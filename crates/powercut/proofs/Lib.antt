@@ -1,4 +1,3 @@
-pub mod Stage
 pub mod Stops
 pub mod Move
 pub mod Theorem

@@ -1,33 +1,32 @@
 -- One accepted move: what any course of it leaves. Assumes nothing.
-use mathlib.Core.Path.{_≡_, refl, sym, _∙_, ap, ap₂, subst}
+use mathlib.Core.Path.{_≡_, refl, sym, _∙_, ap, ap₂}
 use mathlib.Core.Logic.{_≢_, _⊎_, inl, inr, ⊎-elim}
 use mathlib.Core.Bool.{Bool, true, false, _&&_, cond}
 use mathlib.Core.Option.{none, some}
 use mathlib.Core.List.{List}
-use Prim.Native.Nat.{ℕ, _+_, _-_, _*_, _/_, _≤_, _<_, min}
+use Prim.Native.Nat.{ℕ, _+_, _-_, _*_, _/_, _<_, min}
 use native.Mathlib.Omega.{arith}
 use borrow.Author.Tests.{lt-ltb, ne-eqb}
-use lib.ListN.{length, take, drop, getD, replicate, length-take, length-drop, length-replicate}
-use lib.Seq.{take-at, take-all, drop-drop}
+use lib.ListN.{length, drop, getD, replicate, length-drop}
+use lib.Seq.{take-all, drop-drop}
 use Rattle.base.specs.Answers.{given, allOf}
 use Rattle.base.specs.Lists.{part, put, Bytes}
 use Rattle.base.proofs.Answers.{each-holds}
 use Rattle.base.proofs.Lists.{length-part, part-part}
-use Rattle.base.proofs.Stores.{put-behind, drop-replicate, take-replicate}
+use Rattle.base.proofs.Stores.{drop-replicate}
 use Rattle.geometry.specs.Geometry.{geometryRules}
 use Rattle.geometry.specs.Placed.{Placed}
 use Rattle.geometry.specs.declared.Geometry.{Geometry}
-use Rattle.header.specs.Fields.{good}
+use Rattle.header.specs.Fields.{isGood}
 use Rattle.header.specs.Ec.{judgeEc, ecBytes}
 use Rattle.header.specs.Vid.{judgeVid, vidBytes}
-use Rattle.report.specs.View.{allFF, Copy, ecGood, vidBlank, Views, vidPart, viewOf, viewsOf, pebAt, ecs, copies, Medium, mediumOf}
-use Rattle.report.specs.Scan.{imageSeq, ecRefusal}
+use Rattle.report.specs.View.{allFF, Copy, ecGood, vidBlank, Views, vidPart, viewOf, viewsOf, pebAt, copies, Medium, mediumOf}
+use Rattle.report.specs.Scan.{imageSeq}
 use Rattle.report.specs.Volumes.{placesOf, tableRecords, mapOf}
-use Rattle.report.specs.Report.{highestOf, faces, places, records, classAt, entries, refusal}
+use Rattle.report.specs.Report.{faces, places, records, classAt, entries, refusal}
 use Rattle.geometry.specs.Image.{pebCount, imageRules}
 use Rattle.report.specs.Attach.{AttachRequest, whole}
 use Rattle.report.proofs.Choice.{chosen-at}
-use Rattle.report.proofs.Facts.{parts, none5678-at}
 use Rattle.report.proofs.First.{none-some}
 use Rattle.report.specs.Volumes.{placeWritten}
 use Rattle.report.proofs.Map.{placesWith, map-moved}
@@ -38,28 +37,28 @@ use Rattle.plan.specs.Write.{planGeometry, dataSteps, stepCount, unitBytes, rel
 use Rattle.plan.specs.Step.{stepRules, runnable, moverJob}
 use Rattle.job.specs.Course.{Stop, Course, toEnd, toStop, imageLeft}
 use Rattle.job.specs.Relocation.{relocating}
-use Rattle.job.specs.Write.{Write, appliedCut}
+use Rattle.job.specs.Write.{Write}
 use Rattle.job.specs.Outcomes.{outcomeOf}
 use Rattle.job.proofs.Blocks.{peb-length, same-byte}
-use Rattle.job.proofs.Seen.{Read, ec-written, vid-erased}
+use Rattle.job.proofs.Seen.{Read, ec-written, vid-erased, renewed-ec, renewed-vid}
 use Rattle.job.proofs.Outcomes.{Ruled, slip-ruled, Chip, chip-placed, peb-above, count-is, image-ruled, attached}
-use Rattle.job.proofs.Runs.{written, steps, left-is, left-octets}
-use Rattle.job.proofs.Relocated.{Sited, Near, Stored, Halt, cut-halts, Whole, whole-end}
+use Rattle.job.proofs.Runs.{steps, left-is, left-octets}
+use Rattle.job.proofs.Relocated.{Sited, Relocates, Near, Stored, Halt, cut-halts, Whole, whole-end}
 use Rattle.plan.proofs.Data.{all-ff, unit-starts, units-cover}
 use Rattle.plan.proofs.Accepted.{Accepted, in-map-mappable, below-next}
-use Rattle.plan.proofs.Good.{Good, Moves, good-headers}
-use Rattle.plan.proofs.Bounds.{read, copy-widths, copy-rules, body-long, body-bytes, matches-is, highest-most, old-counter-most, image-small, size-fits}
+use Rattle.plan.proofs.Good.{Good}
+use Rattle.plan.proofs.Bounds.{read, goods}
 use Rattle.plan.proofs.Steps.{mover-lawful}
 use Rattle.powercut.specs.Book.{headerWhole, runWhole, isWritten}
 use Rattle.powercut.specs.Premise.{premiseRules, premiseOf}
 use Rattle.powercut.specs.Claim.{Freed, Moved}
 use Rattle.header.proofs.Writes.{ec-64, vid-64}
-use Rattle.powercut.proofs.Stage.{Ready, Stopped, isWhole, Keeps, keeps}
+use Rattle.job.proofs.Stage.{Ready, Keeps}
 use Rattle.powercut.proofs.Stops.{stopped, finished}
 
 runnable-by : (p : Plan) (g : Geometry) (image : List ℕ) (n : ℕ) → allOf (geometryRules (p .«peb_size») (p .unit) (p .«sub_unit»)) ≡ true
     → planGeometry p ≡ g → allOf (imageRules g image) ≡ true → pebCount g image ≡ n → p .old < n → p .target < n → p .old ≢ p .target
-    → judgeVid (g .«leb_size») (p .vid) ≡ good (p .vid) → judgeEc (p .ec) ≡ good (p .ec) → runnable p image ≡ true
+    → isGood (judgeVid (g .«leb_size») (p .vid)) ≡ true → isGood (judgeEc (p .ec)) ≡ true → runnable p image ≡ true
 unfolding runnable stepRules
 runnable-by p g image n r geo i c o t ne v e = rw (r, geo, i, c, lt-ltb (p .old) n o, lt-ltb (p .target) n t, ne-eqb (p .old) (p .target) ne, v, e)
 
@@ -91,30 +90,9 @@ module _ (req : AttachRequest) (g : Geometry) (n : ℕ) (chip : Chip req g n) (i
   at-o : (o < n) × (copies vs o ≡ some c) × (c .header .volume ≡ v) × (c .header .lnum ≡ l)
   at-o = chosen-at n (copies vs) v l o c (a .is-chosen)
 
-  moves : Moves g c
-  moves =
-      let h = at-o .0 in
-      let q = at-o .1 in
-      record {
-        is-sound = a .is-sound;
-        is-right = a .is-right;
-        long = body-long g P n image (f .bytes) (f .long) o h c q;
-        bytes = body-bytes g P n image (f .bytes) (f .long) o h c q;
-        matches-is = matches-is g P n image (f .bytes) (f .long) o h c q;
-        rules = copy-rules g P n image (f .bytes) (f .long) o h c q;
-        widths = copy-widths g P n image (f .bytes) (f .long) o h c q;
-        size-fits = size-fits g P n image (f .bytes) (f .long) (f .unrefused) v l o c (a .is-chosen) (a .in-map);
-      }
-
-  goods : Good g (imageSeq n vs) c (p .vid) (p .ec)
+  good : Good g (imageSeq n vs) c (p .vid) (p .ec)
   unfolding makePlan
-  goods =
-      let high = highest-most g P n image (f .bytes) (f .long) in
-      let left = a .sequence-left in
-      let s : ecs vs t ≡ some (a .target-free .1 .0) = rw (a .target-free .1 .1) in
-      let count = old-counter-most g P n image (f .bytes) (f .long) t (a .target-there) (a .target-free .1 .0) s o (at-o .0) in
-      let more = a .counter-left in
-      good-headers g P c moves (highestOf n (copies vs)) (omega arith) n vs o (omega arith) (image-small g P n image (f .bytes) (f .long))
+  good = goods g P n image (f .bytes) (f .long) (f .unrefused) v l t o c a
 
   ready : Ready m v l (p .old) (p .target) c (p .vid)
   unfolding makePlan newVid
@@ -146,24 +124,10 @@ module _ (req : AttachRequest) (g : Geometry) (n : ℕ) (chip : Chip req g n) (i
   unfolding makePlan
   may-run =
       runnable-by p g image n rules geometry-is (image-ruled req g n chip image (f .long)) (count-is req g n chip image (f .long)) (at-o .0)
-      (a .target-there) apart (goods .vid-good) (goods .ec-good)
+      (a .target-there) apart (rw (good .vid-good)) (rw (good .ec-good))
 
   abbrev d : ℕ
   d = p .vid .«data_size»
-
-  sited : Sited g n d (relocation p image)
-  unfolding makePlan dataSteps
-  sited = record {
-    placed = P;
-    old-there = at-o .0;
-    target-there = a .target-there;
-    apart = apart;
-    vid-64 = vid-64 (p .vid);
-    ec-64 = ec-64 (p .ec);
-    data-fits = goods .data-fits;
-    unit-starts = λ j h. unit-starts j d (g .unit) (P .unit-above) h;
-    units-cover = units-cover d (g .unit) (P .unit-above);
-  }
 
   -- ---- the two PEBs at first
 
@@ -174,17 +138,16 @@ module _ (req : AttachRequest) (g : Geometry) (n : ℕ) (chip : Chip req g n) (i
   O = pebAt g image (p .old)
 
   lenT : length T ≡ g .«peb_size»
-  lenT = peb-length g n image (f .long) (p .target) (sited .target-there)
+  unfolding makePlan
+  lenT = peb-length g n image (f .long) (p .target) (a .target-there)
 
   lenO : length O ≡ g .«peb_size»
-  lenO = peb-length g n image (f .long) (p .old) (sited .old-there)
+  unfolding makePlan
+  lenO = peb-length g n image (f .long) (p .old) (at-o .0)
 
   read-O : Read g O c
   unfolding makePlan
   read-O = read g P n image (f .bytes) (f .long) o (at-o .0) c (at-o .1)
-
-  o-before : ecRefusal g (imageSeq n vs) (viewOf g O .ec) ≡ none
-  o-before = none5678-at m (parts m (f .unrefused) .none5678) (p .old) (sited .old-there) .0
 
   clean-T : allFF (drop 64 T) ≡ true
   unfolding makePlan viewOf
@@ -192,7 +155,7 @@ module _ (req : AttachRequest) (g : Geometry) (n : ℕ) (chip : Chip req g n) (i
 
   blank-T : drop (g .«data_start» + d) T ≡ replicate (g .«leb_size» - d) 0xFF
   blank-T =
-      let s = goods .data-fits in
+      let s = good .data-fits in
       let e : g .«data_start» + d ≡ 64 + (g .«data_start» + d - 64) = omega (arith, P .vid-after-ec, P .data-after-vid) in
       let k : length (drop 64 T) - (g .«data_start» + d - 64) ≡ g .«leb_size» - d =
       rw length-drop (omega (arith, lenT, P .vid-after-ec, P .data-after-vid, P .leb-fills)) in
@@ -202,23 +165,45 @@ module _ (req : AttachRequest) (g : Geometry) (n : ℕ) (chip : Chip req g n) (i
 
   -- ---- what its steps write
 
-  D : List ℕ
+  abbrev D : List ℕ
   D = part (g .«data_start») d O
 
-  long-D : length D ≡ d
-  unfolding D
-  long-D = length-part (g .«data_start») d O (omega (arith, lenO, goods .data-fits, P .leb-fills))
+  sited : Sited g n d (relocation p image)
+  unfolding makePlan dataSteps
+  sited = record {
+    placed = P;
+    old-there = at-o .0;
+    target-there = a .target-there;
+    apart = apart;
+    vid-64 = vid-64 (p .vid);
+    ec-64 = ec-64 (p .ec);
+    data-fits = good .data-fits;
+    unit-starts = λ j h. unit-starts j d (g .unit) (P .unit-above) h;
+    units-cover = units-cover d (g .unit) (P .unit-above);
+  }
 
   -- the units are those of the data run, as long as the old PEB is as it was
-  unit-is : (y : List ℕ) → length y ≡ length image → pebAt g y (p .old) ≡ O → (j : ℕ) → j < dataSteps p
+  unit-is : (y : List ℕ) → pebAt g y (p .old) ≡ O → (j : ℕ) → j < dataSteps p
       → unitBytes p y j ≡ part (j * g .unit) (min (g .unit) (d - j * g .unit)) D
-  unfolding unitBytes D
-  unit-is y l e j h =
+  unfolding unitBytes
+  unit-is y e j h =
       let w = sited .unit-starts j h in
       let z : ℕ = min (g .unit) (d - j * g .unit) in
       rw geometry-is
-      (sym (part-part (g .«data_start» + j * g .unit) z (p .old * g .«peb_size») (g .«peb_size») y (omega (arith, goods .data-fits, P .leb-fills)))
+      (sym (part-part (g .«data_start» + j * g .unit) z (p .old * g .«peb_size») (g .«peb_size») y (omega (arith, good .data-fits, P .leb-fills)))
       ∙ ap (part (g .«data_start» + j * g .unit) z) e ∙ sym (part-part (j * g .unit) z (g .«data_start») d O (omega arith)))
+
+  abbrev relocates : Relocates g n image
+  relocates = record {
+    relocation = relocation p image;
+    size = d;
+    bytes = D;
+    unit-in = unitBytes p;
+    sited = sited;
+    long = f .long;
+    long-bytes = length-part (g .«data_start») d O (omega (arith, lenO, good .data-fits, P .leb-fills));
+    unit-is = unit-is;
+  }
 
   -- the writes, in the geometry of the chip
   abbrev write : List ℕ → ℕ → Write
@@ -231,27 +216,21 @@ module _ (req : AttachRequest) (g : Geometry) (n : ℕ) (chip : Chip req g n) (i
   abbrev left : Course → List ℕ
   left course = imageLeft moverJob p image course
 
-  abbrev HaltsAt : List ℕ → Type 0
-  HaltsAt y = Halt g n d (relocation p image) sited image (f .long) D long-D (unitBytes p) unit-is y
-
-  abbrev WholeAt : List ℕ → Type 0
-  WholeAt y = Whole g n d (relocation p image) sited image (f .long) D long-D (unitBytes p) unit-is y
-
-  halts : (s : Stop) → HaltsAt (left (toStop s))
+  halts : (s : Stop) → Halt g n image relocates (left (toStop s))
   unfolding makePlan
   halts s =
       rw (left-is moverJob mover-lawful p image may-run refl (toStop s), writes-are)
-      (cut-halts g n d (relocation p image) sited image (f .long) D long-D (unitBytes p) unit-is (s .stored) (s .erased) (s .before))
+      (cut-halts g n image relocates (s .stored) (s .erased) (s .before))
 
-  wholes : (k : ℕ) → WholeAt (left (toEnd k))
+  wholes : (k : ℕ) → Whole g n image relocates (left (toEnd k))
   unfolding makePlan stepCount
   wholes k =
       rw (left-is moverJob mover-lawful p image may-run refl (toEnd k), writes-are)
-      (whole-end g n d (relocation p image) sited image (f .long) D long-D (unitBytes p) unit-is (3 + dataSteps p + k) (omega arith))
+      (whole-end g n image relocates (3 + dataSteps p + k) (omega arith))
 
   -- ---- an image that a course of it leaves
 
-  module _ (image′ : List ℕ) (ha : HaltsAt image′) where
+  module _ (image′ : List ℕ) (ha : Halt g n image relocates image′) where
     abbrev vs′ : Views
     vs′ = viewsOf g image′
 
@@ -261,20 +240,8 @@ module _ (req : AttachRequest) (g : Geometry) (n : ℕ) (chip : Chip req g n) (i
     abbrev Y : List ℕ
     Y = pebAt g image′ (p .old)
 
-    same-ec : vs′ (p .target) .ec ≡ vs (p .target) .ec
-    unfolding viewOf
-    same-ec = rw (ha .near .same-ec)
-
-    keep : (st : Stopped m vs′ (p .old) (p .target) c (p .vid)) → Keeps m vs′ v l (p .target) (isWhole st)
-    keep st =
-        keeps m vs′ v l (p .old) (p .target) c (p .vid) (f .unrefused) ready (λ i k nt nq. ap (viewOf g) (ha .near .elsewhere i nq nt)) same-ec st
-
-    abbrev StoredAt : Type 0
-    StoredAt = Stored g n d (relocation p image) sited image (f .long) D long-D (unitBytes p) unit-is d image′
-
-    all-run : StoredAt → part (g .«data_start») d X ≡ part (g .«data_start») d O
-    unfolding D
-    all-run s = s .run ∙ take-all d D (omega (arith, long-D))
+    all-run : Stored g n image relocates d image′ → part (g .«data_start») d X ≡ D
+    all-run s = s .run ∙ take-all d D (omega (arith, relocates .long-bytes))
 
     order : (Y ≡ O) ⊎ ((vidPart g X ≡ vidBytes (p .vid)) × (part (g .«data_start») d X ≡ part (g .«data_start») d O))
     order = ⊎-elim (λ e. inl e) (λ s. inr (s .header, all-run s)) (ha .order)
@@ -284,37 +251,23 @@ module _ (req : AttachRequest) (g : Geometry) (n : ℕ) (chip : Chip req g n) (i
     unfolding premiseRules headerWhole runWhole
     kept-cut pr =
         let r : (k : ℕ) → getD (premiseRules p image image′) k true ≡ true = each-holds (premiseRules p image image′) pr in
-        let st =
-        stopped g n image image′ v l (p .old) (p .target) c p ready goods read-O (ha .near .same-tail ∙ blank-T) o-before order
-        (rw geometry-is at (r 0)) (rw geometry-is at (r 1)) (rw geometry-is at (r 2)) (rw geometry-is at (r 3)) in
-        rw (geometry-is, ← (st .1)) (keep (st .0))
+        rw geometry-is
+        (stopped g n image image′ (f .unrefused) v l (p .old) (p .target) c p ready good read-O (ha .near .elsewhere) (ha .near .same-ec)
+        (ha .near .same-tail ∙ blank-T) order
+        (rw geometry-is at (r 0)) (rw geometry-is at (r 1)) (rw geometry-is at (r 2)) (rw geometry-is at (r 3)))
 
     -- a move that is not cut
-    module _ (s : StoredAt) (Y-is : Y ≡ put 0 (ecBytes (p .ec)) (replicate (g .«peb_size») 0xFF)) where
-      end-ec : take 64 Y ≡ ecBytes (p .ec)
-      end-ec = ap (take 64) Y-is ∙ take-at (ecBytes (p .ec)) _ 64 (ec-64 (p .ec))
-
-      end-vid : vidPart g Y ≡ replicate 64 0xFF
-      end-vid =
-          let e = ec-64 (p .ec) in
-          ap (vidPart g) Y-is
-          ∙ ap (take 64)
-          (put-behind 0 (ecBytes (p .ec)) (replicate (g .«peb_size») 0xFF)
-          (rw length-replicate (omega (arith, P .vid-after-ec, P .data-after-vid, P .leb-fills))) (g .«vid_start») (omega (arith, P .vid-after-ec))
-          ∙ drop-replicate 0xFF (g .«vid_start») (g .«peb_size»))
-          ∙ take-replicate 0xFF 64 (g .«peb_size» - g .«vid_start») (omega (arith, P .data-after-vid, P .leb-fills))
-
+    module _ (s : Stored g n image relocates d image′) (Y-is : Y ≡ put 0 (ecBytes (p .ec)) (replicate (g .«peb_size») 0xFF)) where
       kept-end : Keeps m vs′ v l (p .target) true
       kept-end =
-          let st =
-          finished g n image image′ v l (p .old) (p .target) c p ready goods read-O (ha .near .same-tail ∙ blank-T) o-before (s .header) (all-run s) end-ec end-vid in
-          subst (Keeps m vs′ v l (p .target)) (st .1) (keep (st .0))
+          finished g n image image′ (f .unrefused) v l (p .old) (p .target) c p ready good read-O (ha .near .elsewhere) (ha .near .same-ec)
+          (ha .near .same-tail ∙ blank-T) (s .header) (all-run s) (renewed-ec g P Y (p .ec) Y-is) (renewed-vid g P Y (p .ec) Y-is)
 
       end-free : classAt (mediumOf g n image′) (p .old) ≡ 0
       unfolding classAt
       end-free =
-          let e : vs′ (p .old) .ec ≡ ecGood (p .ec) = ec-written g Y (p .ec) (goods .ec-fits) (goods .ec-good) end-ec in
-          let w : vs′ (p .old) .vid ≡ vidBlank = vid-erased g Y end-vid in
+          let e : vs′ (p .old) .ec ≡ ecGood (p .ec) = ec-written g Y (p .ec) (good .ec-fits) (good .ec-good) (renewed-ec g P Y (p .ec) Y-is) in
+          let w : vs′ (p .old) .vid ≡ vidBlank = vid-erased g Y (renewed-vid g P Y (p .ec) Y-is) in
           rw (e, w)
 
     -- the map with the place written
@@ -336,7 +289,7 @@ module _ (req : AttachRequest) (g : Geometry) (n : ℕ) (chip : Chip req g n) (i
   Ends (toStop s) y = Unit {0}
 
   record Result (course : Course) : Type 0 where
-    near : Near g n d (relocation p image) sited image (f .long) D long-D (unitBytes p) unit-is (left course)
+    near : Near g n image relocates (left course)
     kept : Keeps m (viewsOf g (left course)) v l (p .target) (isWritten p image course (left course))
     new-map : entries (mediumOf g n (left course))
         ≡ cond (isWritten p image course (left course)) (placeWritten v l (p .target) (entries m)) (entries m)
@@ -346,7 +299,7 @@ module _ (req : AttachRequest) (g : Geometry) (n : ℕ) (chip : Chip req g n) (i
   unfolding isWritten
   result (toEnd k) pr =
       let w = wholes k in
-      let ha : HaltsAt (left (toEnd k)) = record { near = w .near; order = inr (w .stored) } in
+      let ha : Halt g n image relocates (left (toEnd k)) = record { near = w .near; order = inr (w .stored) } in
       let kp = kept-end (left (toEnd k)) ha (w .stored) (w .old-erased) in
       record {
         near = w .near;

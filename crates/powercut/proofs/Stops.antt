@@ -4,7 +4,7 @@ use mathlib.Core.Logic.{_≢_, _⊎_, inl, inr, ⊎-elim}
 use mathlib.Core.Bool.{Bool, true, false, not, _&&_, _||_, or-true}
 use mathlib.Core.Option.{none, some}
 use mathlib.Core.List.{List}
-use Prim.Native.Nat.{ℕ, _+_, _-_}
+use Prim.Native.Nat.{ℕ, _+_, _-_, _<_}
 use lib.Dec.{eqb}
 use borrow.Author.Tests.{eq-eqb, ne-eqb, not-true}
 use lib.ListN.{take, drop, replicate}
@@ -18,28 +18,40 @@ use Rattle.geometry.specs.declared.Geometry.{Geometry}
 use Rattle.header.specs.Fields.{crcMatches, good}
 use Rattle.header.specs.Ec.{ecBytes}
 use Rattle.header.specs.Vid.{implies, vidBytes}
-use Rattle.report.specs.View.{allFF, Copy, ecBlank, ecLost, vidGood, vidBlank, vidBad, Views, copyOf, vidPart, pebAt, viewOf, viewsOf, mediumOf, copies, isMappable}
+use Rattle.report.specs.View.{allFF, Copy, ecBlank, ecLost, vidGood, vidBlank, vidBad, Views, copyOf, vidPart, pebAt, viewOf, viewsOf, Medium, mediumOf, copies, isMappable}
 use Rattle.report.specs.Scan.{imageSeq, ecRefusal, vidRefusal}
 use Rattle.report.specs.Choice.{sound}
+use Rattle.report.specs.Report.{refusal}
 use Rattle.report.specs.Volumes.{contentOf, faceOf}
 use Rattle.report.proofs.Choice.{chosen-at}
 use Rattle.report.proofs.First.{none-some}
 use Rattle.plan.specs.declared.Plan.{Plan}
 use Rattle.plan.proofs.Good.{Good}
 use Rattle.job.specs.Torn.{unlike}
-use Rattle.powercut.proofs.Stage.{Ready, Stopped, torn, half, whole, isWhole}
+use Rattle.job.proofs.Stage.{Ready, Keeps, o-before, keeps-torn, keeps-half, keeps-whole}
 use Rattle.job.proofs.Seen.{ec-written, ec-torn, vid-written, vid-torn, vid-erased, Read, same-header}
 
 -- O is the old PEB at first, X and Y the target and the old PEB in the stopped image
-module _ (g : Geometry) (n : ℕ) (image image′ : List ℕ) (v l o t : ℕ) (old : Copy) (p : Plan) (b : Ready (mediumOf g n image) v l o t old (p .vid))
-    (good : Good g (imageSeq n (viewsOf g image)) old (p .vid) (p .ec)) (read-O : Read g (pebAt g image o) old)
-    (tail-X : drop (g .«data_start» + p .vid .«data_size») (pebAt g image′ t) ≡ replicate (g .«leb_size» - p .vid .«data_size») 0xFF)
-    (o-before : ecRefusal g (imageSeq n (viewsOf g image)) (viewOf g (pebAt g image o) .ec) ≡ none) where
-  abbrev vs : Views
-  vs = viewsOf g image
+module _ (g : Geometry) (n : ℕ) (image image′ : List ℕ) (ok : refusal (mediumOf g n image) ≡ none) (v l o t : ℕ) (old : Copy) (p : Plan)
+    (b : Ready (mediumOf g n image) v l o t old (p .vid)) (good : Good g (imageSeq n (viewsOf g image)) old (p .vid) (p .ec))
+    (read-O : Read g (pebAt g image o) old) (rest : (i : ℕ) → i ≢ o → i ≢ t → pebAt g image′ i ≡ pebAt g image i)
+    (same-ec : take 64 (pebAt g image′ t) ≡ take 64 (pebAt g image t))
+    (tail-X : drop (g .«data_start» + p .vid .«data_size») (pebAt g image′ t) ≡ replicate (g .«leb_size» - p .vid .«data_size») 0xFF) where
+  abbrev m : Medium
+  m = mediumOf g n image
 
   abbrev vs′ : Views
   vs′ = viewsOf g image′
+
+  abbrev Kept : Bool → Type 0
+  Kept = Keeps m vs′ v l t
+
+  views-rest : (i : ℕ) → i < n → i ≢ t → i ≢ o → vs′ i ≡ m .views i
+  views-rest i h nt nq = ap (viewOf g) (rest i nq nt)
+
+  target-ec : vs′ t .ec ≡ m .views t .ec
+  unfolding viewOf
+  target-ec = rw same-ec
 
   abbrev O : List ℕ
   O = pebAt g image o
@@ -69,10 +81,6 @@ module _ (g : Geometry) (n : ℕ) (image image′ : List ℕ) (v l o t : ℕ) (o
 
   new-seen : vidPart g X ≡ vidBytes (p .vid) → vs′ t .vid ≡ vidGood new
   new-seen e = vid-written g X (p .vid) (good .vid-fits) (good .vid-good) e
-
-  new-header : new .header ≡ p .vid
-  unfolding copyOf
-  new-header = refl
 
   half-unsound : eqs run dataRun ≡ false → eqb (crcOf run) (p .vid .«data_crc») ≡ false → sound new ≡ false
   unfolding copyOf
@@ -105,12 +113,12 @@ module _ (g : Geometry) (n : ℕ) (image image′ : List ℕ) (v l o t : ℕ) (o
   -- ---- the old PEB, whatever is left of it
 
   old-ec : unlike (eqs (take 64 Y) (take 64 O) || eqs (take 64 Y) (ecBytes (p .ec))) (take 64 Y) ≡ true
-      → ecRefusal g (imageSeq n vs) (vs′ o .ec) ≡ none
+      → ecRefusal g (imageSeq n (m .views)) (vs′ o .ec) ≡ none
   unfolding viewOf
   old-ec c =
       ⊎-elim
       (λ w. ⊎-elim
-      (λ (e : eqs (take 64 Y) (take 64 O) ≡ true). rw (eqs-true (take 64 Y) (take 64 O) e) o-before)
+      (λ (e : eqs (take 64 Y) (take 64 O) ≡ true). rw (eqs-true (take 64 Y) (take 64 O) e) (o-before m vs′ v l o t old (p .vid) ok b views-rest target-ec .0))
       (λ (e : eqs (take 64 Y) (ecBytes (p .ec)) ≡ true).
       rw (ec-written g Y (p .ec) (good .ec-fits) (good .ec-good) (eqs-true (take 64 Y) (ecBytes (p .ec)) e)) (good .ec-stands))
       (or-true-cases (eqs (take 64 Y) (take 64 O)) (eqs (take 64 Y) (ecBytes (p .ec))) w))
@@ -122,7 +130,7 @@ module _ (g : Geometry) (n : ℕ) (image image′ : List ℕ) (v l o t : ℕ) (o
   OldVid = (vidRefusal (vs′ o .vid) ≡ none) × ((c : Copy) → copies vs′ o ≡ some c → c .header ≡ old .header)
 
   old-mappable : isMappable (old .header .volume) ≡ true
-  old-mappable = rw (chosen-at n (copies vs) v l o old (b .is-chosen) .2) (b .is-mappable)
+  old-mappable = rw (chosen-at n (copies (m .views)) v l o old (b .is-chosen) .2) (b .is-mappable)
 
   vid-none : (viewOf g Y .vid ≡ vidBlank) ⊎ (viewOf g Y .vid ≡ vidBad) → OldVid
   vid-none (inl q) = (rw q, λ c e. none-some (rw q at e))
@@ -144,16 +152,10 @@ module _ (g : Geometry) (n : ℕ) (image image′ : List ℕ) (v l o t : ℕ) (o
 
   -- ---- the stages
 
-  whole-now : vidPart g X ≡ vidBytes (p .vid) → run ≡ dataRun → ecRefusal g (imageSeq n vs) (vs′ o .ec) ≡ none → OldVid
-      → Stopped (mediumOf g n image) vs′ o t old (p .vid)
-  whole-now eh ed ec ov = whole new (new-seen eh) new-header (whole-sound ed) (same-face ed) ec (ov .0) (ov .1)
-
-  o-same : Y ≡ O → vs′ o ≡ vs o
-  o-same e = ap (viewOf g) e
-
-  torn-now : Y ≡ O → (viewOf g X .vid ≡ vidBlank) ⊎ (viewOf g X .vid ≡ vidBad) → Stopped (mediumOf g n image) vs′ o t old (p .vid)
-  torn-now eo (inl q) = torn (o-same eo) (rw q) (rw q)
-  torn-now eo (inr q) = torn (o-same eo) (rw q) (rw q)
+  whole-now : vidPart g X ≡ vidBytes (p .vid) → run ≡ dataRun → ecRefusal g (imageSeq n (m .views)) (vs′ o .ec) ≡ none → OldVid → Kept true
+  unfolding copyOf
+  whole-now eh ed ec ov =
+      keeps-whole m vs′ v l o t old (p .vid) ok b views-rest target-ec new (new-seen eh) refl (whole-sound ed) (same-face ed) ec (ov .0) (ov .1)
 
   abbrev header-whole : Bool
   header-whole = eqs (vidPart g X) (vidBytes (p .vid))
@@ -167,38 +169,25 @@ module _ (g : Geometry) (n : ℕ) (image image′ : List ℕ) (v l o t : ℕ) (o
       → implies header-whole (run-whole || not (eqb (crcOf run) (p .vid .«data_crc»))) ≡ true
       → unlike (eqs (take 64 Y) (take 64 O) || eqs (take 64 Y) (ecBytes (p .ec))) (take 64 Y) ≡ true
       → unlike (eqs (vidPart g Y) (vidPart g O)) (vidPart g Y) ≡ true
-      → (st : Stopped (mediumOf g n image) vs′ o t old (p .vid)) × (isWhole st ≡ header-whole && run-whole)
-  unfolding torn-now whole-now
+      → Kept (header-whole && run-whole)
+  unfolding copyOf
   stopped order c1 c2 c3 c4 = go header-whole refl run-whole refl c1 c2
     where
-      untouched : header-whole && run-whole ≡ false → Y ≡ O
+      untouched : header-whole && run-whole ≡ false → vs′ o ≡ m .views o
       untouched ne =
-          ⊎-elim (λ (e : Y ≡ O). e)
+          ⊎-elim (λ (e : Y ≡ O). ap (viewOf g) e)
           (λ w. clash ne (rw (w .0, w .1, eqs-refl (vidBytes (p .vid))) (eqs-refl dataRun))) order
 
-      torn-false : (e : Y ≡ O) (q : (viewOf g X .vid ≡ vidBlank) ⊎ (viewOf g X .vid ≡ vidBad)) → isWhole (torn-now e q) ≡ false
-      torn-false e (inl q) = refl
-      torn-false e (inr q) = refl
-
       go : (h : Bool) → header-whole ≡ h → (d : Bool) → run-whole ≡ d → unlike h (vidPart g X) ≡ true
-          → implies h (d || not (eqb (crcOf run) (p .vid .«data_crc»))) ≡ true → (st : Stopped (mediumOf g n image) vs′ o t old (p .vid)) × (isWhole st ≡ h && d)
-      go false eh d ed c1 c2 =
-          let eo = untouched (rw eh) in
-          let q = vid-torn g X c1 in
-          (torn-now eo q, torn-false eo q)
-      go true eh false ed c1 c2 = (
-        half new (o-same (untouched (rw (eh, ed)))) (new-seen (eqs-true (vidPart g X) (vidBytes (p .vid)) eh)) new-header
-            (half-unsound ed (not-true (eqb (crcOf run) (p .vid .«data_crc»)) c2)),
-        refl,
-      )
+          → implies h (d || not (eqb (crcOf run) (p .vid .«data_crc»))) ≡ true → Kept (h && d)
+      go false eh d ed c1 c2 = keeps-torn m vs′ v l o t old (p .vid) ok b views-rest target-ec (untouched (rw eh)) (vid-torn g X c1)
+      go true eh false ed c1 c2 =
+          keeps-half m vs′ v l o t old (p .vid) ok b views-rest target-ec new (untouched (rw (eh, ed)))
+          (new-seen (eqs-true (vidPart g X) (vidBytes (p .vid)) eh)) refl (half-unsound ed (not-true (eqb (crcOf run) (p .vid .«data_crc»)) c2))
       go true eh true ed c1 c2 =
-          (whole-now (eqs-true (vidPart g X) (vidBytes (p .vid)) eh) (eqs-true run dataRun ed) (old-ec c3) (old-vid c4), refl)
+          whole-now (eqs-true (vidPart g X) (vidBytes (p .vid)) eh) (eqs-true run dataRun ed) (old-ec c3) (old-vid c4)
 
   -- a move that is not cut
-  pub finished : vidPart g X ≡ vidBytes (p .vid) → run ≡ dataRun → take 64 Y ≡ ecBytes (p .ec) → vidPart g Y ≡ replicate 64 0xFF
-      → (st : Stopped (mediumOf g n image) vs′ o t old (p .vid)) × (isWhole st ≡ true)
-  unfolding whole-now
-  finished eh ed ee ev = (
-    whole-now eh ed (rw (ec-written g Y (p .ec) (good .ec-fits) (good .ec-good) ee) (good .ec-stands)) (vid-none (inl (vid-erased g Y ev))),
-    refl,
-  )
+  pub finished : vidPart g X ≡ vidBytes (p .vid) → run ≡ dataRun → take 64 Y ≡ ecBytes (p .ec) → vidPart g Y ≡ replicate 64 0xFF → Kept true
+  finished eh ed ee ev =
+      whole-now eh ed (rw (ec-written g Y (p .ec) (good .ec-fits) (good .ec-good) ee) (good .ec-stands)) (vid-none (inl (vid-erased g Y ev)))

@@ -2,7 +2,7 @@
 use mathlib.Core.Path.{_≡_, refl, sym, _∙_, ap, subst}
 use mathlib.Core.Bool.{true}
 use mathlib.Core.Option.{some}
-use mathlib.Core.List.{List, [], _∷_}
+use mathlib.Core.List.{List}
 use Prim.Native.Nat.{ℕ}
 use Rattle.base.specs.Answers.{Answer, given, refused, mapO}
 use Rattle.base.specs.Lists.{table, Bytes}
@@ -102,9 +102,10 @@ module _ (req : AttachRequest) (g : Geometry) (n : ℕ) (chip : Chip req g n) wh
 
 -- ---- the theorem
 
--- for every request, every image that attaches under it and every list of calls, if the premise holds of each stopped image by itself:
--- after the list the image attaches, with the table, the states and the contents that it had at first; its map is the place book; each
--- accepted move changed nothing outside its two blocks and, if it was not cut, ended with its old block free; a refused one changed nothing
+-- for every request, every image that attaches under it and every list of calls, if the premise holds of each stopped
+-- image by itself: after the list the image attaches, with the table, the states and the contents that it had at first;
+-- its map is the place book; each accepted move changed nothing outside its two blocks and, if it was not cut, ended
+-- with its old block free; a refused one changed nothing
 pub no-cut-loses-a-block : (req : AttachRequest) (image : List ℕ) (calls : List Call) → Bytes image → attaches (outcomeOf req image) ≡ true
     → Each req (Premise req) (atFirst req image) calls → Claim req image calls
 unfolding atFirst SameFaces

@@ -17,17 +17,18 @@ use Rattle.plan.specs.Write.{planGeometry}
 use Rattle.plan.specs.Step.{moverJob}
 use Rattle.powercut.specs.Calls.{Call}
 
--- is the new VID header whole? is the data run, that of the old PEB in the image that the move began on? "Bytes equal to the whole
--- count as whole"
+-- is the new VID header whole? is the data run, that of the old PEB in the image that the move began on? "Bytes equal
+-- to the whole count as whole"
 unfoldable pub headerWhole : Plan → List ℕ → Bool
 headerWhole p stopped = eqs (vidAt (planGeometry p) stopped (p .target)) (vidBytes (p .vid))
 
 unfoldable pub runWhole : Plan → List ℕ → List ℕ → Bool
 runWhole p image stopped =
-    eqs (runAt (planGeometry p) (p .vid .«data_size») stopped (p .target)) (runAt (planGeometry p) (p .vid .«data_size») image (p .old))
+    eqs (runAt (planGeometry p) (p .vid .«data_size») stopped (p .target))
+    (runAt (planGeometry p) (p .vid .«data_size») image (p .old))
 
--- "An accepted move writes its target for its LEB, a stopped one exactly if in its stopped image the new VID header and data run are
--- whole"
+-- "An accepted move writes its target for its LEB, a stopped one exactly if in its stopped image the new VID header and
+-- data run are whole"
 unfoldable pub isWritten : Plan → List ℕ → Course → List ℕ → Bool
 isWritten p image (toEnd further) last = true
 isWritten p image (toStop s) last = headerWhole p last && runWhole p image last
@@ -44,7 +45,9 @@ callLeft x c (given p) =
     let last : List ℕ = imageLeft moverJob p (x .image) (c .course) in
     record {
       image = last;
-      book = cond (isWritten p (x .image) (c .course) last) (placeWritten (c .volume) (c .lnum) (c .target) (x .book)) (x .book);
+      book =
+          cond (isWritten p (x .image) (c .course) last) (placeWritten (c .volume) (c .lnum) (c .target) (x .book))
+          (x .book);
     }
 
 module _ (req : AttachRequest) where

@@ -24,7 +24,8 @@ module _ (req : AttachRequest) where
   -- an accepted move: no byte outside its two blocks changed
   pub record Moved (p : Plan) (course : Course) (image last : List ℕ) : Type 0 where
     pub same-length : length last ≡ length image
-    pub elsewhere : (k : ℕ) → k / p .«peb_size» ≢ p .old → k / p .«peb_size» ≢ p .target → getD last k 0 ≡ getD image k 0
+    pub elsewhere : (k : ℕ) → k / p .«peb_size» ≢ p .old → k / p .«peb_size» ≢ p .target
+        → getD last k 0 ≡ getD image k 0
     pub steps : Steps moverJob p image
     pub freed : Freed p course last
 

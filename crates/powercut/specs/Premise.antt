@@ -1,5 +1,5 @@
--- The premise of demand 3, on one stopped image: of the move's headers and data runs, each that is not whole has a checksum field unlike
--- the checksum of its bytes. Assumes nothing.
+-- The premise of demand 3, on one stopped image: of the move's headers and data runs, each that is not whole has a
+-- checksum field unlike the checksum of its bytes. Assumes nothing.
 use mathlib.Core.Path.{_≡_}
 use mathlib.Core.Bool.{Bool, true, not, _||_}
 use mathlib.Core.List.{List, [], _∷_}
@@ -27,7 +27,8 @@ premiseRules p image stopped =
     unlike (headerWhole p stopped) (vidAt g stopped (p .target))
     -- the new data run: its checksum field is the header's data CRC
     ∷ implies (headerWhole p stopped)
-    (runWhole p image stopped || not (eqb (crcOf (runAt g (p .vid .«data_size») stopped (p .target))) (p .vid .«data_crc»)))
+    (runWhole p image stopped
+    || not (eqb (crcOf (runAt g (p .vid .«data_size») stopped (p .target))) (p .vid .«data_crc»)))
     -- the old PEB's EC header: whole is the one that there was, and the new one
     ∷ unlike (eqs (ecAt g stopped (p .old)) (ecAt g image (p .old)) || eqs (ecAt g stopped (p .old)) (ecBytes (p .ec)))
     (ecAt g stopped (p .old))

@@ -9,7 +9,7 @@ use Rattle.field.specs.Be.{beFrom, toBeOn, toBe}
 use Rattle.crc32.specs.Crc.{tap, crcBit, crcBits, crcByte, crcFrom, crcOf}
 use Rattle.geometry.specs.declared.Geometry.{Geometry}
 use Rattle.geometry.specs.Geometry.{roundUp, vidStart, dataStart, lebSize, makeGeometry}
-use Rattle.volume_table.specs.Record.{recordOf}
+use Rattle.volume_record.specs.Record.{recordOf}
 use Rattle.volume_table.specs.Table.{recordCount}
 use Rattle.report.specs.View.{Copy, ecGood, vidBlank, View, copyOf}
 use Rattle.report.specs.Choice.{pick, chosen}

@@ -16,9 +16,9 @@ use Rattle.base.proofs.Answers.{by-test, cond-yes, none-some, mapO-none, and-le
 use Rattle.base.proofs.Below.{lt-or-le, first-none-at, first-some, sum-grows}
 use Rattle.field.specs.Be.{beFrom}
 use Rattle.header.specs.Vid.{layoutVolume}
-use Rattle.volume_table.specs.Record.{recordOf, recordGood}
+use Rattle.volume_record.specs.Record.{recordOf, recordGood}
 use Rattle.volume_table.specs.Table.{recordCount, recordsPart, recordAt, tableGood, takenLeb, takenRecords}
-use Rattle.volume_table.specs.declared.VolumeRecord.{VolumeRecord}
+use Rattle.volume_record.specs.declared.VolumeRecord.{VolumeRecord}
 use Rattle.volume_table.proofs.Good.{records-fine, reserved-within, empty-or-good, empty-reserves-none}
 use Rattle.report.specs.View.{Medium}
 use Rattle.report.specs.Scan.{differs}

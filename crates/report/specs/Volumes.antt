@@ -11,9 +11,9 @@ use Rattle.base.specs.Answers.{Answer, given, refused, mapO}
 use Rattle.base.specs.Below.{anyBelow, firstBelow, concatBelow}
 use Rattle.geometry.specs.declared.Geometry.{Geometry}
 use Rattle.header.specs.Vid.{layoutVolume}
-use Rattle.volume_table.specs.Record.{recordOf}
+use Rattle.volume_record.specs.Record.{recordOf}
 use Rattle.volume_table.specs.Table.{recordAt, takenLeb, takenRecords, copiesMark}
-use Rattle.volume_table.specs.declared.VolumeRecord.{VolumeRecord}
+use Rattle.volume_record.specs.declared.VolumeRecord.{VolumeRecord}
 use Rattle.report.specs.View.{Copy, Medium}
 use Rattle.report.specs.Scan.{Refusal, when, differs}
 use Rattle.report.specs.Choice.{sound, chosen}

@@ -50,11 +50,11 @@ ff-magic (x ∷ s) a b c d n h e =
     let q : x ≡ 0xFF = eqb-true x 0xFF (and-left (eqb x 0xFF) (allFF s) e) in
     rw (q, ne-eqb 0xFF a n)
 
-pub ff-ec : (s : List ℕ) → length s ≡ 64 → allFF s ≡ true → readEc s ≡ bad
+ff-ec : (s : List ℕ) → length s ≡ 64 → allFF s ≡ true → readEc s ≡ bad
 unfolding readEc
 ff-ec s l e = rw (ff-magic s 0x55 0x42 0x49 0x23 (λ (z : 0xFF ≡ 0x55). absurd (omega arith)) (omega arith) e)
 
-pub ff-vid : (size : ℕ) (s : List ℕ) → length s ≡ 64 → allFF s ≡ true → readVid size s ≡ bad
+ff-vid : (size : ℕ) (s : List ℕ) → length s ≡ 64 → allFF s ≡ true → readVid size s ≡ bad
 unfolding readVid
 ff-vid size s l e = rw (ff-magic s 0x55 0x42 0x49 0x21 (λ (z : 0xFF ≡ 0x55). absurd (omega arith)) (omega arith) e)
 
@@ -138,8 +138,5 @@ module _ {g : Geometry} (o : Placed g) (p : List ℕ) (whole : length p ≡ g .�
   pub ec-long : length (take 64 p) ≡ 64
   ec-long = length-part 0 64 p (omega (arith, o .vid-after-ec, o .data-after-vid, o .leb-fills))
 
-  pub vid-within : g .«vid_start» + 64 ≤ length p
-  vid-within = omega (arith, o .data-after-vid, o .leb-fills)
-
   pub vid-long : length (vidPart g p) ≡ 64
-  vid-long = length-part (g .«vid_start») 64 p vid-within
+  vid-long = length-part (g .«vid_start») 64 p (omega (arith, o .data-after-vid, o .leb-fills))

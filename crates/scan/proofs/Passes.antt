@@ -28,7 +28,7 @@ use Rattle.scan.specs.Pass.{seqIn, withEc, withVid, smallCounter, Totals
 use Rattle.scan.specs.declared.EcTotals.{EcTotals}
 use Rattle.scan.specs.declared.ScanTotals.{ScanTotals}
 use Rattle.scan.specs.declared.PebPass.{PebPass}
-use Rattle.scan.proofs.Turns.{small-view, view-zero}
+use Rattle.scan.proofs.OnePeb.{small-view, view-zero}
 
 -- ---- the image sequence
 
@@ -122,7 +122,8 @@ module _ (i : ℕ) (vs : Views) (s : ScanTotals) (o : TotalsOf i vs s) where
       }
 
 pub totals-none : (vs : Views) (s : ScanTotals) → s .ec .«has_seq» ≡ false → s .ec .«image_seq» ≡ 0
-    → s .ec .counters ≡ 0 → s .ec .good ≡ 0 → s .vid .highest ≡ 0 → s .vid .«read_only» ≡ false → s .vid .unused ≡ true → TotalsOf 0 vs s
+    → s .ec .counters ≡ 0 → s .ec .good ≡ 0
+    → s .vid .highest ≡ 0 → s .vid .«read_only» ≡ false → s .vid .unused ≡ true → TotalsOf 0 vs s
 unfolding imageSeq highestOf readOnlyOf
 totals-none vs s a b c d e f h = record {
   seq = rw a;
@@ -178,7 +179,8 @@ module _ {m : Medium} {i : ℕ} {s : ScanTotals} {pebs₀ pebs map₀ map : List
 
 -- all PEBs are passed
 pub pass-whole : {m : Medium} {s : ScanTotals} {pebs₀ pebs map₀ map : List ℕ}
-    → Passing m (m .count) s pebs₀ pebs map₀ map → Passed m (record { refusal = 0; place = 0; totals = s }) pebs₀ pebs map₀ map
+    → Passing m (m .count) s pebs₀ pebs map₀ map
+    → Passed m (record { refusal = 0; place = 0; totals = s }) pebs₀ pebs map₀ map
 unfolding refusal5678
 pass-whole o = record {
   refusal = rw (o .none-yet);
@@ -198,7 +200,8 @@ module _ (g : Geometry) (n : ℕ) (image : List ℕ) where
   lentPeb i = take (i * g .«peb_size» + g .«peb_size» - i * g .«peb_size») (drop (i * g .«peb_size») image)
 
   module _ {i : ℕ} {s : ScanTotals} {pebs₀ pebs map₀ map : List ℕ} (o : Passing medium i s pebs₀ pebs map₀ map)
-      (h : i < n) {t : PebPass} {pebs′ map′ : List ℕ} (u : PebPassed g i (viewOf g (lentPeb i)) s t pebs pebs′ map map′) where
+      (h : i < n) {t : PebPass} {pebs′ map′ : List ℕ}
+      (u : PebPassed g i (viewOf g (lentPeb i)) s t pebs pebs′ map map′) where
     view-is : viewOf g (lentPeb i) ≡ medium .views i
     view-is = ap (viewOf g) (lent-part (i * g .«peb_size») (g .«peb_size») image)
 

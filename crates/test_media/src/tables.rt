@@ -1,14 +1,14 @@
 // Judges a volume record or two copies of a volume table, as the first byte says, and prints the answer.
-use volume_table::RecordKind;
-use volume_table::RecordRead;
+use volume_record::RecordKind;
+use volume_record::RecordRead;
+use volume_record::VolumeRecord;
 use volume_table::Taken;
-use volume_table::VolumeRecord;
 
 pub fn answer(payload: &[u8]) {
     let leb_size = frames::u32_at(payload, 1);
     let unit = frames::u32_at(payload, 5);
     if frames::number_at(payload, 0, 1) == 1 {
-        print_record(volume_table::read_record(frames::rest(payload, 9), leb_size, unit));
+        print_record(volume_record::read_record(frames::rest(payload, 9), leb_size, unit));
         return;
     }
     let peb_count = frames::u32_at(payload, 9);

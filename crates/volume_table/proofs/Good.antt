@@ -15,7 +15,7 @@ use Rattle.base.proofs.Answers.{and-right, or-true-cases, each-holds}
 use Rattle.base.proofs.Below.{all-at}
 use Rattle.base.proofs.Lists.{eqs-true}
 use Rattle.field.specs.Be.{beFrom}
-use Rattle.volume_table.specs.Record.{recordOf, recordCrcMatches, emptyRecord, isEmpty, recordRules, recordGood}
+use Rattle.volume_record.specs.Record.{recordOf, recordCrcMatches, emptyRecord, isEmpty, recordRules, recordGood}
 use Rattle.volume_table.specs.Table.{recordCount, recordsPart, recordAt, emptyOrGood, tableRules, tableTests}
 use Rattle.volume_table.specs.Table.{tableGood}
 
@@ -27,7 +27,8 @@ pads-multiple size unit a h (inl e) = rw (e, mod-one, sub-zero) h
 pads-multiple size unit a h (inr k) =
     let x : size - size % a ≡ size / a * a = omega (arith, div-add-mod' size a) in
     let y : a ≡ a / unit * unit = omega (arith, div-add-mod' a unit) in
-    ap (λ (z : ℕ). z % unit) (x ∙ ap (λ (z : ℕ). size / a * z) y ∙ sym (mul-assoc (size / a) (a / unit) unit)) ∙ mul-mod-left (size / a * (a / unit)) unit
+    ap (λ (z : ℕ). z % unit) (x ∙ ap (λ (z : ℕ). size / a * z) y ∙ sym (mul-assoc (size / a) (a / unit) unit))
+    ∙ mul-mod-left (size / a * (a / unit)) unit
 
 either : (a b x y : ℕ) → eqb a b || eqb x y ≡ true → (a ≡ b) ⊎ (x ≡ y)
 either a b x y e = ⊎-elim (λ p. inl (eqb-true a b p)) (λ p. inr (eqb-true x y p)) (or-true-cases (eqb a b) (eqb x y) e)
@@ -37,7 +38,9 @@ either a b x y e = ⊎-elim (λ p. inl (eqb-true a b p)) (λ p. inr (eqb-true x 
 module _ (size unit : ℕ) (r : List ℕ) (g : recordGood size unit r ≡ true) where
   kept : (k : ℕ) → getD (recordRules size unit (recordOf r)) k true ≡ true
   unfolding recordGood
-  kept = each-holds (recordRules size unit (recordOf r)) (and-right (recordCrcMatches r) (allOf (recordRules size unit (recordOf r))) g)
+  kept =
+      each-holds (recordRules size unit (recordOf r))
+      (and-right (recordCrcMatches r) (allOf (recordRules size unit (recordOf r))) g)
 
   pub good-aligned : (recordOf r .alignment ≡ 1) ⊎ (recordOf r .alignment % unit ≡ 0)
   unfolding recordRules
@@ -56,7 +59,8 @@ pub empty-reserves-none : (r : List ℕ) → isEmpty r ≡ true → recordOf r .
 unfolding isEmpty emptyRecord recordOf beFrom
 empty-reserves-none r e = rw (eqs-true r emptyRecord e)
 
-pub empty-or-good : (size unit : ℕ) (r : List ℕ) → emptyOrGood size unit r ≡ true → (isEmpty r ≡ true) ⊎ (recordGood size unit r ≡ true)
+pub empty-or-good : (size unit : ℕ) (r : List ℕ) → emptyOrGood size unit r ≡ true
+    → (isEmpty r ≡ true) ⊎ (recordGood size unit r ≡ true)
 unfolding emptyOrGood
 empty-or-good size unit r f = or-true-cases (isEmpty r) (recordGood size unit r) f
 
@@ -67,9 +71,11 @@ module _ (size unit pebs : ℕ) (content : List ℕ) (g : tableGood size unit pe
   unfolding tableGood
   rule = each-holds (tableTests (recordCount size) size unit pebs (recordsPart size content)) g
 
-  pub records-fine : (i : ℕ) → i < recordCount size → emptyOrGood size unit (recordAt (recordsPart size content) i) ≡ true
+  pub records-fine : (i : ℕ) → i < recordCount size
+      → emptyOrGood size unit (recordAt (recordsPart size content) i) ≡ true
   unfolding tableTests tableRules
-  records-fine = all-at (recordCount size) (λ (i : ℕ). emptyOrGood size unit (recordAt (recordsPart size content) i)) (rule 2)
+  records-fine =
+      all-at (recordCount size) (λ (i : ℕ). emptyOrGood size unit (recordAt (recordsPart size content) i)) (rule 2)
 
   pub reserved-within : sumBelow (recordCount size) (λ (i : ℕ). recordOf (recordAt (recordsPart size content) i) .reserved) ≤ pebs - 2
   unfolding tableTests tableRules

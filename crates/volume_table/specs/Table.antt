@@ -8,7 +8,7 @@ use lib.ListN.{length, take}
 use Rattle.base.specs.Answers.{Answer, given, refused, allOf}
 use Rattle.base.specs.Below.{allBelow, anyBelow, countBelow, sumBelow}
 use Rattle.base.specs.Lists.{part, eqs}
-use Rattle.volume_table.specs.Record.{recordOf, isEmpty, recordGood}
+use Rattle.volume_record.specs.Record.{recordOf, isEmpty, recordGood}
 use Rattle.volume_table.specs.declared.Taken.{Taken}
 use Rattle.volume_table.specs.declared.Taken.the-variants.{Leb, Neither}
 
@@ -56,8 +56,8 @@ tableRules n size unit pebs t =
     -- "reserved PEBs sum to at most PEB count less 2"
     ∷ leb (sumBelow n (λ (i : ℕ). recordOf (recordAt t i) .reserved)) (reservedLimit pebs) ∷ []
 
--- ours, before them: a LEB that is too small for a record (none of 01's geometry is) has no good table, and neither has a copy that is too
--- short for its records
+-- ours, before them: a LEB that is too small for a record (none of 01's geometry is) has no good table, and neither has
+-- a copy that is too short for its records
 unfoldable pub tableTests : ℕ → ℕ → ℕ → ℕ → List ℕ → List Bool
 tableTests n size unit pebs t = ltb 0 n ∷ leb (172 * n) (length t) ∷ tableRules n size unit pebs t
 
@@ -68,16 +68,20 @@ tableGood size unit pebs content = allOf (tableTests (recordCount size) size uni
 module _ (size unit pebs : ℕ) (copy0 copy1 : List ℕ) where
   -- "LEB 0's table is taken if mapped and good, else LEB 1's": the LEB; refusal 11 "no good table"
   unfoldable pub takenLeb : Answer ℕ
-  takenLeb = cond (tableGood size unit pebs copy0) (given 0) (cond (tableGood size unit pebs copy1) (given 1) (refused 11 0))
+  takenLeb =
+      cond (tableGood size unit pebs copy0) (given 0) (cond (tableGood size unit pebs copy1) (given 1) (refused 11 0))
 
   -- the records of the table taken; no bytes where neither copy is good
   unfoldable pub takenRecords : List ℕ
-  takenRecords = cond (tableGood size unit pebs copy0) (recordsPart size copy0) (cond (tableGood size unit pebs copy1) (recordsPart size copy1) [])
+  takenRecords =
+      cond (tableGood size unit pebs copy0) (recordsPart size copy0)
+      (cond (tableGood size unit pebs copy1) (recordsPart size copy1) [])
 
   -- "Copies mark: 0 both good with all record bytes equal, 1 one absent or not good, 2 both good and unequal"
   unfoldable pub copiesMark : ℕ
   copiesMark =
-      cond (tableGood size unit pebs copy0 && tableGood size unit pebs copy1) (cond (eqs (recordsPart size copy0) (recordsPart size copy1)) 0 2) 1
+      cond (tableGood size unit pebs copy0 && tableGood size unit pebs copy1)
+      (cond (eqs (recordsPart size copy0) (recordsPart size copy1)) 0 2) 1
 
 -- what each case of the answer is in 01: the layout LEB whose table is taken; refusal 11
 abbrev pub takenNumber : Taken → Answer ℕ

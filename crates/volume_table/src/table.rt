@@ -2,25 +2,27 @@
 ghost use mathlib.Core.Path.{_≡_};
 ghost use mathlib.Core.Bool.{not, _&&_, cond};
 ghost use Rattle.base.specs.Answers.{given, refused};
-ghost use Prim.Native.Nat.{ℕ, _+_, _-_, _*_, _≤_, _<_};
+ghost use Prim.Native.Nat.{ℕ, _+_, _-_, _*_, _^_, _≤_, _<_};
 ghost use lib.ListN.{length};
 ghost use Rattle.base.specs.Below.{anyBelow};
 ghost use Rattle.base.specs.Lists.{eqs};
-ghost use Rattle.volume_table.specs.Record.{emptyRecord, isEmpty};
+ghost use Rattle.volume_record.specs.Record.{emptyRecord, isEmpty};
 ghost use Rattle.volume_table.specs.Table.{recordCount, recordsPart, recordAt, nameOf, sameNames, reservedLimit};
 ghost use Rattle.volume_table.specs.Table.{tableGood, takenLeb, recordsTaken, copiesMark, takenNumber};
-ghost use Rattle.volume_table.specs.Sums.{TallyOf};
+ghost use Rattle.volume_table.specs.Sums.{tallied, TallyOf};
 use crate::TableChoice;
 use crate::Taken;
 use crate::Tally;
-use crate::fields::RECORD_NAME;
-use crate::fields::RECORD_NAME_LENGTH;
-use crate::fields::RECORD_SIZE;
-use crate::fields::field_bytes;
-use crate::fields::get_field;
-use crate::record::empty_record;
-use crate::record::is_empty;
-use crate::record::tally_record;
+use volume_record::AUTORESIZE;
+use volume_record::RECORD_NAME;
+use volume_record::RECORD_NAME_LENGTH;
+use volume_record::RECORD_SIZE;
+use volume_record::empty_record;
+use volume_record::field_bytes;
+use volume_record::get_field;
+use volume_record::is_empty;
+use volume_record::is_good;
+use volume_record::parse;
 
 // "at most 128"
 const MOST_RECORDS: usize = 128;
@@ -109,13 +111,37 @@ fn names_differ(t: &[u8], n: usize, empty: &[u8]) -> bool
     true
 }
 
+// The sums with one record more.
+fn tally_record(sum: Tally, r: &[u8], leb_size: u32, unit: u32, empty: &[u8]) -> Tally
+    requires { ⌜ (length (now r) ≡ 172) × ((now empty ≡ emptyRecord)
+        × ((sum .reserved < 2 ^ 40) × (sum .autoresize < 128))) ⌝ }
+    ensures { λ t. ⌜ (t ≡ tallied «leb_size» unit sum (now (r .entry)))
+        × ((t .reserved < sum .reserved + 2 ^ 32) × (t .autoresize ≤ sum .autoresize + 1)) ⌝ }
+{
+    let v = parse(r);
+    let reserved = sum.reserved + v.reserved as u64;
+    let autoresize = sum.autoresize + (v.flags & AUTORESIZE) as u32;
+    if is_empty(r, empty) {
+        return Tally {
+            good: true,
+            reserved,
+            autoresize,
+        };
+    }
+    Tally {
+        good: is_good(r, v, leb_size, unit),
+        reserved,
+        autoresize,
+    }
+}
+
 // The first n records: are all empty or good, and what they reserve and how many autoresize if so.
 fn tally(t: &[u8], n: usize, leb_size: u32, unit: u32, empty: &[u8]) -> Tally
     requires { ⌜ (n ≤ 128) × ((172 * n ≤ length (now t)) × (now empty ≡ emptyRecord)) ⌝ }
     ensures { λ r. ⌜ TallyOf n «leb_size» unit (now (t .entry)) r ⌝ }
 {
     let mut sum = Tally {
-        fine: true,
+        good: true,
         reserved: 0,
         autoresize: 0,
     };
@@ -123,7 +149,7 @@ fn tally(t: &[u8], n: usize, leb_size: u32, unit: u32, empty: &[u8]) -> Tally
     while i < n {
         let at = RECORD_SIZE * i;
         sum = tally_record(sum, &t[at..at + RECORD_SIZE], leb_size, unit, empty);
-        if !sum.fine {
+        if !sum.good {
             return sum;
         }
         i += 1;
@@ -145,7 +171,7 @@ pub fn table_good(content: &[u8], leb_size: u32, unit: u32, peb_count: u32) -> b
     let t = records_part(content, leb_size);
     let empty = empty_record();
     let sum = tally(t, n, leb_size, unit, &empty);
-    if !sum.fine {
+    if !sum.good {
         return false;
     }
     if 1 < sum.autoresize {
@@ -169,7 +195,8 @@ fn most_reserved(peb_count: u32) -> u64
 
 // The choice where the copies' records are equal.
 fn choice_of_equal(good: bool) -> TableChoice
-    ensures { λ r. ⌜ (takenNumber (r .taken) ≡ cond good (given 0) (cond good (given 1) (refused 11 0))) × (r .«copies_mark» ≡ cond good 0 1) ⌝ }
+    ensures { λ r. ⌜ (takenNumber (r .taken) ≡ cond good (given 0) (cond good (given 1) (refused 11 0)))
+        × (r .«copies_mark» ≡ cond good 0 1) ⌝ }
 {
     if good {
         return TableChoice {
@@ -185,7 +212,8 @@ fn choice_of_equal(good: bool) -> TableChoice
 
 // The choice where they differ.
 fn choice_of(good0: bool, good1: bool) -> TableChoice
-    ensures { λ r. ⌜ (takenNumber (r .taken) ≡ cond good0 (given 0) (cond good1 (given 1) (refused 11 0))) × (r .«copies_mark» ≡ cond (good0 && good1) 2 1) ⌝ }
+    ensures { λ r. ⌜ (takenNumber (r .taken) ≡ cond good0 (given 0) (cond good1 (given 1) (refused 11 0)))
+        × (r .«copies_mark» ≡ cond (good0 && good1) 2 1) ⌝ }
 {
     if good0 {
         if good1 {
@@ -219,8 +247,10 @@ pub fn choose_table(
     unit: u32,
     peb_count: u32,
 ) -> TableChoice
-    ensures taken { λ r. ⌜ takenNumber (r .taken) ≡ takenLeb «leb_size» unit «peb_count» (now (copy0 .entry)) (now (copy1 .entry)) ⌝ }
-    ensures mark { λ r. ⌜ r .«copies_mark» ≡ copiesMark «leb_size» unit «peb_count» (now (copy0 .entry)) (now (copy1 .entry)) ⌝ }
+    ensures taken { λ r. ⌜ takenNumber (r .taken)
+        ≡ takenLeb «leb_size» unit «peb_count» (now (copy0 .entry)) (now (copy1 .entry)) ⌝ }
+    ensures mark { λ r. ⌜ r .«copies_mark»
+        ≡ copiesMark «leb_size» unit «peb_count» (now (copy0 .entry)) (now (copy1 .entry)) ⌝ }
 {
     let good0 = table_good(copy0, leb_size, unit, peb_count);
     if base::same(records_part(copy0, leb_size), records_part(copy1, leb_size)) {

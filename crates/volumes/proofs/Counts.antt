@@ -1,4 +1,5 @@
--- How many entries a volume has in the map, and that fewer than u numbers below u pass a test exactly if one does not. Assumes nothing.
+-- How many entries a volume has in the map, and that fewer than u numbers below u pass a test exactly if one does not.
+-- Assumes nothing.
 use mathlib.Core.Path.{_≡_, refl, _∙_}
 use mathlib.Core.Logic.{⊎-elim, _≢_}
 use mathlib.Core.Bool.{Bool, true, false, not, cond}
@@ -43,19 +44,28 @@ count-less (suc n) p i h e =
     (below-suc n i h)
 
 -- past u none passes
-pub count-upto : (u n : ℕ) (p : ℕ → Bool) → u ≤ n → ((i : ℕ) → u ≤ i → i < n → p i ≡ false) → countBelow n p ≡ countBelow u p
+pub count-upto : (u n : ℕ) (p : ℕ → Bool) → u ≤ n → ((i : ℕ) → u ≤ i → i < n → p i ≡ false)
+    → countBelow n p ≡ countBelow u p
 count-upto u zero p h z = let e : u ≡ 0 = omega arith in rw e
 count-upto u (suc n) p h z =
     ⊎-elim
-    (λ (k : u < suc n). rw (z n (omega arith) (omega arith)) (omega (arith, count-upto u n p (omega arith) (λ i a b. z i a (omega arith)))))
+    (λ (k : u < suc n). rw (z n (omega arith) (omega arith))
+    (omega (arith, count-upto u n p (omega arith) (λ i a b. z i a (omega arith)))))
     (λ (k : u ≡ suc n). rw k)
     (below-suc (suc n) u (omega arith))
 
 pub fewer : (u : ℕ) (p : ℕ → Bool) → ltb (countBelow u p) u ≡ anyBelow u (λ i. not (p i))
 fewer u p =
     by-test (anyBelow u (λ i. not (p i)))
-    (λ e. let r = any-hit u (λ i. not (p i)) e in rw (e, lt-ltb (countBelow u p) u (count-less u p (r .0) (r .1) (not-true (p (r .0)) (r .2)))))
-    (λ e. rw (e, le-ltb (countBelow u p) u (omega (arith, count-all u p (λ i k. not-false (p i) (none-at u (λ i. not (p i)) e i k))))))
+    (λ e. let r = any-hit u (λ i. not (p i)) e in rw (
+      e,
+      lt-ltb (countBelow u p) u (count-less u p (r .0) (r .1) (not-true (p (r .0)) (r .2))),
+    ))
+    (λ e. rw (
+      e,
+      le-ltb (countBelow u p) u
+          (omega (arith, count-all u p (λ i k. not-false (p i) (none-at u (λ i. not (p i)) e i k)))),
+    ))
 
 -- ---- entries of one volume
 
@@ -67,7 +77,8 @@ count-front : (n : ℕ) (p : ℕ → Bool) → countBelow (suc n) p ≡ cond (p 
 count-front zero p = omega arith
 count-front (suc n) p = omega (arith, count-front n p)
 
-count-list : (v : ℕ) (d : Entry) (es : List Entry) → countBelow (length es) (λ k. eqb (getD es k d .volume) v) ≡ countOf v es
+count-list : (v : ℕ) (d : Entry) (es : List Entry)
+    → countBelow (length es) (λ k. eqb (getD es k d .volume) v) ≡ countOf v es
 unfolding countOf
 count-list v d [] = refl
 count-list v d (e ∷ es) = count-front (length es) (λ k. eqb (getD (e ∷ es) k d .volume) v) ∙ rw (count-list v d es)
@@ -90,7 +101,11 @@ sum-only : (n v : ℕ) (f : ℕ → ℕ) → v < n → ((i : ℕ) → i < n → 
 sum-only zero v f h z = absurd (omega arith)
 sum-only (suc n) v f h z =
     ⊎-elim
-    (λ (k : v < n). omega (arith, sum-only n v f k (λ i l ne. z i (omega arith) ne), z n (omega arith) (λ q. absurd (omega (arith, q)))))
+    (λ (k : v < n). omega (
+      arith,
+      sum-only n v f k (λ i l ne. z i (omega arith) ne),
+      z n (omega arith) (λ q. absurd (omega (arith, q))),
+    ))
     (λ (k : v ≡ n). rw k (omega (arith, sum-none n f (λ i l. z i (omega arith) (λ q. absurd (omega (arith, q, k)))))))
     (below-suc n v h)
 
@@ -119,20 +134,24 @@ module _ (ps : Places) (v : ℕ) where
 
   of-this : (r : ℕ) → countOf v (entriesOf v r) ≡ countBelow r (λ l. has (ps v l))
   of-this r =
-      count-concat v r (λ l. entryAt v l (ps v l)) ∙ sum-count r (λ l. countOf v (entryAt v l (ps v l))) (λ l. has (ps v l)) (λ l. one-entry v l (ps v l))
+      count-concat v r (λ l. entryAt v l (ps v l))
+      ∙ sum-count r (λ l. countOf v (entryAt v l (ps v l))) (λ l. has (ps v l)) (λ l. one-entry v l (ps v l))
 
   of-other : (w r : ℕ) → w ≢ v → countOf v (entriesOf w r) ≡ 0
   of-other w r n =
-      count-concat v r (λ l. entryAt w l (ps w l)) ∙ sum-none r (λ l. countOf v (entryAt w l (ps w l))) (λ l _. no-entry v w l (ps w l) n)
+      count-concat v r (λ l. entryAt w l (ps w l))
+      ∙ sum-none r (λ l. countOf v (entryAt w l (ps w l))) (λ l _. no-entry v w l (ps w l) n)
 
   -- a user volume has as many entries as LEBs below reserved that have a place
-  pub count-map : (k m : ℕ) (t : List ℕ) (d : Entry) → v < k → k ≤ layoutVolume
-      → countBelow (length (mapUpTo k m t ps)) (λ i. eqb (getD (mapUpTo k m t ps) i d .volume) v) ≡ countBelow (reservedOf (recordFor t v)) (λ l. has (ps v l))
+  pub count-map : (k m : ℕ) (t : List ℕ) (d : Entry) → v < k → k ≤ layoutVolume → let es = mapUpTo k m t ps in
+      countBelow (length es) (λ i. eqb (getD es i d .volume) v)
+      ≡ countBelow (reservedOf (recordFor t v)) (λ l. has (ps v l))
   unfolding mapUpTo
   count-map k m t d h q =
       let f : ℕ → List Entry = λ w. entriesOf w (reservedOf (recordFor t w)) in
-      let a = count-concat v k f ∙ sum-only k v (λ w. countOf v (f w)) h (λ w _ n. of-other w (reservedOf (recordFor t w)) n) in
+      let a = count-concat v k f ∙ sum-only k v (λ w. countOf v (f w)) h
+      (λ w _ n. of-other w (reservedOf (recordFor t w)) n) in
       let b = of-other layoutVolume m (λ z. absurd (omega (arith, z))) in
-      count-list v d (concatBelow k f ++ entriesOf layoutVolume m) ∙ count-append v (concatBelow k f) (entriesOf layoutVolume m)
-      ∙ (let e : countOf v (concatBelow k f) + countOf v (entriesOf layoutVolume m) ≡ countOf v (f v) = omega (arith, a, b) in e)
-      ∙ of-this (reservedOf (recordFor t v))
+      let c = count-append v (concatBelow k f) (entriesOf layoutVolume m) in
+      count-list v d (concatBelow k f ++ entriesOf layoutVolume m) ∙ c
+      ∙ omega (arith, a, b, of-this (reservedOf (recordFor t v)))

@@ -11,7 +11,7 @@ use lib.Dec.{ltb}
 use Rattle.base.specs.Answers.{mapO}
 use Rattle.base.specs.Below.{firstBelow}
 use Rattle.geometry.specs.declared.Geometry.{Geometry}
-use Rattle.volume_table.specs.Record.{recordOf}
+use Rattle.volume_record.specs.Record.{recordOf}
 use Rattle.volume_table.specs.Table.{recordAt}
 use Rattle.report.specs.View.{copyOf}
 use Rattle.report.specs.Volumes.{Face, faceOf, recordFor, reservedOf, usedOf}
@@ -29,7 +29,8 @@ unfolding copyOf faceOf
 used-is g image i = refl
 
 -- a record that reserves something is there
-pub record-there : (t : List ℕ) (v : ℕ) → 0 < recordOf (recordAt t v) .reserved → recordFor t v ≡ some (recordOf (recordAt t v))
+pub record-there : (t : List ℕ) (v : ℕ) → 0 < recordOf (recordAt t v) .reserved
+    → recordFor t v ≡ some (recordOf (recordAt t v))
 unfolding recordFor
 record-there t v h = rw (lt-ltb 0 (recordOf (recordAt t v) .reserved) h)
 
@@ -44,7 +45,8 @@ pub record EntryOf (map : List ℕ) (count v l : ℕ) : Type 0 where
   pub volume : volumeWord map at ≡ v
   pub leb : lnumWord map at ≡ l
 
-module _ {g : Geometry} {n : ℕ} {image map table : List ℕ} {count : ℕ} (s : SortedMap g n image map table count) {v : ℕ} (hv : v < 128) where
+module _ {g : Geometry} {n : ℕ} {image map table : List ℕ} {count : ℕ} (s : SortedMap g n image map table count) {v : ℕ}
+    (hv : v < 128) where
   abbrev pub most : ℕ
   most = reservedOf (recordFor (rs s) v)
 
@@ -71,19 +73,22 @@ module _ {g : Geometry} {n : ℕ} {image map table : List ℕ} {count : ℕ} (s 
     used-first h =
         let e : volumeWord map first ≡ v = f .here h in
         let w : firstBelow most (fs s v) ≡ some (lnumWord map first, faceAt g image (pebWord map first)) =
-        first-lowest most (fs s v) (lnumWord map first) (faceAt g image (pebWord map first)) (leb-within h e) (face-here h e)
+        first-lowest most (fs s v) (lnumWord map first) (faceAt g image (pebWord map first)) (leb-within h e)
+        (face-here h e)
         (λ l k. below k (face-or (omega (arith, leb-within h e)))) in
         rw (w, used-is g image (pebWord map first))
       where
         below : {l : ℕ} → l < lnumWord map first → (fs s v l ≡ none) ⊎ EntryOf map count v l → fs s v l ≡ none
         below k (inl q) = q
         below k (inr q) =
-            absurd (f .before (q .at) (lower-first s (q .below) h (q .volume ∙ sym (f .here h)) (omega (arith, q .leb))) (q .volume))
+            absurd (f .before (q .at) (lower-first s (q .below) h (q .volume ∙ sym (f .here h)) (omega (arith, q .leb)))
+            (q .volume))
 
     -- the first entry is one where there is one
     pub first-there : {k : ℕ} → k < count → volumeWord map k ≡ v → first < count
     first-there {k} h e =
-        by-test (ltb k first) (λ q. absurd (f .before k (ltb-true k first q) e)) (λ q. omega (arith, ltb-false k first q))
+        by-test (ltb k first) (λ q. absurd (f .before k (ltb-true k first q) e))
+        (λ q. omega (arith, ltb-false k first q))
 
 -- ---- an entry at fault
 
@@ -95,7 +100,8 @@ module _ (asks : Bool) (f : Face) where
   fault-dynamic r e = rw (e, r, and-false asks) (sym (or-false (not (f .sound))))
 
   -- a wrong CRC is a fault, whatever the flag
-  pub fault-static : {m : Bool} (a : Bool) → not asks ≡ false → f .right ≡ m → f .sound ≡ a || m → not m ≡ faultyBy asks f
+  pub fault-static : {m : Bool} (a : Bool) → not asks ≡ false → f .right ≡ m → f .sound ≡ a || m
+      → not m ≡ faultyBy asks f
   fault-static {m} a k r e = rw (e, r, not-false asks k) (go a m)
     where
       go : (a m : Bool) → not m ≡ not (a || m) || not m

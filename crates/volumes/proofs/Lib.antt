@@ -1,5 +1,4 @@
 -- The laws that proofs here and above cite. Assumes nothing.
-pub mod Records
 pub mod Words
 pub mod Counts
 pub mod Faces

@@ -7,8 +7,8 @@ use lib.ListN.{length, take, drop}
 use Rattle.base.specs.Lists.{part}
 use Rattle.field.specs.Be.{beFrom}
 use Rattle.field.specs.Fields.{numberIn}
-use Rattle.volume_table.specs.Fields.{recordReserved, recordDataPad, recordType, recordMarker, recordFlags}
-use Rattle.volume_table.specs.Record.{recordOf}
+use Rattle.volume_record.specs.Fields.{recordReserved, recordDataPad, recordType, recordMarker, recordFlags}
+use Rattle.volume_record.specs.Record.{recordOf}
 use Rattle.volume_table.specs.Table.{recordAt}
 use Rattle.volumes.specs.declared.RecordNumbers.{RecordNumbers}
 use Rattle.volumes.specs.Sorted.{numbersOf}

@@ -13,16 +13,20 @@ use Rattle.base.specs.Below.{anyBelow, countBelow}
 use Rattle.base.proofs.Answers.{and-left, and-right}
 use Rattle.base.proofs.Below.{any-intro, any-cong, first-none}
 use Rattle.geometry.specs.declared.Geometry.{Geometry}
-use Rattle.volume_table.specs.Record.{recordOf}
+use Rattle.volume_record.specs.Record.{recordOf}
 use Rattle.volume_table.specs.Table.{recordAt}
-use Rattle.volume_table.specs.declared.VolumeRecord.{VolumeRecord}
+<<<<<<< HEAD
+use Rattle.volume_record.specs.declared.VolumeRecord.{VolumeRecord}
 use Rattle.report.specs.View.{mediumOf, viewsOf, copyOf, copies}
+=======
+use Rattle.volume_table.specs.declared.VolumeRecord.{VolumeRecord}
+use Rattle.report.specs.View.{mediumOf, copyOf}
+>>>>>>> house-e
 use Rattle.report.specs.Volumes.{Face, faceOf, recordFor, usedOf, mapOf, asksCrc, faulty, isMissing, lacks, stateOf}
 use Rattle.report.specs.Report.{entries, stateAt}
-use Rattle.report.proofs.Choice.{chosen-at}
 use Rattle.report.proofs.Tables.{Fits, entry-fits, reserved-is}
 use Rattle.copies.specs.InPlace.{headerAt, copyAt, faceAt}
-use Rattle.copies.proofs.Copies.{static-below, place-chosen, face-is}
+use Rattle.copies.proofs.Copies.{static-below, copy-at, face-is}
 use Rattle.volumes.specs.declared.RecordNumbers.{RecordNumbers}
 use Rattle.words.specs.Words.{volumeWord, lnumWord, pebWord}
 use Rattle.volumes.specs.Sorted.{faultyBy, numbersOf, asksBy, isOf, faultAt, FirstOf, LacksLeb, SortedMap, NoMisfit}
@@ -40,7 +44,8 @@ missing-has : (F : ℕ → Face) (o : Option ℕ) → isMissing (mapO F o) ≡ n
 missing-has F none = refl
 missing-has F (some p) = refl
 
-module _ {g : Geometry} {n : ℕ} {image map table : List ℕ} {count : ℕ} (d : NoMisfit g n image map table count) {v : ℕ} (hv : v < 128) where
+module _ {g : Geometry} {n : ℕ} {image map table : List ℕ} {count : ℕ} (d : NoMisfit g n image map table count) {v : ℕ}
+    (hv : v < 128) where
   abbrev s : SortedMap g n image map table count
   s = d .sorted
 
@@ -101,24 +106,31 @@ module _ {g : Geometry} {n : ℕ} {image map table : List ℕ} {count : ℕ} (d 
             by-option (ps s v l) (λ q. rw q)
             (λ p q. let f = fits l (faceAt g image p) h (face-is g n image v l ∙ ap (mapO (faceAt g image)) q) in
             let k = f .same-type ∙ static in
-            let c = chosen-at n (copies (viewsOf g image)) v l p (copyAt g image p) (place-chosen g n image v l p q) in
+            let c = copy-at g n image v l p q in
             let w : some u ≡ some (headerAt g image p .«used_lebs») = sym is-used ∙ f .same-used k in
             let x : u ≡ headerAt g image p .«used_lebs» = cc in
-            absurd (omega (arith, static-below g image p (copyAt g image p) (c .1) k, x, c .3)))
+            absurd (omega (arith, static-below g image p (copyAt g image p) (c .is) k, x, c .lnum)))
 
-        missing : u ≤ rec .reserved → ltb (countBelow count (isOf map v)) u ≡ lacks rec (usedOf (rs s) (fs s) v) (fs s v)
+        missing : u ≤ rec .reserved
+            → ltb (countBelow count (isOf map v)) u ≡ lacks rec (usedOf (rs s) (fs s) v) (fs s v)
         missing h =
-            rw (entry-count ∙ count-upto u (rec .reserved) (λ l. has (ps s v l)) h past, is-used, eq-eqb (rec .«vol_type») 2 static)
+            rw (
+              entry-count ∙ count-upto u (rec .reserved) (λ l. has (ps s v l)) h past,
+              is-used,
+              eq-eqb (rec .«vol_type») 2 static,
+            )
             (fewer u (λ l. has (ps s v l))
             ∙ any-cong u (λ l. not (has (ps s v l))) (λ l. isMissing (fs s v l))
             (λ l _. sym (ap isMissing (face-is g n image v l) ∙ missing-has (faceAt g image) (ps s v l))))
 
       -- nothing is mapped
-      unmapped : {first : ℕ} → FirstOf map count v first → count ≤ first → lacks rec (usedOf (rs s) (fs s) v) (fs s v) ≡ false
+      unmapped : {first : ℕ} → FirstOf map count v first → count ≤ first
+          → lacks rec (usedOf (rs s) (fs s) v) (fs s v) ≡ false
       unfolding usedOf
       unmapped f h =
           rw (first-none (most s hv) (fs s v) (λ l k. ⊎-elim (λ (q : fs s v l ≡ none). q)
-          (λ (q : EntryOf map count v l). absurd (f .before (q .at) (omega (arith, q .below)) (q .volume))) (face-or s hv k)))
+          (λ (q : EntryOf map count v l). absurd (f .before (q .at) (omega (arith, q .below)) (q .volume)))
+          (face-or s hv k)))
 
       lacking : {b : Bool} → LacksLeb g image map count v b → b ≡ lacks rec (usedOf (rs s) (fs s) v) (fs s v)
       unfolding copyOf faceOf
@@ -128,7 +140,8 @@ module _ {g : Geometry} {n : ℕ} {image map table : List ℕ} {count : ℕ} (d 
           ∙ by-test (ltb k count)
           (λ q. let h : k < count = ltb-true k count q in
           let e : volumeWord map k ≡ v = x .is-first .here h in
-          let f = fits (lnumWord map k) (faceAt g image (pebWord map k)) (rw reserves at (leb-within s hv h e)) (face-here s hv h e) in
+          let f = fits (lnumWord map k) (faceAt g image (pebWord map k)) (rw reserves at (leb-within s hv h e))
+          (face-here s hv h e) in
           let z = f .same-type ∙ static in
           rw q (missing (headerAt g image (pebWord map k) .«used_lebs») (f .same-used z) (f .used-within z)))
           (λ q. rw q (sym (unmapped (x .is-first) (ltb-false k count q))))
@@ -152,12 +165,14 @@ module _ {g : Geometry} {n : ℕ} {image map table : List ℕ} {count : ℕ} (d 
       unfolding numbersOf stateAt stateOf
       state-marked e = rw (is-record there, ← (number (λ k. k .marker)), e)
 
-      module _ (n1 : r .marker ≡ 1 → ⊥) {asks : Bool} (a : asks ≡ asksBy r) {bad : Bool} (b : bad ≡ anyBelow count (faultAt g image map v asks)) where
+      module _ (n1 : r .marker ≡ 1 → ⊥) {asks : Bool} (a : asks ≡ asksBy r) {bad : Bool}
+          (b : bad ≡ anyBelow count (faultAt g image map v asks)) where
         pub state-is : stateAt (mediumOf g n image) v ≡ cond (bad || lacks rec (usedOf (rs s) (fs s) v) (fs s v)) 3 1
         unfolding numbersOf stateAt stateOf
         state-is =
             let e : bad ≡ anyBelow (rec .reserved) (bad-leb there) =
-            b ∙ ap (λ (x : Bool). anyBelow count (faultAt g image map v x)) (a ∙ number asksBy) ∙ same-test _ _ (fault-leb there) (leb-fault there) in
+            b ∙ ap (λ (x : Bool). anyBelow count (faultAt g image map v x)) (a ∙ number asksBy)
+            ∙ same-test _ _ (fault-leb there) (leb-fault there) in
             rw (is-record there, ne-eqb (rec .«update_marker») 1 (λ q. n1 (number (λ k. k .marker) ∙ q)), e)
 
         pub state-faulty : bad ≡ true → 3 ≡ stateAt (mediumOf g n image) v
@@ -167,9 +182,13 @@ module _ {g : Geometry} {n : ℕ} {image map table : List ℕ} {count : ℕ} (d 
           pub state-dynamic : (r .«vol_type» ≡ 2 → ⊥) → 1 ≡ stateAt (mediumOf g n image) v
           unfolding numbersOf
           state-dynamic k =
-              sym (state-is ∙ rw (fine, lacks-dynamic rec (usedOf (rs s) (fs s) v) (fs s v) (λ q. k (number (λ k. k .«vol_type») ∙ q))))
+              sym (state-is ∙ rw (
+                fine,
+                lacks-dynamic rec (usedOf (rs s) (fs s) v) (fs s v) (λ q. k (number (λ k. k .«vol_type») ∙ q)),
+              ))
 
           pub state-static : r .«vol_type» ≡ 2 → {short x : Bool} → LacksLeb g image map count v short → short ≡ x
               → cond x 3 1 ≡ stateAt (mediumOf g n image) v
           unfolding numbersOf
-          state-static k l e = sym (state-is ∙ rw (fine, ← (lacking there (sym (number (λ k. k .«vol_type»)) ∙ k) l), e))
+          state-static k l e =
+              sym (state-is ∙ rw (fine, ← (lacking there (sym (number (λ k. k .«vol_type»)) ∙ k) l), e))

@@ -1,4 +1,4 @@
--- The words of the sorted map: what each entry says, where each mapped LEB's entry is, and their order. Assumes nothing.
+-- The words of the sorted map: what each entry says, where a mapped LEB's entry is, their order. Assumes nothing.
 use mathlib.Core.Path.{_≡_, refl, sym, ap, _∙_}
 use mathlib.Core.Logic.{inl, ⊎-elim}
 use mathlib.Core.Option.{some}
@@ -15,16 +15,15 @@ use Rattle.base.proofs.Answers.{each-holds}
 use Rattle.geometry.specs.declared.Geometry.{Geometry}
 use Rattle.header.specs.Vid.{layoutVolume}
 use Rattle.volume_table.specs.Table.{recordCount, recordsPart, tableTests, tableGood}
-use Rattle.report.specs.View.{Medium, mediumOf, viewsOf, copies}
+use Rattle.report.specs.View.{Medium, mediumOf}
 use Rattle.report.specs.Volumes.{Faces, Places, tableLeb, tableRecords, recordFor, reservedOf, Entry, mapOf}
 use Rattle.report.specs.Report.{faces, places, records, entries, taken}
 use Rattle.report.specs.Attach.{entryWords, mapWords}
-use Rattle.report.proofs.Choice.{chosen-at}
 use Rattle.report.proofs.Map.{Ascending, Before, Listed, in-map, map-has, map-ascends}
 use Rattle.report.proofs.Tables as tables
 use Rattle.report.proofs.Words.{entry-words-length}
-use Rattle.copies.specs.InPlace.{copyAt, HasCopy}
-use Rattle.copies.proofs.Copies.{place-chosen}
+use Rattle.copies.specs.InPlace.{HasCopy}
+use Rattle.copies.proofs.Copies.{copy-at}
 use Rattle.words.specs.Words.{volumeWord, lnumWord, pebWord}
 use Rattle.volumes.specs.Sorted.{Entries, SortedMap}
 use Rattle.base.proofs.Answers.{by-test}
@@ -47,7 +46,8 @@ nth-before (e ∷ es) a (suc i) (suc j) h k = nth-before es (a .1) i j (omega ar
 abbrev triple : Entry → List ℕ
 triple e = e .volume ∷ e .lnum ∷ e .peb ∷ []
 
-words-at : (es : List Entry) (k j : ℕ) → k < length es → j < 3 → getD (entryWords es) (k * 3 + j) 0 ≡ getD (triple (nth es k)) j 0
+words-at : (es : List Entry) (k j : ℕ) → k < length es → j < 3
+    → getD (entryWords es) (k * 3 + j) 0 ≡ getD (triple (nth es k)) j 0
 words-at [] k j h l = absurd (omega arith)
 words-at (e ∷ es) zero zero h l = refl
 words-at (e ∷ es) zero (suc zero) h l = refl
@@ -58,14 +58,16 @@ words-at (e ∷ es) (suc k) j h l =
     rw q (words-at es k j (omega arith) l)
 
 -- the records of the table taken are whole
-pub records-long : (m : Medium) {l : ℕ} → taken m ≡ given l → length (records m) ≡ 172 * recordCount (m .geometry .«leb_size»)
+pub records-long : (m : Medium) {l : ℕ} → taken m ≡ given l
+    → length (records m) ≡ 172 * recordCount (m .geometry .«leb_size»)
 unfolding tableLeb tableRecords tableGood tableTests recordsPart
 records-long m e =
     let g = m .geometry in
     let f = tables.taken (g .«leb_size») (g .unit) (m .count) _ _ _ e in
     let c = recordCount (g .«leb_size») in
     let p = recordsPart (g .«leb_size») (f .content) in
-    let a : 172 * c ≤ length p = leb-true (172 * c) (length p) (each-holds (tableTests c (g .«leb_size») (g .unit) (m .count) p) (f .good) 1) in
+    let a : 172 * c ≤ length p =
+    leb-true (172 * c) (length p) (each-holds (tableTests c (g .«leb_size») (g .unit) (m .count) p) (f .good) 1) in
     let b : length p ≤ 172 * c = rw length-take (min-le-left (172 * c) (length (f .content))) in
     rw (f .is) (omega arith)
 
@@ -88,7 +90,7 @@ module _ {g : Geometry} {n : ℕ} {image map table : List ℕ} {count : ℕ} (s 
 
   -- ---- the words of the map
 
-  within : (count * 3 ≤ length map) × (count ≤ n)
+  pub within : (count * 3 ≤ length map) × (count ≤ n)
   unfolding mapWords
   within =
       let e = simp (length-take, length-append) at (ap length (s .words)) in
@@ -124,19 +126,15 @@ module _ {g : Geometry} {n : ℕ} {image map table : List ℕ} {count : ℕ} (s 
     pub leb-below : volumeWord map k < 128 → lnumWord map k < reservedOf (recordFor rs (volumeWord map k))
     leb-below l =
         rw (volume-is, leb-is)
-        (⊎-elim (λ (q : (nth es k .volume < 128) × (nth es k .lnum < reservedOf (recordFor rs (nth es k .volume)))). q .1)
+        (⊎-elim (λ q. q .1)
         (λ (q : (nth es k .volume ≡ layoutVolume) × (nth es k .lnum < 2)). absurd (omega (arith, q .0, volume-is)))
         (listed .key))
 
     pub mapped-here : HasCopy g image (pebWord map k)
     mapped-here =
-        let e = place-chosen g n image (volumeWord map k) (lnumWord map k) (pebWord map k) place-is in
-        let c = chosen-at n (copies (viewsOf g image)) (volumeWord map k) (lnumWord map k) (pebWord map k) (copyAt g image (pebWord map k)) e in
-        record {
-          placed = s .placed;
-          bytes = omega (arith, s .whole, mul-le-mul-right (g .«peb_size») (c .0));
-          is = c .1;
-        }
+        let c = copy-at g n image (volumeWord map k) (lnumWord map k) (pebWord map k) place-is in
+        let b = mul-le-mul-right (g .«peb_size») (c .below) in
+        record { placed = s .placed; bytes = omega (arith, s .whole, b); is = c .is }
 
   pub entries-there : Entries g image map count
   entries-there = record { words = within .0; mapped = λ k h. mapped-here h }
@@ -157,13 +155,14 @@ module _ {g : Geometry} {n : ℕ} {image map table : List ℕ} {count : ℕ} (s 
       )
 
   -- of one volume, the lower LEB comes first
-  pub lower-first : {i j : ℕ} → i < count → j < count → volumeWord map i ≡ volumeWord map j → lnumWord map i < lnumWord map j → i < j
+  pub lower-first : {i j : ℕ} → i < count → j < count → volumeWord map i ≡ volumeWord map j
+      → lnumWord map i < lnumWord map j → i < j
   unfolding entries mapOf
   lower-first {i} {j} hi hj e l =
       by-test (ltb i j) (λ p. ltb-true i j p) (λ p. by-test (ltb j i)
       (λ q. ⊎-elim
       (λ (z : nth es j .volume < nth es i .volume). absurd (omega (arith, volume-is hi, volume-is hj)))
-      (λ (z : (nth es j .volume ≡ nth es i .volume) × (nth es j .lnum < nth es i .lnum)). absurd (omega (arith, leb-is hi, leb-is hj)))
+      (λ z. absurd (omega (arith, z .0, z .1, leb-is hi, leb-is hj)))
       (nth-before es (map-ascends 128 2 rs ps (omega arith)) j i (ltb-true j i q) (omega (arith, s .count-is))))
       (λ q. let z : i ≡ j = omega (arith, ltb-false i j p, ltb-false j i q) in
       let y : lnumWord map i ≡ lnumWord map j = ap (lnumWord map) z in

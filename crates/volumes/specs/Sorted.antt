@@ -14,7 +14,7 @@ use Rattle.words.specs.Words.{mapWordsNeeded, volumeWord, lnumWord, pebWord}
 use Rattle.geometry.specs.declared.Geometry.{Geometry}
 use Rattle.geometry.specs.Placed.{Placed}
 use Rattle.header.specs.declared.VidHeader.{VidHeader}
-use Rattle.volume_table.specs.declared.VolumeRecord.{VolumeRecord}
+use Rattle.volume_record.specs.declared.VolumeRecord.{VolumeRecord}
 use Rattle.report.specs.View.{Medium, mediumOf}
 use Rattle.report.specs.Scan.{Refusal}
 use Rattle.report.specs.Volumes.{Face, misfitIn, misfitAt, refusal1112}

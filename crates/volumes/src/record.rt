@@ -3,17 +3,17 @@ ghost use mathlib.Core.Path.{_≡_};
 ghost use Prim.Native.Nat.{_+_, _*_, _≤_, _<_};
 ghost use Rattle.base.specs.Lists.{part};
 ghost use lib.ListN.{length};
-ghost use Rattle.volume_table.specs.Record.{recordOf};
+ghost use Rattle.volume_record.specs.Record.{recordOf};
 ghost use Rattle.volume_table.specs.Table.{recordCount, recordAt};
 ghost use Rattle.volumes.specs.Sorted.{numbersOf};
 use crate::RecordNumbers;
-use volume_table::RECORD_DATA_PAD;
-use volume_table::RECORD_FLAGS;
-use volume_table::RECORD_MARKER;
-use volume_table::RECORD_RESERVED;
-use volume_table::RECORD_SIZE;
-use volume_table::RECORD_TYPE;
-use volume_table::get_field;
+use volume_record::RECORD_DATA_PAD;
+use volume_record::RECORD_FLAGS;
+use volume_record::RECORD_MARKER;
+use volume_record::RECORD_RESERVED;
+use volume_record::RECORD_SIZE;
+use volume_record::RECORD_TYPE;
+use volume_record::get_field;
 
 // The numbers of the record at `at`.
 fn numbers_at(records: &[u8], at: usize) -> RecordNumbers

@@ -18,7 +18,7 @@ use geometry::Geometry;
 use header::STATIC;
 use header::VID_USED_LEBS;
 use report::state;
-use volume_table::SKIP_CRC;
+use volume_record::SKIP_CRC;
 use words::STATE_WORDS;
 use words::peb_word;
 

@@ -1,5 +1,5 @@
 -- Words that are set or stored, and words that stand in rows. Assumes nothing.
-use mathlib.Core.Path.{_≡_, refl, ap, _∙_}
+use mathlib.Core.Path.{_≡_, refl, ap}
 use mathlib.Core.Logic.{_≢_}
 use mathlib.Core.List.{List, [], _∷_, _++_}
 use Prim.Native.Nat.{ℕ, zero, suc, _+_, _*_, _≤_, _<_}
@@ -18,7 +18,8 @@ pub set-two : (d : List ℕ) (k a b : ℕ) → k + 2 ≤ length d → set (set d
 set-two [] k a b h = absurd (omega arith)
 set-two (x ∷ []) zero a b h = absurd (omega arith)
 set-two (x ∷ y ∷ d) zero a b h = refl
-set-two (x ∷ d) (suc k) a b h = rw (suc-add k 1, suc-add k 2) (ap (λ (l : List ℕ). x ∷ l) (set-two d k a b (omega arith)))
+set-two (x ∷ d) (suc k) a b h =
+    rw (suc-add k 1, suc-add k 2) (ap (λ (l : List ℕ). x ∷ l) (set-two d k a b (omega arith)))
 
 pub set-three : (d : List ℕ) (k a b c : ℕ) → k + 3 ≤ length d
     → set (set (set d k a) (k + 1) b) (k + 2) c ≡ put k (a ∷ b ∷ c ∷ []) d

@@ -26,8 +26,7 @@ returns-2 c =
 
 loop-again : tie.Need-loop-again Inv-loop μ-loop
 loop-again c =
-    let l = c .before .before .before .before .loop in
-    let a = c .before .before .before .before .before .before .args in
+    let at-loop = c .before .before .before .before in let l = at-loop .loop in let a = at-loop .before .before .args in
     (l .inv .0, (omega arith, sym (eqs-go (a .a .now) (a .b .now) (l .i) (omega arith) (omega arith) (c .if2 .left)) ∙ l .inv .1 .1))
 
 returns-3 : tie.Need-returns-3 Inv-loop μ-loop

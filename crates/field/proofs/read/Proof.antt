@@ -23,11 +23,13 @@ mul-v : tie.Need-mul-v Inv-loop μ-loop
 mul-v c = omega (arith, below-eight (c .before .loop .v) (c .before .loop .i) (omega arith) (omega arith))
 
 -- the byte that is read is below 256
-byte : (c : tie.After-shared-slice-known Inv-loop μ-loop) → getD (c .before .before .before .args .s .now) (c .before .before .before .args .at + c .before .before .loop .i) 0 < 256
+byte : (c : tie.After-shared-slice-known Inv-loop μ-loop)
+    → getD (c .before .before .before .args .s .now) (c .before .before .before .args .at + c .before .before .loop .i) 0 < 256
 byte c = omega (arith, c .shared-slice-known .given (c .before .before .before .args .at + c .before .before .loop .i))
 
 add-v-2 : tie.Need-add-v-2 Inv-loop μ-loop
-add-v-2 c = omega (arith, byte c, below-eight (c .before .before .loop .v) (c .before .before .loop .i) (omega arith) (omega arith))
+add-v-2 c =
+    omega (arith, byte c, below-eight (c .before .before .loop .v) (c .before .before .loop .i) (omega arith) (omega arith))
 
 loop-again : tie.Need-loop-again Inv-loop μ-loop
 loop-again c =

@@ -8,7 +8,8 @@ use Rattle.field.proofs.write.Statement.{statement}
 use Rattle.field.proofs.write.Tie as tie
 
 abbrev Inv-loop : tie.InvT-loop
-Inv-loop s₀ at width value v₀ i₀ s v i = (i ≤ width) × ((length s ≡ length s₀) × (leftTo at i v s ≡ leftTo at width value s₀))
+Inv-loop s₀ at width value v₀ i₀ s v i =
+    (i ≤ width) × ((length s ≡ length s₀) × (leftTo at i v s ≡ leftTo at width value s₀))
 
 abbrev μ-loop : tie.MeasureT-loop
 μ-loop s₀ at width value v₀ i₀ s v i = i
@@ -29,7 +30,10 @@ returns c =
     let l = c .before .loop in
     let a = c .before .before .args in
     let e : l .i ≡ 0 = omega arith in
-    sym (store-none (a .at) (l .v) (l .s)) ∙ rw e at (l .inv .1 .1) ∙ store-all (a .at) (a .width) (a .value) (a .s .now)
+    sym (store-none (a .at) (l .v) (l .s)) ∙ rw e at (l .inv .1 .1)
+    ∙ store-all (a .at) (a .width) (a .value) (a .s .now)
 
 pub write-spec : {M : Type 1} → statement M
-write-spec = tie.close (tie.spec Inv-loop μ-loop loop-holds (λ c. omega arith) (λ c. omega arith) (λ c. omega arith) (λ c. omega arith) (λ c. omega arith) loop-again same-length returns)
+write-spec =
+    tie.close (tie.spec Inv-loop μ-loop loop-holds (λ c. omega arith) (λ c. omega arith) (λ c. omega arith)
+    (λ c. omega arith) (λ c. omega arith) loop-again same-length returns)

@@ -10,8 +10,6 @@ use Rattle.base.proofs.Lists.{paste-all, length-part}
 use Rattle.flash_writes.proofs.Writes.{copy-more}
 use Rattle.flash_writes.proofs.copy_run.Statement.{statement}
 use Rattle.flash_writes.proofs.copy_run.Tie as tie
-use Rattle.flash_writes.proofs.copy_run.Reads as reads
-use Rattle.flash_writes.proofs.copy_run.Lts as lts
 
 abbrev Inv-loop : tie.InvT-loop
 Inv-loop image₀ from to n i₀ image i = (i ≤ n) × ((length image ≡ length image₀) × (image ≡ paste image₀ to (part from n image₀) i))
@@ -21,24 +19,6 @@ abbrev μ-loop : tie.MeasureT-loop
 
 loop-holds : tie.Need-loop-holds Inv-loop μ-loop
 loop-holds c = (omega arith, (refl, paste-zero (c .args .image .now) (c .args .to) (part (c .args .from) (c .args .n) (c .args .image .now))))
-
-add-image : tie.Need-add-image Inv-loop μ-loop
-add-image c = search needs
-
-slice-read-image : tie.Need-slice-read-image Inv-loop μ-loop
-slice-read-image c = search needs
-
-add-image-2 : tie.Need-add-image-2 Inv-loop μ-loop
-add-image-2 c = search needs
-
-slice-write-image : tie.Need-slice-write-image Inv-loop μ-loop
-slice-write-image c = search needs
-
-add-i : tie.Need-add-i Inv-loop μ-loop
-add-i c = search needs
-
-loop-less : tie.Need-loop-less Inv-loop μ-loop
-loop-less c = search needs
 
 loop-again : tie.Need-loop-again Inv-loop μ-loop
 loop-again c = let l = c .before .before .loop in
@@ -61,12 +41,12 @@ copy-run-spec =
     Inv-loop
     μ-loop
     loop-holds
-    add-image
-    slice-read-image
-    add-image-2
-    slice-write-image
-    add-i
-    loop-less
+    (λ c. search needs)
+    (λ c. search needs)
+    (λ c. search needs)
+    (λ c. search needs)
+    (λ c. search needs)
+    (λ c. search needs)
     loop-again
     same-length
     returns)

@@ -5,28 +5,19 @@ use Rattle.grade.proofs.peb_sound.Statement.{statement}
 use Rattle.grade.proofs.peb_sound.Tie as tie
 
 returns : tie.Need-returns
-returns c = rw (eq-eqb _ _ (c .if1 .taken))
+returns c = rw (← (c .before .class-word .ensures), eq-eqb _ _ (c .if1 .taken))
 
 returns-2 : tie.Need-returns-2
-returns-2 c = rw (ne-eqb _ _ (c .before .before .if1 .left), eq-eqb _ _ (c .if2 .taken))
+returns-2 c =
+    let d = c .before in
+    rw (← (d .before .class-word .ensures), ne-eqb _ _ (d .if1 .left), eq-eqb _ _ (c .if2 .taken))
 
 returns-3 : tie.Need-returns-3
-returns-3 c = rw (ne-eqb _ _ (c .before .before .before .if1 .left), ne-eqb _ _ (c .before .if2 .left))
+returns-3 c =
+    let d = c .before .before in
+    rw (← (d .before .class-word .ensures), ne-eqb _ _ (d .if1 .left), ne-eqb _ _ (c .before .if2 .left))
+    (rw (← (c .counter-word .ensures)))
 
 pub peb-sound-spec : {M : Type 1} → statement M
 peb-sound-spec =
-    tie.close
-    (tie.spec
-    (λ c. search needs)
-    (λ c. search needs)
-    (λ c. search needs)
-    returns
-    (λ c. search needs)
-    (λ c. search needs)
-    (λ c. search needs)
-    returns-2
-    (λ c. search needs)
-    (λ c. search needs)
-    (λ c. search needs)
-    (λ c. search needs)
-    returns-3)
+    tie.close (tie.spec (λ c κs. search needs) returns returns-2 (λ c κs. search needs) returns-3)

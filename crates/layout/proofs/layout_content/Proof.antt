@@ -22,7 +22,8 @@ mul-at : tie.Need-mul-at
 mul-at c = let p = start (c .before .before) .pre .keyed .placed in omega (arith, bytes (c .before))
 
 add-result : tie.Need-add-result
-add-result c = omega (arith, bytes (c .before .before), start (c .before .before .before) .pre .keyed .placed .leb-fills)
+add-result c =
+    omega (arith, bytes (c .before .before), start (c .before .before .before) .pre .keyed .placed .leb-fills)
 
 add-result-2 : tie.Need-add-result-2
 add-result-2 c = omega (arith, bytes (c .before .before .before))

@@ -1,13 +1,11 @@
 -- `attach::summary::mean` meets its contract. Assumes nothing.
-use Prim.Native.Nat.{_≤_, _-_}
+use Prim.Native.Nat.{_≤_}
 use native.Mathlib.Omega.{arith}
 use borrow.Author.Needs.{needs}
 use Prim.Native.Nat.{_/_}
 use native.Mathlib.Nat.{div-zero, div-le-of-le-mul}
 use Rattle.attach.proofs.summary.mean.Statement.{statement}
 use Rattle.attach.proofs.summary.mean.Tie as tie
-use Rattle.attach.proofs.summary.mean.Reads as reads
-use Rattle.attach.proofs.summary.mean.Lts as lts
 
 returns : tie.Need-returns
 returns c = let e = c .if1 .taken in rw (e, div-zero)

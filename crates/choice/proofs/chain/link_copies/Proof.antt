@@ -25,7 +25,8 @@ loop-holds : tie.Need-loop-holds Inv-loop μ-loop
 loop-holds c =
     let f = c .before .before in
     let d = f .before .before .before .before in
-    let o = no-heads (d .args .heads .now) buckets (f .fill-words .ensures) (sized (c .before)) (lit≤ tt) (d .pre .1 .1) (d .pre .0) (d .pre .1 .0) in
+    let o = no-heads (d .args .heads .now) buckets (f .fill-words .ensures) (sized (c .before)) (lit≤ tt) (d .pre .1 .1)
+    (d .pre .0) (d .pre .1 .0) in
     (omega arith, record { chained = o; relinked = relinked-none (d .args .n) (d .args .map .now); heads-size = refl })
 
 link-peb-requires : tie.Need-link-peb-requires Inv-loop μ-loop

@@ -19,7 +19,11 @@ returns-2 c =
     let e = l .before .before in
     let v = e .before in
     let p = v .before .before .before .before .pre in
-    rw (c .before .before .set-peb .ensures, b .bucket .ensures, ap₂ bucketOf (v .volume-word .ensures) (l .lnum-word .ensures))
+    rw (
+      c .before .before .set-peb .ensures,
+      b .bucket .ensures,
+      ap₂ bucketOf (v .volume-word .ensures) (l .lnum-word .ensures),
+    )
     (chain-copy (p .0) (p .1) (λ z. e .if1 .left (v .volume-word .ensures ∙ z)))
 
 pub link-peb-spec : {M : Type 1} → statement M

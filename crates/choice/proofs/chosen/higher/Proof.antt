@@ -21,19 +21,23 @@ header-field-requires c κs =
 
 returns-2 : tie.Need-returns-2
 returns-2 c =
+    let e = c .before .before in
+    let s = e .before .same-leb in
     rw (
-      ← (c .before .before .before .same-leb .ensures),
-      not-false (c .before .before .before .same-leb .result) (c .before .before .if1 .left),
+      ← (s .ensures),
+      not-false (s .result) (e .if1 .left),
       ← (c .before .header-field .ensures),
       lt-leb _ _ (c .if2 .taken),
     )
 
 returns-3 : tie.Need-returns-3
 returns-3 c =
+    let h = c .before .before in
+    let s = h .before .before .same-leb in
     rw (
-      ← (c .before .before .before .before .same-leb .ensures),
-      not-false (c .before .before .before .before .same-leb .result) (c .before .before .before .if1 .left),
-      ← (c .before .before .header-field .ensures),
+      ← (s .ensures),
+      not-false (s .result) (h .before .if1 .left),
+      ← (h .header-field .ensures),
       le-leb _ _ (c .before .if2 .left),
       eq-eqb _ _ (c .if3 .taken),
     )
@@ -46,24 +50,30 @@ header-field-requires-2 c κs =
 
 returns-4 : tie.Need-returns-4
 returns-4 c =
+    let e = c .before .before in
+    let h = e .before .before in
+    let s = h .before .before .same-leb in
     rw (
-      ← (c .before .before .before .before .before .before .same-leb .ensures),
-      not-false (c .before .before .before .before .before .before .same-leb .result) (c .before .before .before .before .before .if1 .left),
-      ← (c .before .before .before .before .header-field .ensures),
-      le-leb _ _ (c .before .before .before .if2 .left),
-      ne-eqb _ _ (c .before .before .if3 .left),
+      ← (s .ensures),
+      not-false (s .result) (h .before .if1 .left),
+      ← (h .header-field .ensures),
+      le-leb _ _ (e .before .if2 .left),
+      ne-eqb _ _ (e .if3 .left),
       ← (c .before .header-field2 .ensures),
-      lt-ltb (c .before .header-field2 .result) (c .before .before .before .before .header-field .result) (c .if4 .taken),
+      lt-ltb (c .before .header-field2 .result) (h .header-field .result) (c .if4 .taken),
     )
 
 returns-5 : tie.Need-returns-5
 returns-5 c =
+    let e = c .before .before in
+    let h = e .before .before in
+    let s = h .before .before .same-leb in
     rw (
-      ← (c .before .before .before .before .before .before .same-leb .ensures),
-      not-false (c .before .before .before .before .before .before .same-leb .result) (c .before .before .before .before .before .if1 .left),
-      ← (c .before .before .before .before .header-field .ensures),
-      le-leb _ _ (c .before .before .before .if2 .left),
-      ne-eqb _ _ (c .before .before .if3 .left),
+      ← (s .ensures),
+      not-false (s .result) (h .before .if1 .left),
+      ← (h .header-field .ensures),
+      le-leb _ _ (e .before .if2 .left),
+      ne-eqb _ _ (e .if3 .left),
       ← (c .before .header-field2 .ensures),
       le-ltb _ _ (c .if4 .left),
     )

@@ -1,4 +1,4 @@
--- `choice::chosen::highest_up_to` meets its contract: `best` is the highest of the PEBs from `above` on. Assumes nothing.
+-- `choice::chosen::highest_up_to` meets its contract: `best` is the highest from `above` on. Assumes nothing.
 use native.Mathlib.Omega.{arith}
 use borrow.Author.Needs.{needs}
 use Rattle.choice.specs.Keyed.{Highest}
@@ -8,7 +8,8 @@ use Rattle.choice.proofs.chosen.highest_up_to.Statement.{statement}
 use Rattle.choice.proofs.chosen.highest_up_to.Tie as tie
 
 abbrev Inv-loop : tie.InvT-loop
-Inv-loop image g n map i top most best₀ above₀ j₀ best above j = (Along map i n above j) × Highest g image n map i most above best
+Inv-loop image g n map i top most best₀ above₀ j₀ best above j =
+    (Along map i n above j) × Highest g image n map i most above best
 
 abbrev μ-loop : tie.MeasureT-loop
 μ-loop image g n map i top most best₀ above₀ j₀ best above j = above
@@ -37,7 +38,9 @@ loop-again c =
     )
 
 returns : tie.Need-returns Inv-loop μ-loop
-returns c = let i = c .before .loop .inv in highest-all (c .before .before .before .before .pre .0 .holds) (i .0) (i .1) (omega arith)
+returns c =
+    let i = c .before .loop .inv in
+    highest-all (c .before .before .before .before .pre .0 .holds) (i .0) (i .1) (omega arith)
 
 pub highest-up-to-spec : {M : Type 1} → statement M
 highest-up-to-spec =

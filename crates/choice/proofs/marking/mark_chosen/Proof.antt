@@ -1,5 +1,4 @@
--- `choice::marking::mark_chosen` meets its contract: the LEBs of the PEBs passed have their chosen copies marked. Assumes
--- nothing.
+-- `choice::marking::mark_chosen` meets its contract: the LEBs of the PEBs passed are marked. Assumes nothing.
 use mathlib.Core.Path.{_≡_, refl, _∙_}
 use Prim.Native.Nat.{_≤_, _-_}
 use native.Mathlib.Omega.{arith}

@@ -6,7 +6,13 @@ use Rattle.choice.proofs.repeat.same_leb.Statement.{statement}
 use Rattle.choice.proofs.repeat.same_leb.Tie as tie
 
 returns : tie.Need-returns
-returns c = rw (← (c .before .before .lnum-word .ensures), ← (c .before .lnum-word2 .ensures), ne-eqb _ _ (c .if1 .taken), and-false)
+returns c =
+    rw (
+      ← (c .before .before .lnum-word .ensures),
+      ← (c .before .lnum-word2 .ensures),
+      ne-eqb _ _ (c .if1 .taken),
+      and-false,
+    )
 
 returns-2 : tie.Need-returns-2
 returns-2 c =

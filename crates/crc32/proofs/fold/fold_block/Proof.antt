@@ -11,7 +11,9 @@ use Rattle.crc32.proofs.fold.fold_block.Statement.{statement}
 use Rattle.crc32.proofs.fold.fold_block.Tie as tie
 
 abbrev Inv-loop : tie.InvT-loop
-Inv-loop kept₀ bytes n j₀ kept j = (j ≤ n) × ((j % 4 ≡ 0) × ((length kept ≡ 649) × (crcFrom (pending exponents (part j 137 kept)) (drop (4 * j) bytes) ≡ crcFrom (pending exponents (part 0 137 kept₀)) bytes)))
+Inv-loop kept₀ bytes n j₀ kept j =
+    (j ≤ n) × ((j % 4 ≡ 0) × ((length kept ≡ 649) × (crcFrom (pending exponents (part j 137 kept))
+    (drop (4 * j) bytes) ≡ crcFrom (pending exponents (part 0 137 kept₀)) bytes)))
 
 abbrev μ-loop : tie.MeasureT-loop
 μ-loop kept₀ bytes n j₀ kept j = n - j

@@ -14,7 +14,8 @@ returns c =
     let a = s .before .args in
     let pre = s .before .pre in (
       simp length-set (pre .0),
-      fold-turn (a .kept .now) (a .bytes .now) (a .j) (k1 .sum-at .result) (k2 .sum-at2 .result) (k3 .sum-at3 .result) (c .sum-at4 .result) (λ k. s .shared-slice-known .given k .fits) (pre .0) (pre .1 .0) (pre .1 .1)
+      fold-turn (a .kept .now) (a .bytes .now) (a .j) (k1 .sum-at .result) (k2 .sum-at2 .result) (k3 .sum-at3 .result)
+          (c .sum-at4 .result) (λ k. s .shared-slice-known .given k .fits) (pre .0) (pre .1 .0) (pre .1 .1)
           (k1 .sum-at .ensures) (k2 .sum-at2 .ensures) (k3 .sum-at3 .ensures) (c .sum-at4 .ensures),
     )
 

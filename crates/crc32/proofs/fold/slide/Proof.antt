@@ -10,7 +10,8 @@ use Rattle.crc32.proofs.fold.slide.Statement.{statement}
 use Rattle.crc32.proofs.fold.slide.Tie as tie
 
 abbrev Inv-loop : tie.InvT-loop
-Inv-loop kept₀ n j₀ kept j = (j ≤ 137) × ((length kept ≡ 649) × ((take j kept ≡ part n j kept₀) × (drop j kept ≡ drop j kept₀)))
+Inv-loop kept₀ n j₀ kept j =
+    (j ≤ 137) × ((length kept ≡ 649) × ((take j kept ≡ part n j kept₀) × (drop j kept ≡ drop j kept₀)))
 
 abbrev μ-loop : tie.MeasureT-loop
 μ-loop kept₀ n j₀ kept j = 137 - j

@@ -19,9 +19,8 @@ abbrev μ-loop : tie.MeasureT-loop
 
 loop-again : tie.Need-loop-again Inv-loop μ-loop
 loop-again c =
-    let l = c .before .before .before .before .loop in
-    let s = c .before .before .before .before .before .before .args .bytes .now in
-    let b = c .before .before .byte-at in
+    let at-loop = c .before .before .before .before in let start = at-loop .before .before in let l = at-loop .loop in
+    let s = start .args .bytes .now in let b = c .before .before .byte-at in
     let e = two-halves (l .c) (b .result) (c .before .nibble .result) (c .nibble2 .result) (c .before .nibble .ensures) (c .nibble2 .ensures) in
     (omega arith, rw (e, b .ensures .0) (crcFrom-step s (l .i) (l .c) (omega arith) ∙ l .inv .1))
 

@@ -18,8 +18,7 @@ abbrev μ-loop : tie.MeasureT-loop
 
 loop-again : tie.Need-loop-again Inv-loop μ-loop
 loop-again c =
-    let l = c .before .before .before .loop in
-    let s = c .before .before .before .before in
+    let s = c .before .before .before .before in let l = c .before .before .before .loop in
     let e = crcFrom-part 4 (l .c) (l .i) (s .before .args .bytes .now) (λ k. s .shared-slice-known .given k .fits) (omega arith) in
     (omega arith, rw (c .four .ensures, c .before .read-four .ensures) (e ∙ l .inv .1))
 

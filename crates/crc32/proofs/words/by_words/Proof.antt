@@ -18,8 +18,7 @@ abbrev μ-loop : tie.MeasureT-loop
 
 loop-again : tie.Need-loop-again Inv-loop μ-loop
 loop-again c =
-    let l = c .before .before .before .before .before .loop in
-    let s = c .before .before .before .before .before .before in
+    let at-loop = c .before .before .before .before .before in let s = at-loop .before in let l = at-loop .loop in
     let e = crcFrom-three (l .c) (l .i) (s .before .args .bytes .now) (λ k. s .shared-slice-known .given k .fits) (omega arith) in
     (omega arith, rw (c .three .ensures, c .before .before .before .read-four .ensures, c .before .before .read-four2 .ensures, c .before .read-four3 .ensures) (e ∙ l .inv .1))
 

@@ -9,4 +9,6 @@ returns : tie.Need-returns
 returns c = (refl, omega (arith, c .shared-slice-known .given (c .before .args .i)))
 
 pub byte-at-spec : {M : Type 1} → statement M
-byte-at-spec = tie.close (tie.spec (λ c. search needs) (λ c. omega (arith, c .shared-slice-known .given (c .before .args .i))) returns)
+byte-at-spec =
+    tie.close (tie.spec (λ c. search needs) (λ c. omega (arith, c .shared-slice-known .given (c .before .args .i)))
+    returns)

@@ -12,7 +12,8 @@ use Rattle.crc32.proofs.words.four.Statement.{statement}
 use Rattle.crc32.proofs.words.four.Tie as tie
 
 abbrev Inv-loop : tie.InvT-loop
-Inv-loop t row z c₀ rest₀ k₀ c rest k = (k ≤ 8) × ((rest < 2 ^ (4 * k)) × (bitXor c (crcBits (4 * (row + k)) rest) ≡ crcBits (4 * (row + 8)) z))
+Inv-loop t row z c₀ rest₀ k₀ c rest k =
+    (k ≤ 8) × ((rest < 2 ^ (4 * k)) × (bitXor c (crcBits (4 * (row + k)) rest) ≡ crcBits (4 * (row + 8)) z))
 
 abbrev μ-loop : tie.MeasureT-loop
 μ-loop t row z c₀ rest₀ k₀ c rest k = k

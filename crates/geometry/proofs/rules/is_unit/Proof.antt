@@ -23,7 +23,8 @@ returns : tie.Need-returns Inv-loop μ-loop
 returns c = sym (power-found (c .before .before .before .args .n) (c .before .before .loop .k) (omega arith) (cc))
 
 mul-power : tie.Need-mul-power Inv-loop μ-loop
-mul-power c = record { fits = omega (arith, pow-le-pow-right {n = 2} (lit< tt) {i = c .before .before .loop .k} {j = 12} (omega arith)) }
+mul-power c =
+    record { fits = omega (arith, pow-le-pow-right {n = 2} (lit< tt) {i = c .before .before .loop .k} {j = 12} (omega arith)) }
 
 loop-again : tie.Need-loop-again Inv-loop μ-loop
 loop-again c =
@@ -41,4 +42,5 @@ returns-2 c =
 pub is-unit-spec : {M : Type 1} → statement M
 is-unit-spec =
     tie.close
-    (tie.spec Inv-loop μ-loop (λ c. search needs) returns mul-power (λ c. search needs) (λ c. search needs) loop-again returns-2)
+    (tie.spec Inv-loop μ-loop (λ c. search needs) returns mul-power (λ c. search needs) (λ c. search needs) loop-again
+    returns-2)

@@ -14,12 +14,15 @@ returns c = no-head (c .before .before .args .slip .now) 0 (lt-leb _ _ (c .if1 .
 
 returns-2 : tie.Need-returns-2
 unfolding headRules hasField toBeOn
-returns-2 c = no-head (c .before .before .before .before .before .before .args .slip .now) 1 (was-false (c .before .same .ensures) (c .if2 .taken))
+returns-2 c =
+    let start = c .before .before .before .before .before .before in
+    no-head (start .args .slip .now) 1 (was-false (c .before .same .ensures) (c .if2 .taken))
 
 returns-3 : tie.Need-returns-3
 unfolding headRules hasField toBeOn
 returns-3 c =
-    no-head (c .before .before .before .before .before .before .before .before .before .before .args .slip .now) 2 (was-false (c .before .same2 .ensures) (c .if3 .taken))
+    let start = c .before .before .before .before .before .before .before .before .before .before in
+    no-head (start .args .slip .now) 2 (was-false (c .before .same2 .ensures) (c .if3 .taken))
 
 returns-4 : tie.Need-returns-4
 unfolding hasField toBeOn

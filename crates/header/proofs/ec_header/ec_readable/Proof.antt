@@ -12,7 +12,9 @@ returns c = sym (not-version-one _ (c .before .before .args .h .version) (c .if1
 
 returns-2 : tie.Need-returns-2
 unfolding judgeEc ecRules
-returns-2 c = rw (version-one _ (c .before .before .before .args .h .version) (c .before .if1 .left)) (sym (good-if _ _ ∙ and-true _))
+returns-2 c =
+    rw (version-one _ (c .before .before .before .args .h .version) (c .before .if1 .left))
+    (sym (good-if _ _ ∙ and-true _))
 
 pub ec-readable-spec : {M : Type 1} → statement M
 ec-readable-spec = tie.close (tie.spec returns returns-2)

@@ -17,17 +17,19 @@ returns c = (rw (lt-ltb _ _ (c .if1 .taken)), rw (lt-ltb _ _ (c .if1 .taken)))
 returns-2 : tie.Need-returns-2
 unfolding ecWritten ecOut
 returns-2 c =
-    let s : 64 ≤ length (c .before .before .before .before .args .out .now) = omega arith in
+    let start = c .before .before .before .before in let s : 64 ≤ length (start .args .out .now) = omega arith in
     let g = not-true (c .before .ec-readable .result) (c .if2 .taken) in
     (rw (le-ltb _ _ s, ← (c .before .ec-readable .ensures), g), rw (le-ltb _ _ s, ← (c .before .ec-readable .ensures), g))
 
 returns-3 : tie.Need-returns-3
 unfolding ecWritten
 returns-3 c =
-    let a = c .before .before .before .before .before .before .before .before .before .before .before .before .before .before .before .before .before .args in
+    let at-set-ec-fields = c .before .before .before .before .before .before in
+    let at-begin = at-set-ec-fields .before .before .before .before in let at-if2 = at-begin .before .before .before in
+    let at-ec-readable = at-if2 .before in let a = at-ec-readable .before .before .before .args in
     let s : 64 ≤ length (a .out .now) = omega arith in
-    let g = sym (c .before .before .before .before .before .before .before .before .before .before .before .before .before .before .ec-readable .ensures) ∙ not-false (c .before .before .before .before .before .before .before .before .before .before .before .before .before .before .ec-readable .result) (c .before .before .before .before .before .before .before .before .before .before .before .before .before .if2 .left) in
-    (rw (le-ltb _ _ s, g), ec-wrote (a .out .now) s (a .h) g (c .before .before .before .before .before .before .before .before .before .before .begin .ensures) (c .before .before .before .before .before .before .set-ec-fields .ensures) (c .before .before .finish .ensures))
+    let g = sym (at-ec-readable .ec-readable .ensures) ∙ not-false (at-ec-readable .ec-readable .result) (at-if2 .if2 .left) in
+    (rw (le-ltb _ _ s, g), ec-wrote (a .out .now) s (a .h) g (at-begin .begin .ensures) (at-set-ec-fields .set-ec-fields .ensures) (c .before .before .finish .ensures))
 
 pub write-ec-spec : {M : Type 1} → statement M
 write-ec-spec =

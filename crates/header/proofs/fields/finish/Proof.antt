@@ -1,11 +1,11 @@
 -- `header::fields::finish` meets its contract. Assumes nothing.
 use borrow.Author.Needs.{needs}
-use Rattle.header.specs.Stores.{withSum}
+use Rattle.header.specs.Stores.{crcStored}
 use Rattle.header.proofs.fields.finish.Statement.{statement}
 use Rattle.header.proofs.fields.finish.Tie as tie
 
 returns : tie.Need-returns
-unfolding withSum
+unfolding crcStored
 returns c = cc
 
 pub finish-spec : {M : Type 1} → statement M

@@ -10,7 +10,9 @@ returns c = rw (← (c .before .same .ensures), not-true (c .before .same .resul
 
 returns-2 : tie.Need-returns-2
 unfolding crcMatches
-returns-2 c = rw (← (c .before .before .before .before .same .ensures), not-false (c .before .before .before .before .same .result) (c .before .before .before .if1 .left), c .before .crc32 .ensures, c .get .ensures .0)
+returns-2 c =
+    let at-same = c .before .before .before .before in
+    rw (← (at-same .same .ensures), not-false (at-same .same .result) (c .before .before .before .if1 .left), c .before .crc32 .ensures, c .get .ensures .0)
 
 pub is-header-spec : {M : Type 1} → statement M
 is-header-spec =

@@ -12,7 +12,9 @@ returns c = sym (not-version-one _ (c .before .before .args .h .version) (c .if1
 
 returns-2 : tie.Need-returns-2
 unfolding judgeVid
-returns-2 c = c .rules-hold .ensures ∙ rw (version-one _ (c .before .before .before .args .h .version) (c .before .if1 .left)) (sym (good-if _ _))
+returns-2 c =
+    c .rules-hold .ensures
+    ∙ rw (version-one _ (c .before .before .before .args .h .version) (c .before .if1 .left)) (sym (good-if _ _))
 
 pub vid-readable-spec : {M : Type 1} → statement M
 vid-readable-spec = tie.close (tie.spec returns (λ c κs. search needs) returns-2)

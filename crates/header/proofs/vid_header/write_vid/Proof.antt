@@ -17,17 +17,21 @@ returns c = (rw (lt-ltb _ _ (c .if1 .taken)), rw (lt-ltb _ _ (c .if1 .taken)))
 returns-2 : tie.Need-returns-2
 unfolding vidWritten vidOut
 returns-2 c =
-    let s : 64 ≤ length (c .before .before .before .before .args .out .now) = omega arith in
+    let start = c .before .before .before .before in let s : 64 ≤ length (start .args .out .now) = omega arith in
     let g = not-true (c .before .vid-readable .result) (c .if2 .taken) in
     (rw (le-ltb _ _ s, ← (c .before .vid-readable .ensures), g), rw (le-ltb _ _ s, ← (c .before .vid-readable .ensures), g))
 
 returns-3 : tie.Need-returns-3
 unfolding vidWritten
 returns-3 c =
-    let a = c .before .before .before .before .before .before .before .before .before .before .before .before .before .before .before .before .before .before .before .before .before .before .before .before .before .args in
+    let at-set-data = c .before .before .before .before .before .before in
+    let at-set-volume = at-set-data .before .before .before .before in
+    let at-set-kind = at-set-volume .before .before .before .before in
+    let at-begin = at-set-kind .before .before .before .before in let at-if2 = at-begin .before .before .before in
+    let at-vid-readable = at-if2 .before in let a = at-vid-readable .before .before .before .args in
     let s : 64 ≤ length (a .out .now) = omega arith in
-    let g = sym (c .before .before .before .before .before .before .before .before .before .before .before .before .before .before .before .before .before .before .before .before .before .before .vid-readable .ensures) ∙ not-false (c .before .before .before .before .before .before .before .before .before .before .before .before .before .before .before .before .before .before .before .before .before .before .vid-readable .result) (c .before .before .before .before .before .before .before .before .before .before .before .before .before .before .before .before .before .before .before .before .before .if2 .left) in
-    (rw (le-ltb _ _ s, g), vid-wrote (a .out .now) s (a .leb-size) (a .h) g (c .before .before .before .before .before .before .before .before .before .before .before .before .before .before .before .before .before .before .begin .ensures) (c .before .before .before .before .before .before .before .before .before .before .before .before .before .before .set-kind .ensures) (c .before .before .before .before .before .before .before .before .before .before .set-place .ensures) (c .before .before .before .before .before .before .set-data .ensures) (c .before .before .finish .ensures))
+    let g = sym (at-vid-readable .vid-readable .ensures) ∙ not-false (at-vid-readable .vid-readable .result) (at-if2 .if2 .left) in
+    (rw (le-ltb _ _ s, g), vid-wrote (a .out .now) s (a .leb-size) (a .h) g (at-begin .begin .ensures) (at-set-kind .set-kind .ensures) (at-set-volume .set-volume .ensures) (at-set-data .set-data .ensures) (c .before .before .finish .ensures))
 
 pub write-vid-spec : {M : Type 1} → statement M
 write-vid-spec =

@@ -23,11 +23,16 @@ returns-2 c = rw (le-ltb _ _ (c .before .before .if1 .left), lt-leb _ _ (c .if2 
 
 returns-3 : tie.Need-returns-3
 unfolding volumeRule
-returns-3 c = rw (le-ltb _ _ (c .before .before .before .before .if1 .left), le-leb _ _ (c .before .before .if2 .left), lt-leb _ _ (c .if3 .taken))
+returns-3 c =
+    let at-if1 = c .before .before .before .before in
+    rw (le-ltb _ _ (at-if1 .if1 .left), le-leb _ _ (c .before .before .if2 .left), lt-leb _ _ (c .if3 .taken))
 
 returns-4 : tie.Need-returns-4
 unfolding volumeRule
-returns-4 c = c .is-internal .ensures ∙ rw (le-ltb _ _ (c .before .before .before .before .before .if1 .left), le-leb _ _ (c .before .before .before .if2 .left), le-leb _ _ (c .before .if3 .left))
+returns-4 c =
+    let at-if1 = c .before .before .before .before .before in
+    c .is-internal .ensures
+    ∙ rw (le-ltb _ _ (at-if1 .if1 .left), le-leb _ _ (c .before .before .before .if2 .left), le-leb _ _ (c .before .if3 .left))
 
 pub volume-rule-spec : {M : Type 1} → statement M
 volume-rule-spec = tie.close (tie.spec returns returns-2 returns-3 (λ c κs. search needs) returns-4)

@@ -11,9 +11,6 @@ use Rattle.plan.proofs.Steps.{mover-lawful}
 use mathlib.Core.Logic.{inl, inr}
 use Rattle.mover_steps.proofs.step_finish.finish.Statement.{statement}
 use Rattle.mover_steps.proofs.step_finish.finish.Tie as tie
-use Rattle.mover_steps.proofs.step_finish.finish.Reads as reads
-use Rattle.mover_steps.proofs.step_finish.finish.Lts as lts
-use Rattle.mover_steps.proofs.steps.step.Reads as step-reads
 
 abbrev Inv-loop : tie.InvT-loop
 Inv-loop image₀ p₀ image p = (length image ≡ length image₀) × (finishing moverJob p image ≡ finishing moverJob p₀ image₀)
@@ -23,12 +20,6 @@ abbrev μ-loop : tie.MeasureT-loop
 
 loop-holds : tie.Need-loop-holds Inv-loop μ-loop
 loop-holds c = (refl, refl)
-
-step-requires : tie.Need-step-requires Inv-loop μ-loop
-step-requires c κs = search needs
-
-enum-known-s : tie.Need-enum-known-s Inv-loop μ-loop
-enum-known-s c = search needs
 
 loop-less : tie.Need-loop-less Inv-loop μ-loop
 loop-less c =
@@ -47,24 +38,12 @@ loop-again c =
           ∙ l .inv .1,
     )
 
-enum-told : tie.Need-enum-told Inv-loop μ-loop
-enum-told c = search needs
-
-same-length : tie.Need-same-length Inv-loop μ-loop
-same-length c = search needs
-
 returns : tie.Need-returns Inv-loop μ-loop
 returns c =
     let s = c .before .before .before .before in
     let l = s .before .before .loop in
     finish-last moverJob mover-lawful (l .p) (l .image) (sym (ap steppedAnswer (c .enum-told .given .1)) ∙ s .step .ensures .0)
     (s .step .ensures .1) (inl refl) (l .inv .1)
-
-enum-told-2 : tie.Need-enum-told-2 Inv-loop μ-loop
-enum-told-2 c = search needs
-
-same-length-2 : tie.Need-same-length-2 Inv-loop μ-loop
-same-length-2 c = search needs
 
 returns-2 : tie.Need-returns-2 Inv-loop μ-loop
 returns-2 c =
@@ -80,13 +59,13 @@ finish-spec =
     Inv-loop
     μ-loop
     loop-holds
-    step-requires
-    enum-known-s
+    (λ c κs. search needs)
+    (λ c. search needs)
     loop-less
     loop-again
-    enum-told
-    same-length
+    (λ c. search needs)
+    (λ c. search needs)
     returns
-    enum-told-2
-    same-length-2
+    (λ c. search needs)
+    (λ c. search needs)
     returns-2)

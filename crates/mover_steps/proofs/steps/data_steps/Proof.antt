@@ -5,21 +5,10 @@ use Rattle.plan.specs.Write.{dataSteps}
 use Rattle.mover_steps.proofs.Rules.{steps-most}
 use Rattle.mover_steps.proofs.steps.data_steps.Statement.{statement}
 use Rattle.mover_steps.proofs.steps.data_steps.Tie as tie
-use Rattle.mover_steps.proofs.steps.data_steps.Reads as reads
-use Rattle.mover_steps.proofs.steps.data_steps.Lts as lts
-
-sub-result : tie.Need-sub-result
-sub-result c = search needs
-
-add-result : tie.Need-add-result
-add-result c = search needs
-
-div-result : tie.Need-div-result
-div-result c = search needs
 
 returns : tie.Need-returns
 unfolding dataSteps
 returns c = let a = c .before .before .before .args in (refl, steps-most (a .plan .vid .«data_size») (a .plan .unit) (c .before .before .before .pre .0) (c .before .before .before .pre .1 .0))
 
 pub data-steps-spec : {M : Type 1} → statement M
-data-steps-spec = tie.close (tie.spec sub-result add-result div-result returns)
+data-steps-spec = tie.close (tie.spec (λ c. search needs) (λ c. search needs) (λ c. search needs) returns)

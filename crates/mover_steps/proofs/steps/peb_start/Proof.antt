@@ -5,17 +5,9 @@ use borrow.Author.Needs.{needs}
 use native.Mathlib.Nat.{mul-le-mul}
 use Rattle.mover_steps.proofs.steps.peb_start.Statement.{statement}
 use Rattle.mover_steps.proofs.steps.peb_start.Tie as tie
-use Rattle.mover_steps.proofs.steps.peb_start.Reads as reads
-use Rattle.mover_steps.proofs.steps.peb_start.Lts as lts
-
-cast-result : tie.Need-cast-result
-cast-result c = search needs
 
 mul-result : tie.Need-mul-result
 mul-result c = let a = c .before .args in let z : a .i * a .g .«peb_size» ≤ 4096 * 262144 = mul-le-mul {n₂ = 4096} {m₂ = 262144} (omega arith) (omega arith) in omega arith
 
-returns : tie.Need-returns
-returns c = search needs
-
 pub peb-start-spec : {M : Type 1} → statement M
-peb-start-spec = tie.close (tie.spec cast-result mul-result returns)
+peb-start-spec = tie.close (tie.spec (λ c. search needs) mul-result (λ c. search needs))

@@ -1,68 +1,66 @@
 -- `mover_steps::steps::step_measured` meets its contract. Assumes nothing.
-use mathlib.Core.Path.{sym, _∙_}
+use mathlib.Core.Path.{_≡_}
+use mathlib.Core.Bool.{true}
 use borrow.Author.Needs.{needs}
-use borrow.Author.Tests.{not-true, not-false}
+use Rattle.base.proofs.Answers.{was-false, was-true}
 use Rattle.plan.specs.Write.{stepCount}
-use Rattle.plan.specs.Step.{oneOn}
+use Rattle.plan.specs.Step.{runnable, oneOn}
+use Rattle.plan.specs.Running.{Running}
 use Rattle.plan.proofs.Rules.{running}
 use Rattle.mover_steps.proofs.Rules.{data-bounds}
 use Rattle.mover_steps.proofs.Whole.{step-refused, step-done, step-on}
 use Rattle.mover_steps.proofs.steps.step_measured.Statement.{statement}
 use Rattle.mover_steps.proofs.steps.step_measured.Tie as tie
-use Rattle.mover_steps.proofs.steps.step_measured.Reads as reads
-use Rattle.mover_steps.proofs.steps.step_measured.Lts as lts
-use Rattle.mover_steps.proofs.steps.data_steps.Reads as data-steps-reads
-use Rattle.mover_steps.proofs.steps.may_run.Reads as may-run-reads
-use Rattle.mover_steps.proofs.steps.write_next.Reads as write-next-reads
-
-may-run-requires : tie.Need-may-run-requires
-may-run-requires c κs = search needs
-
-same-length : tie.Need-same-length
-same-length c = search needs
 
 returns : tie.Need-returns
-returns c = let a = c .before .before .before .before .args in step-refused (a .plan) (a .image .now) (sym (c .before .may-run .ensures) ∙ not-true _ (c .if1 .taken))
+returns c =
+    let s = c .before .before .before .before in
+    step-refused (s .args .plan) (s .args .image .now) (was-false (c .before .may-run .ensures) (c .if1 .taken))
+
+-- where 18 does not refuse
+may : (e : tie.Else1) → let a = e .before .before .before .before .args in runnable (a .plan) (a .image .now) ≡ true
+may e = was-true (e .before .may-run .ensures) (e .if1 .left)
+
+runs : (e : tie.Else1) → let a = e .before .before .before .before .args in Running (a .g) (a .plan) (a .image .now)
+runs e = let s = e .before .before .before .before in running (s .args .g) (s .args .plan) (s .pre) (s .args .image .now) (may e)
 
 data-steps-requires : tie.Need-data-steps-requires
-data-steps-requires c κs = let a = c .before .before .before .before .args in data-bounds (running (a .g) (a .plan) (c .before .before .before .before .pre) (a .image .now) (sym (c .before .may-run .ensures) ∙ not-false _ (c .if1 .left)))
-
-add-if2 : tie.Need-add-if2
-add-if2 c = search needs
-
-same-length-2 : tie.Need-same-length-2
-same-length-2 c = search needs
+data-steps-requires c κs = data-bounds (runs c)
 
 returns-2 : tie.Need-returns-2
 unfolding stepCount
-returns-2 c = let a = c .before .before .before .before .before .before .before .args in step-done (a .plan) (a .image .now) (sym (c .before .before .before .before .may-run .ensures) ∙ not-false _ (c .before .before .before .if1 .left)) (rw (← (c .before .before .data-steps .ensures .0)) (c .if2 .taken))
+returns-2 c =
+    let d = c .before .before in
+    let a = d .before .before .before .before .before .args in
+    step-done (a .plan) (a .image .now) (may (d .before)) (rw (← (d .data-steps .ensures .0)) (c .if2 .taken))
 
 write-next-requires : tie.Need-write-next-requires
 unfolding stepCount
-write-next-requires c κs = let a = c .before .before .before .before .before .before .before .before .args in (running (a .g) (a .plan) (c .before .before .before .before .before .before .before .before .pre) (a .image .now) (sym (c .before .before .before .before .before .may-run .ensures) ∙ not-false _ (c .before .before .before .before .if1 .left)), rw (← (c .before .before .before .data-steps .ensures .0)) (c .before .if2 .left))
-
-add-next : tie.Need-add-next
-add-next c = search needs
-
-same-length-3 : tie.Need-same-length-3
-same-length-3 c = search needs
+write-next-requires c κs =
+    let d = c .before .before .before in
+    (runs (d .before), rw (← (d .data-steps .ensures .0)) (c .before .if2 .left))
 
 returns-3 : tie.Need-returns-3
 unfolding stepCount oneOn
-returns-3 c = let a = c .before .before .before .before .before .before .before .before .before .before .before .before .args in step-on (a .plan) (a .image .now) (sym (c .before .before .before .before .before .before .before .before .before .may-run .ensures) ∙ not-false _ (c .before .before .before .before .before .before .before .before .if1 .left)) (rw (← (c .before .before .before .before .before .before .before .data-steps .ensures .0)) (c .before .before .before .before .before .if2 .left)) (c .before .before .before .write-next .ensures)
+returns-3 c =
+    let w = c .before .before .before in
+    let e = w .before .before in
+    let d = e .before .before in
+    let a = d .before .before .before .before .before .args in
+    step-on (a .plan) (a .image .now) (may (d .before)) (rw (← (d .data-steps .ensures .0)) (e .if2 .left)) (w .write-next .ensures)
 
 pub step-measured-spec : {M : Type 1} → statement M
 step-measured-spec =
     tie.close
     (tie.spec
-    may-run-requires
-    same-length
+    (λ c κs. search needs)
+    (λ c. search needs)
     returns
     data-steps-requires
-    add-if2
-    same-length-2
+    (λ c. search needs)
+    (λ c. search needs)
     returns-2
     write-next-requires
-    add-next
-    same-length-3
+    (λ c. search needs)
+    (λ c. search needs)
     returns-3)

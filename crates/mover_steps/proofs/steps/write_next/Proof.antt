@@ -3,92 +3,66 @@ use borrow.Author.Needs.{needs}
 use Rattle.mover_steps.proofs.Whole.{left-vid, left-unit, left-erase, left-ec}
 use Rattle.mover_steps.proofs.steps.write_next.Statement.{statement}
 use Rattle.mover_steps.proofs.steps.write_next.Tie as tie
-use Rattle.mover_steps.proofs.steps.write_next.Reads as reads
-use Rattle.mover_steps.proofs.steps.write_next.Lts as lts
-use Rattle.flash_writes.proofs.erase.Reads as erase-reads
-use Rattle.flash_writes.proofs.store_ec.Reads as store-ec-reads
-use Rattle.flash_writes.proofs.store_vid.Reads as store-vid-reads
-use Rattle.mover_steps.proofs.steps.data_steps.Reads as data-steps-reads
-use Rattle.mover_steps.proofs.steps.peb_start.Reads as peb-start-reads
-use Rattle.mover_steps.proofs.steps.store_unit.Reads as store-unit-reads
-
-peb-start-requires : tie.Need-peb-start-requires
-peb-start-requires c κs = search needs
-
-cast-at : tie.Need-cast-at
-cast-at c = search needs
-
-add-at : tie.Need-add-at
-add-at c = search needs
-
-store-vid-requires : tie.Need-store-vid-requires
-store-vid-requires c κs = search needs
-
-same-length : tie.Need-same-length
-same-length c = search needs
 
 returns : tie.Need-returns
-returns c = let s = c .before .before .before .before .before .before .before .before .before in let a = s .args in left-vid (a .g) (a .plan) (s .pre .0 .measured .is) (a .image .now) (c .before .before .before .before .before .before .if1 .taken) (c .before .before .before .before .before .peb-start .ensures) (c .before .before .store-vid .ensures)
-
-sub-j : tie.Need-sub-j
-sub-j c = search needs
-
-data-steps-requires : tie.Need-data-steps-requires
-data-steps-requires c κs = search needs
-
-store-unit-requires : tie.Need-store-unit-requires
-store-unit-requires c κs = search needs
-
-same-length-2 : tie.Need-same-length-2
-same-length-2 c = search needs
+returns c =
+    let v = c .before .before in
+    let f = v .before .before .before in
+    let s = f .before .before .before .before in
+    left-vid (s .args .g) (s .args .plan) (s .pre .0 .measured .is) (s .args .image .now) (f .before .if1 .taken) (f .peb-start .ensures)
+    (v .store-vid .ensures)
 
 returns-2 : tie.Need-returns-2
-returns-2 c = let s = c .before .before .before .before .before .before .before .before .before .before in let a = s .args in left-unit (a .g) (a .plan) (s .pre .0 .measured .is) (a .image .now) (c .before .before .before .before .before .before .before .if1 .left) (c .before .before .before .before .before .data-steps .ensures .0) (c .before .before .before .before .if2 .taken) (c .before .before .store-unit .ensures)
-
-peb-start-requires-2 : tie.Need-peb-start-requires-2
-peb-start-requires-2 c κs = search needs
-
-cast-erase : tie.Need-cast-erase
-cast-erase c = search needs
-
-erase-requires : tie.Need-erase-requires
-erase-requires c κs = search needs
-
-same-length-3 : tie.Need-same-length-3
-same-length-3 c = search needs
+returns-2 c =
+    let u = c .before .before in
+    let d = u .before .before .before in
+    let e = d .before .before in
+    let s = e .before .before .before in
+    left-unit (s .args .g) (s .args .plan) (s .pre .0 .measured .is) (s .args .image .now) (e .if1 .left) (d .data-steps .ensures .0)
+    (u .before .before .if2 .taken) (u .store-unit .ensures)
 
 returns-3 : tie.Need-returns-3
-returns-3 c = let s = c .before .before .before .before .before .before .before .before .before .before .before .before .before in let a = s .args in left-erase (a .g) (a .plan) (s .pre .0 .measured .is) (a .image .now) (c .before .before .before .before .before .before .before .before .before .before .if1 .left) (c .before .before .before .before .before .before .before .before .data-steps .ensures .0) (c .before .before .before .before .before .if3 .taken) (c .before .before .before .before .before .before .peb-start2 .ensures) (c .before .before .erase .ensures)
-
-store-ec-requires : tie.Need-store-ec-requires
-store-ec-requires c κs = search needs
-
-same-length-4 : tie.Need-same-length-4
-same-length-4 c = search needs
+returns-3 c =
+    let r = c .before .before in
+    let f = r .before .before .before in
+    let o = f .before in
+    let d = o .before .before in
+    let e = d .before .before in
+    let s = e .before .before .before in
+    left-erase (s .args .g) (s .args .plan) (s .pre .0 .measured .is) (s .args .image .now) (e .if1 .left) (d .data-steps .ensures .0)
+    (f .if3 .taken) (o .peb-start2 .ensures) (r .erase .ensures)
 
 returns-4 : tie.Need-returns-4
-returns-4 c = let s = c .before .before .before .before .before .before .before .before .before .before .before .before in let a = s .args in left-ec (a .g) (a .plan) (s .pre .0 .measured .is) (a .image .now) (c .before .before .before .before .before .before .before .before .before .if1 .left) (c .before .before .before .before .before .before .before .data-steps .ensures .0) (c .before .before .before .before .before .before .if2 .left) (c .before .before .before .before .if3 .left) (c .before .before .before .before .before .before .before .before .before .before .before .before .pre .1) (c .before .before .before .before .before .peb-start2 .ensures) (c .before .before .store-ec .ensures)
+returns-4 c =
+    let r = c .before .before in
+    let f = r .before .before in
+    let o = f .before in
+    let d = o .before .before in
+    let e = d .before .before in
+    let s = e .before .before .before in
+    left-ec (s .args .g) (s .args .plan) (s .pre .0 .measured .is) (s .args .image .now) (e .if1 .left) (d .data-steps .ensures .0)
+    (o .before .if2 .left) (f .if3 .left) (s .pre .1) (o .peb-start2 .ensures) (r .store-ec .ensures)
 
 pub write-next-spec : {M : Type 1} → statement M
 write-next-spec =
     tie.close
     (tie.spec
-    peb-start-requires
-    cast-at
-    add-at
-    store-vid-requires
-    same-length
+    (λ c κs. search needs)
+    (λ c. search needs)
+    (λ c. search needs)
+    (λ c κs. search needs)
+    (λ c. search needs)
     returns
-    sub-j
-    data-steps-requires
-    store-unit-requires
-    same-length-2
+    (λ c. search needs)
+    (λ c κs. search needs)
+    (λ c κs. search needs)
+    (λ c. search needs)
     returns-2
-    peb-start-requires-2
-    cast-erase
-    erase-requires
-    same-length-3
+    (λ c κs. search needs)
+    (λ c. search needs)
+    (λ c κs. search needs)
+    (λ c. search needs)
     returns-3
-    store-ec-requires
-    same-length-4
+    (λ c κs. search needs)
+    (λ c. search needs)
     returns-4)

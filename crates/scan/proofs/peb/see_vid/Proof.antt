@@ -9,7 +9,8 @@ use Rattle.scan.proofs.peb.see_vid.Tie as tie
 
 -- what the reader answers gives the view
 from : (c : tie.After-read-vid) → let a = c .before .before .before .before .args in
-    vidFrom (a .g) (a .p .now) (allFF (vidPart (a .g) (a .p .now))) (c .read-vid .result) ≡ viewOf (a .g) (a .p .now) .vid
+    vidFrom (a .g) (a .p .now) (allFF (vidPart (a .g) (a .p .now))) (c .read-vid .result)
+    ≡ viewOf (a .g) (a .p .now) .vid
 unfolding viewOf
 from c =
     let b = c .before .before .before .before in

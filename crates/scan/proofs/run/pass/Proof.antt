@@ -29,7 +29,8 @@ loop-holds c =
 
 -- PEB i lies within the image
 small-place : (c : tie.In-loop Inv-loop μ-loop)
-    → let a = c .before .before .before .before .before .before .before .args in c .before .loop .i * a .g .«peb_size» ≤ mostPebs * 262144
+    → let a = c .before .before .before .before .before .before .before .args in
+    c .before .loop .i * a .g .«peb_size» ≤ mostPebs * 262144
 small-place c =
     let p = c .before .before .before .before .before .before .before .pre in
     mul-le-mul {n₁ = c .before .loop .i} {n₂ = mostPebs} (omega arith) (p .placed .peb-most)

@@ -1,7 +1,7 @@
 -- `scan::run::pass_peb` meets its contract. Assumes nothing.
 use borrow.Author.Needs.{needs}
 use Rattle.report.specs.View.{viewOf}
-use Rattle.scan.proofs.Turns.{small-view, EcPassed, VidPassed, ec-refused, vid-refused, peb-passed}
+use Rattle.scan.proofs.OnePeb.{small-view, EcPassed, VidPassed, ec-refused, vid-refused, peb-passed}
 use Rattle.scan.proofs.run.pass_peb.Statement.{statement}
 use Rattle.scan.proofs.run.pass_peb.Tie as tie
 

@@ -5,8 +5,7 @@ use Prim.Native.Nat.{ℕ, _≤_, _-_}
 use native.Mathlib.Omega.{arith}
 use borrow.Author.Needs.{needs}
 use Rattle.base.specs.Below.{anyBelow}
-use Rattle.base.proofs.Below.{any-intro}
-use Rattle.volume_table.proofs.Laws.{any-more}
+use Rattle.base.proofs.Below.{any-intro, any-more}
 use Rattle.volume_table.proofs.Tables.{repeats}
 use Rattle.volume_table.proofs.table.names_differ.Statement.{statement}
 use Rattle.volume_table.proofs.table.names_differ.Tie as tie
@@ -18,13 +17,22 @@ abbrev μ-loop : tie.MeasureT-loop
 μ-loop t n empty j₀ j = n - j
 
 returns : tie.Need-returns Inv-loop μ-loop
-returns c = let t = c .before .before .before .before .before .before .args .t .now in rw (any-intro (c .before .before .before .before .before .before .args .n) (λ (k : ℕ). anyBelow k (repeats t k)) (c .before .before .before .loop .j) (omega arith) (sym (c .before .name-repeats .ensures) ∙ c .if1 .taken))
+returns c =
+    let start = c .before .before .before .before .before .before in
+    let t = start .args .t .now in
+    rw (any-intro (start .args .n) (λ (k : ℕ). anyBelow k (repeats t k)) (c .before .before .before .loop .j)
+    (omega arith) (sym (c .before .name-repeats .ensures) ∙ c .if1 .taken))
 
 loop-again : tie.Need-loop-again Inv-loop μ-loop
-loop-again c = let t = c .before .before .before .before .before .before .args .t .now in (omega arith, any-more (λ (k : ℕ). anyBelow k (repeats t k)) (c .before .before .before .loop .j) (c .before .before .before .loop .inv .1) (sym (c .before .name-repeats .ensures) ∙ c .if1 .left))
+loop-again c =
+    let at-loop = c .before .before .before in let start = at-loop .before .before .before in
+    let t = start .args .t .now in
+    (omega arith, any-more (λ (k : ℕ). anyBelow k (repeats t k)) (at-loop .loop .j) (at-loop .loop .inv .1) (sym (c .before .name-repeats .ensures) ∙ c .if1 .left))
 
 returns-2 : tie.Need-returns-2 Inv-loop μ-loop
-returns-2 c = let e : c .before .loop .j ≡ c .before .before .before .before .args .n = omega arith in rw (rw e at (c .before .loop .inv .1))
+returns-2 c =
+    let start = c .before .before .before .before in
+    let e : c .before .loop .j ≡ start .args .n = omega arith in rw (rw e at (c .before .loop .inv .1))
 
 pub names-differ-spec : {M : Type 1} → statement M
 names-differ-spec =

@@ -6,10 +6,14 @@ use Rattle.volume_table.proofs.table.records_part.Statement.{statement}
 use Rattle.volume_table.proofs.table.records_part.Tie as tie
 
 returns : tie.Need-returns
-returns c = part-short (c .before .before .before .args .leb-size) (c .before .before .before .args .content .now) (c .before .record-count .ensures) (c .if1 .taken)
+returns c =
+    let start = c .before .before .before in
+    part-short (start .args .leb-size) (start .args .content .now) (c .before .record-count .ensures) (c .if1 .taken)
 
 returns-2 : tie.Need-returns-2
-returns-2 c = part-long (c .before .before .before .before .args .leb-size) (c .before .before .before .before .args .content .now) (c .before .before .record-count .ensures)
+returns-2 c =
+    let start = c .before .before .before .before in
+    part-long (start .args .leb-size) (start .args .content .now) (c .before .before .record-count .ensures)
 
 pub records-part-spec : {M : Type 1} → statement M
 records-part-spec =

@@ -1,4 +1,4 @@
--- `volumes::entries::any_faulty` meets its contract: no entry passed is one of the volume and at fault. Assumes nothing.
+-- `volumes::entries::any_faulty` meets its contract: no entry passed is one at fault. Assumes nothing.
 use mathlib.Core.Path.{_≡_, sym, _∙_}
 use mathlib.Core.Bool.{Bool, false}
 use Prim.Native.Nat.{_≤_, _<_, _-_, ℕ}
@@ -25,7 +25,8 @@ returns : tie.Need-returns Inv-loop μ-loop
 returns c =
     let l = c .before .before .before in
     let d = l .before .before .before in
-    sym (any-intro (d .args .count) (bad d) (l .loop .k) (omega arith) (sym (c .before .fault-at .ensures) ∙ c .if1 .taken))
+    sym (any-intro (d .args .count) (bad d) (l .loop .k) (omega arith)
+    (sym (c .before .fault-at .ensures) ∙ c .if1 .taken))
 
 loop-again : tie.Need-loop-again Inv-loop μ-loop
 loop-again c =

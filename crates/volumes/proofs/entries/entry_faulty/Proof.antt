@@ -16,7 +16,9 @@ face d = faceAt (d .args .g) (d .args .image .now) (d .args .i)
 
 returns : tie.Need-returns
 unfolding faceOf
-returns c = let d = c .before .before .before in fault-unasked (d .args .asks) (face d) (c .before .if1 .taken) (c .is-sound .ensures)
+returns c =
+    let d = c .before .before .before in
+    fault-unasked (d .args .asks) (face d) (c .before .if1 .taken) (c .is-sound .ensures)
 
 returns-2 : tie.Need-returns-2
 unfolding faceOf copyOf
@@ -31,8 +33,10 @@ unfolding faceOf copyOf
 returns-3 c =
     let h = c .before .before in
     let d = h .before .before .before in
-    let e : face d .right ≡ c .matches .result = rw (← (h .header-field .ensures), eq-eqb _ _ (c .before .if2 .left), c .matches .ensures) in
-    fault-static (d .args .asks) (face d) (eqb (headerAt (d .args .g) (d .args .image .now) (d .args .i) .«copy_flag») 0) (h .before .if1 .left) e
+    let e : face d .right ≡ c .matches .result =
+    rw (← (h .header-field .ensures), eq-eqb _ _ (c .before .if2 .left), c .matches .ensures) in
+    fault-static (d .args .asks) (face d)
+    (eqb (headerAt (d .args .g) (d .args .image .now) (d .args .i) .«copy_flag») 0) (h .before .if1 .left) e
     (rw (c .matches .ensures))
 
 pub entry-faulty-spec : {M : Type 1} → statement M

@@ -25,8 +25,11 @@ returns c =
 loop-again : tie.Need-loop-again Inv-loop μ-loop
 loop-again c =
     let d = c .before .before .before in
-    let a = d .before .before .args in
-    (omega arith, one-more (λ (j : ℕ). volumeWord (a .map .now) j ≡ a .volume → ⊥) (d .loop .k) (d .loop .inv .1) (λ e. c .if1 .left (c .before .volume-word .ensures ∙ e)))
+    let a = d .before .before .args in (
+      omega arith,
+      one-more (λ (j : ℕ). volumeWord (a .map .now) j ≡ a .volume → ⊥) (d .loop .k) (d .loop .inv .1)
+          (λ e. c .if1 .left (c .before .volume-word .ensures ∙ e)),
+    )
 
 returns-2 : tie.Need-returns-2 Inv-loop μ-loop
 returns-2 c =

@@ -1,4 +1,4 @@
--- `volumes::misfit::first_misfit` meets its contract: no volume passed has an entry that refusal 12 names. Assumes nothing.
+-- `volumes::misfit::first_misfit` meets its contract: refusal 12 names no entry of the volumes passed. Assumes nothing.
 use mathlib.Core.Path.{_≡_}
 use mathlib.Core.Option.{none}
 use Prim.Native.Nat.{_≤_, _<_, _-_, ℕ}
@@ -14,7 +14,8 @@ use Rattle.volumes.proofs.misfit.first_misfit.Statement.{statement}
 use Rattle.volumes.proofs.misfit.first_misfit.Tie as tie
 
 abbrev Inv-loop : tie.InvT-loop
-Inv-loop image g n map count t v₀ v = (v ≤ 128) × ((w : ℕ) → w < v → misfitIn (records (mediumOf g n image)) (faces (mediumOf g n image)) w ≡ none)
+Inv-loop image g n map count t v₀ v =
+    (v ≤ 128) × ((w : ℕ) → w < v → misfitIn (records (mediumOf g n image)) (faces (mediumOf g n image)) w ≡ none)
 
 abbrev μ-loop : tie.MeasureT-loop
 μ-loop image g n map count t v₀ v = 128 - v
@@ -31,8 +32,11 @@ returns c =
 loop-again : tie.Need-loop-again Inv-loop μ-loop
 loop-again c =
     let d = c .before .before .before in
-    let s = d .before .before .before .before .pre in
-    (omega arith, one-more (λ (w : ℕ). misfitIn (rs s) (fs s) w ≡ none) (d .loop .volume) (d .loop .inv .1) (c .before .misfit-of .ensures .none-in (c .if1 .left)))
+    let s = d .before .before .before .before .pre in (
+      omega arith,
+      one-more (λ (w : ℕ). misfitIn (rs s) (fs s) w ≡ none) (d .loop .volume) (d .loop .inv .1)
+          (c .before .misfit-of .ensures .none-in (c .if1 .left)),
+    )
 
 returns-2 : tie.Need-returns-2 Inv-loop μ-loop
 returns-2 c =

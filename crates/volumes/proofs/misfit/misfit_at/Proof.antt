@@ -23,7 +23,13 @@ returns-2 : tie.Need-returns-2
 returns-2 c =
     let h = c .before .before in
     let b = h .before .before in
-    rw (← (b .before .volume-word .ensures), eq-eqb _ _ (b .if1 .left), ← (h .before .peb-word .ensures), ← (h .header-field .ensures), ← (c .before .peb-word2 .ensures))
+    rw (
+      ← (b .before .volume-word .ensures),
+      eq-eqb _ _ (b .if1 .left),
+      ← (h .before .peb-word .ensures),
+      ← (h .header-field .ensures),
+      ← (c .before .peb-word2 .ensures),
+    )
     (c .misfits .ensures)
 
 pub misfit-at-spec : {M : Type 1} → statement M

@@ -1,4 +1,4 @@
--- `volumes::misfit::misfit_in` meets its contract: no entry passed is one of the volume that refusal 12 names. Assumes nothing.
+-- `volumes::misfit::misfit_in` meets its contract: refusal 12 names no entry passed of the volume. Assumes nothing.
 use mathlib.Core.Path.{_≡_, sym, _∙_}
 use mathlib.Core.Bool.{false}
 use Prim.Native.Nat.{_≤_, _<_, _-_, ℕ}
@@ -11,7 +11,8 @@ use Rattle.volumes.proofs.misfit.misfit_in.Statement.{statement}
 use Rattle.volumes.proofs.misfit.misfit_in.Tie as tie
 
 abbrev Inv-loop : tie.InvT-loop
-Inv-loop image g map count v r first k₀ k = (k ≤ count) × ((first ≤ k) × ((j : ℕ) → j < k → misfitEntry g image map v r first j ≡ false))
+Inv-loop image g map count v r first k₀ k =
+    (k ≤ count) × ((first ≤ k) × ((j : ℕ) → j < k → misfitEntry g image map v r first j ≡ false))
 
 abbrev μ-loop : tie.MeasureT-loop
 μ-loop image g map count v r first k₀ k = count - k

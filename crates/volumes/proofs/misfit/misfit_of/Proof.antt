@@ -8,7 +8,9 @@ record-numbers-requires : tie.Need-record-numbers-requires
 record-numbers-requires c κs = let p = c .before .before .before .pre in (table-long (p .0), p .1)
 
 returns : tie.Need-returns
-returns c = no-record (c .before .before .before .before .before .before .pre .0) (c .before .before .record-numbers .ensures) (c .if1 .taken)
+returns c =
+    no-record (c .before .before .before .before .before .before .pre .0) (c .before .before .record-numbers .ensures)
+    (c .if1 .taken)
 
 misfit-in-requires : tie.Need-misfit-in-requires
 misfit-in-requires c κs = entries-there (c .before .before .before .before .before .before .pre .0)

@@ -15,7 +15,8 @@ use Rattle.volumes.proofs.state.fill_states.Tie as tie
 
 abbrev Inv-loop : tie.InvT-loop
 Inv-loop image g n map count t states₀ v₀ states v =
-    (v ≤ 128) × ((length states ≡ length states₀) × (states ≡ table (stateAt (mediumOf g n image)) 0 v ++ drop v states₀))
+    (v ≤ 128) × ((length states ≡ length states₀)
+    × (states ≡ table (stateAt (mediumOf g n image)) 0 v ++ drop v states₀))
 
 abbrev μ-loop : tie.MeasureT-loop
 μ-loop image g n map count t states₀ v₀ states v = 128 - v
@@ -27,7 +28,8 @@ loop-again : tie.Need-loop-again Inv-loop μ-loop
 loop-again c =
     let l = c .before .before in
     let a = l .before .before .before .before .before .args in
-    let f = fill-more (stateAt (mediumOf (a .g) (a .n) (a .image .now))) (l .loop .volume) (a .states .now) (omega arith) in
+    let f = fill-more (stateAt (mediumOf (a .g) (a .n) (a .image .now))) (l .loop .volume) (a .states .now)
+    (omega arith) in
     (omega arith, (rw length-set (l .loop .inv .1 .0), rw (l .loop .inv .1 .1, c .volume-state .ensures) f))
 
 same-length : tie.Need-same-length Inv-loop μ-loop

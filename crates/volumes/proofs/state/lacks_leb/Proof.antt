@@ -8,7 +8,11 @@ use Rattle.volumes.proofs.state.lacks_leb.Tie as tie
 returns : tie.Need-returns
 returns c =
     let f = c .before .first-of in
-    record { first = f .result; is-first = f .ensures; is = rw (le-ltb (f .result) (c .before .before .before .before .args .count) (omega arith)) }
+    record {
+      first = f .result;
+      is-first = f .ensures;
+      is = rw (le-ltb (f .result) (c .before .before .before .before .args .count) (omega arith));
+    }
 
 peb-word-requires : tie.Need-peb-word-requires
 peb-word-requires c κs = let f = c .before .before .first-of .ensures .within in omega (arith, c .before .if1 .left)
@@ -16,7 +20,8 @@ peb-word-requires c κs = let f = c .before .before .first-of .ensures .within i
 header-field-requires : tie.Need-header-field-requires
 header-field-requires c κs =
     let b = c .before .before in
-    let m = b .before .before .before .before .pre .mapped (b .before .first-of .result) (omega (arith, b .if1 .left)) in
+    let m = b .before .before .before .before .pre .mapped (b .before .first-of .result)
+    (omega (arith, b .if1 .left)) in
     rw (c .peb-word .ensures) (m .placed, (m .bytes, (omega arith, omega arith)))
 
 returns-2 : tie.Need-returns-2

@@ -56,7 +56,8 @@ returns-5 c =
     let e = b .before .before in
     let p = start (read e) .pre in
     state-static (p .0) (p .1) (read e .record-numbers .ensures) (e .before .before .if1 .left) (e .if2 .left)
-    (b .before .asks-crc .ensures) (b .any-faulty .ensures) (d .if3 .left) (c .before .before .if4 .left) (c .before .lacks-leb .ensures) (c .if5 .taken)
+    (b .before .asks-crc .ensures) (b .any-faulty .ensures) (d .if3 .left) (c .before .before .if4 .left)
+    (c .before .lacks-leb .ensures) (c .if5 .taken)
 
 returns-6 : tie.Need-returns-6
 returns-6 c =
@@ -65,7 +66,8 @@ returns-6 c =
     let e = b .before .before in
     let p = start (read e) .pre in
     state-static (p .0) (p .1) (read e .record-numbers .ensures) (e .before .before .if1 .left) (e .if2 .left)
-    (b .before .asks-crc .ensures) (b .any-faulty .ensures) (d .if3 .left) (c .before .before .if4 .left) (c .before .lacks-leb .ensures) (c .if5 .left)
+    (b .before .asks-crc .ensures) (b .any-faulty .ensures) (d .if3 .left) (c .before .before .if4 .left)
+    (c .before .lacks-leb .ensures) (c .if5 .left)
 
 pub volume-state-spec : {M : Type 1} → statement M
 volume-state-spec =
