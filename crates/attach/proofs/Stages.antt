@@ -32,7 +32,7 @@ use Rattle.report.specs.Attach.{
   early,
   Tables,
   lent,
-  tableRules,
+  roomRules,
   longEnough,
   request,
   byGeometry,
@@ -63,16 +63,16 @@ early-ended k t = record { answer = refl; tables-are = refl }
 
 module _ (t : Tables) (n : ℕ) where
   pub short-pebs : length (t .pebs) < pebWordsNeeded n → false ≡ longEnough t n
-  unfolding tableRules
+  unfolding roomRules
   short-pebs h = rw (lt-leb (pebWordsNeeded n) (length (t .pebs)) h)
 
   pub short-map : pebWordsNeeded n ≤ length (t .pebs) → length (t .map) < mapWordsNeeded n → false ≡ longEnough t n
-  unfolding tableRules
+  unfolding roomRules
   short-map a h = rw (le-leb (pebWordsNeeded n) (length (t .pebs)) a, lt-leb (mapWordsNeeded n) (length (t .map)) h)
 
   pub by-states : pebWordsNeeded n ≤ length (t .pebs) → mapWordsNeeded n ≤ length (t .map)
       → leb stateWordsNeeded (length (t .states)) ≡ longEnough t n
-  unfolding tableRules
+  unfolding roomRules
   by-states a b =
       rw (le-leb (pebWordsNeeded n) (length (t .pebs)) a, le-leb (mapWordsNeeded n) (length (t .map)) b)
       (sym (and-true (leb stateWordsNeeded (length (t .states)))))
@@ -94,7 +94,7 @@ module _ (g : Geometry) (image : List ℕ) (t : Tables) where
 
     module _ (h : longEnough t (pebCount g image) ≡ true) where
       pub room-of : Placed g → Room g (pebCount g image) image t
-      unfolding imageRules tableRules
+      unfolding imageRules roomRules
       room-of p = record {
         placed = p;
         whole =
@@ -106,9 +106,9 @@ module _ (g : Geometry) (image : List ℕ) (t : Tables) where
             );
         least = leb-true 2 (pebCount g image) (each-holds (imageRules g image) e 1);
         few = image-few g image e;
-        long-pebs = leb-true _ (length (t .pebs)) (each-holds (tableRules t (pebCount g image)) h 0);
-        long-map = leb-true _ (length (t .map)) (each-holds (tableRules t (pebCount g image)) h 1);
-        long-states = leb-true _ (length (t .states)) (each-holds (tableRules t (pebCount g image)) h 2);
+        long-pebs = leb-true _ (length (t .pebs)) (each-holds (roomRules t (pebCount g image)) h 0);
+        long-map = leb-true _ (length (t .map)) (each-holds (roomRules t (pebCount g image)) h 1);
+        long-states = leb-true _ (length (t .states)) (each-holds (roomRules t (pebCount g image)) h 2);
       }
 
       pub ended-image : {r : Attached} {t′ : Tables} → Ended (outcome g (pebCount g image) image) r t t′ → Ended end r t t′

@@ -25,7 +25,7 @@ use Rattle.report.specs.Choice.{refusal9, pick, chosen}
 use Rattle.report.specs.Volumes.{faceOf, facesOf, placesOf, tableLeb, tableRecords, recordFor, mapUpTo, mapOf, usedOf, misfitIn, misfitAt}
 use Rattle.report.specs.Report.{meanOf, highestOf, readOnlyOf, classAt, entries, refusal}
 use Rattle.geometry.specs.Image.{imageRules}
-use Rattle.report.specs.Attach.{lent, longEnough, request, attaching}
+use Rattle.report.specs.Attach.{lent, roomRules, longEnough, request, attaching}
 use Rattle.plan.specs.Headers.{dataEnd, newSize, newFlag, newCrc, newVid, oldCounter, newEc}
 use Rattle.plan.specs.Begin.{refusal13, mapped, refusal15, refusal16, refusal17, makePlan, planOf, beginning}
 use Rattle.job.specs.Write.{Write, store, erase, nothing, appliedWhole, appliedCut}
@@ -128,7 +128,7 @@ unfolding slip ec vid recordHead layout abc pebOf image plan eqs beFrom toBeOn t
     nameOf sameNames autoresizes tableRules tableTests tableGood takenLeb takenRecords allFF copyOf viewOf
     imageSeq viewRefusal refusal5678 refusal10 refusal9 pick chosen faceOf facesOf placesOf tableLeb
     tableRecords recordFor mapUpTo mapOf usedOf misfitIn misfitAt meanOf highestOf readOnlyOf classAt entries
-    refusal imageRules longEnough attaching dataEnd newSize newFlag newCrc newVid oldCounter newEc refusal13
+    refusal imageRules roomRules attaching dataEnd newSize newFlag newCrc newVid oldCounter newEc refusal13
     mapped refusal15 refusal16 refusal17 makePlan planOf beginning
 move-accepted = refl
 

@@ -31,13 +31,13 @@ abbrev pub lent : List ℕ → List ℕ → List ℕ → Tables
 lent pebs map states = record { pebs = pebs; map = map; states = states }
 
 -- refusal 4: "a lent table .. is too short"
-unfoldable pub tableRules : Tables → ℕ → List Bool
-tableRules t n =
+unfoldable pub roomRules : Tables → ℕ → List Bool
+roomRules t n =
     leb (pebWordsNeeded n) (length (t .pebs)) ∷ leb (mapWordsNeeded n) (length (t .map))
     ∷ leb stateWordsNeeded (length (t .states)) ∷ []
 
 abbrev pub longEnough : Tables → ℕ → Bool
-longEnough t n = allOf (tableRules t n)
+longEnough t n = allOf (roomRules t n)
 
 -- 01 'The mover's steps': "Inputs of attaching other than image and lent tables"
 pub record AttachRequest : Type 0 where

@@ -15,13 +15,8 @@ use Rattle.base.proofs.Below.{any-intro, any-cong, first-none}
 use Rattle.geometry.specs.declared.Geometry.{Geometry}
 use Rattle.volume_record.specs.Record.{recordOf}
 use Rattle.volume_table.specs.Table.{recordAt}
-<<<<<<< HEAD
 use Rattle.volume_record.specs.declared.VolumeRecord.{VolumeRecord}
-use Rattle.report.specs.View.{mediumOf, viewsOf, copyOf, copies}
-=======
-use Rattle.volume_table.specs.declared.VolumeRecord.{VolumeRecord}
 use Rattle.report.specs.View.{mediumOf, copyOf}
->>>>>>> house-e
 use Rattle.report.specs.Volumes.{Face, faceOf, recordFor, usedOf, mapOf, asksCrc, faulty, isMissing, lacks, stateOf}
 use Rattle.report.specs.Report.{entries, stateAt}
 use Rattle.report.proofs.Tables.{Fits, entry-fits, reserved-is}

@@ -1,7 +1,7 @@
 -- `volumes::record::numbers_at` meets its contract. Assumes nothing.
 use borrow.Author.Needs.{needs}
 use Rattle.base.proofs.Lists.{lent-part}
-use Rattle.volume_table.specs.Record.{recordOf}
+use Rattle.volume_record.specs.Record.{recordOf}
 use Rattle.volumes.specs.Sorted.{numbersOf}
 use Rattle.volumes.proofs.record.numbers_at.Statement.{statement}
 use Rattle.volumes.proofs.record.numbers_at.Tie as tie

@@ -4,7 +4,7 @@ use Prim.Native.Nat.{_*_}
 use borrow.Author.Needs.{needs}
 use lib.ListN.{drop-of-length-le}
 use Rattle.field.specs.Be.{beFrom}
-use Rattle.volume_table.specs.Record.{recordOf}
+use Rattle.volume_record.specs.Record.{recordOf}
 use Rattle.volumes.specs.Sorted.{numbersOf}
 use Rattle.volumes.proofs.record.record_numbers.Statement.{statement}
 use Rattle.volumes.proofs.record.record_numbers.Tie as tie
