@@ -22,8 +22,8 @@ use Rattle.report.specs.declared.Report.{Report}
 use Rattle.report.specs.View.{Medium, mediumOf}
 use Rattle.report.specs.Scan.{Refusal}
 use Rattle.report.specs.Report.{noWord, entries, refusal}
-use Rattle.report.specs.Attach.{Tables, Outcome, early, late, whole, longEnough, byViews, byGeometry, attaching}
-use Rattle.report.specs.Attach.{reportOf}
+use Rattle.report.specs.Attach.{Tables, Outcome, early, late, whole, roomRules, longEnough, byViews, byGeometry}
+use Rattle.report.specs.Attach.{attaching, reportOf}
 use Rattle.report.proofs.Tables.{entries-fit}
 use Rattle.listing.specs.Text.{ascii, labelled, pair, numbersPart, marksPart, counterText, pebLine, mapLine}
 use Rattle.listing.specs.Text.{volLine, pebLineAt, mapLineAt, volLineAt, pebLines, mapLines, volLines}
@@ -166,7 +166,7 @@ module _ (g : Geometry) (image : List ℕ) (h : 1024 ≤ g .«peb_size») (k : l
       omega (arith, a, b)
 
   long-tables : longEnough programTables (pebCount g image) ≡ true
-  unfolding longEnough programTables
+  unfolding roomRules programTables
   long-tables =
       and-intro _ _ (le-leb (pebCount g image * 2) 118 (omega (arith, few-pebs)))
       (and-intro _ _ (le-leb (pebCount g image * 3) 177 (omega (arith, few-pebs))) refl)

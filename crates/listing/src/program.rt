@@ -73,9 +73,9 @@ fn judge(
 {
     let at = slip_end(input);
     if too_much(input, more) {
-        return refuse_long(&input[0..at]);
+        return refuse_long(&input[..at]);
     }
-    attach::attach(&input[0..at], &input[at..], pebs, map, states)
+    attach::attach(&input[..at], &input[at..], pebs, map, states)
 }
 
 fn list_into(
