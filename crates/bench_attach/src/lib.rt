@@ -1,7 +1,8 @@
-// Attaching and its checksum as C calls them: what bench/ links and times. C passes a slice as a pointer and then a length.
+// Attaching and its checksum as C calls them: what bench/ links and times. C passes a slice as a pointer and then a
+// length.
 ghost use mathlib.Core.Path.{_≡_};
 ghost use Rattle.crc32.specs.Crc.{crcFrom};
-ghost use Rattle.report.specs.Attach.{attaching, attachedAnswer, answerOf, pebsAfter, mapAfter, statesAfter};
+ghost use Rattle.report.specs.Attach.{lent, request, attachingInto, attachedAnswer, answerOf, tablesAfter};
 ghost use Rattle.bench_attach.specs.Code.{codeOf};
 use report::Attached;
 
@@ -23,10 +24,14 @@ pub extern "C" fn bench_attach(
     map: &mut [u32],
     states: &mut [u32],
 ) -> u64
-    ensures answer { λ r. ⌜ r ≡ codeOf (answerOf (attaching (now (slip .entry)) (now (image .entry)) (now (pebs .entry)) (now (map .entry)) (now (states .entry)))) ⌝ }
-    ensures pebs { λ _. ⌜ now (pebs .exit) ≡ pebsAfter (attaching (now (slip .entry)) (now (image .entry)) (now (pebs .entry)) (now (map .entry)) (now (states .entry))) (now (pebs .entry)) ⌝ }
-    ensures map { λ _. ⌜ now (map .exit) ≡ mapAfter (attaching (now (slip .entry)) (now (image .entry)) (now (pebs .entry)) (now (map .entry)) (now (states .entry))) (now (map .entry)) ⌝ }
-    ensures states { λ _. ⌜ now (states .exit) ≡ statesAfter (attaching (now (slip .entry)) (now (image .entry)) (now (pebs .entry)) (now (map .entry)) (now (states .entry))) (now (states .entry)) ⌝ }
+    ensures answer { λ r. ⌜ r
+        ≡ codeOf (answerOf (attachingInto (request (now (slip .entry))) (now (image .entry))
+        (lent (now (pebs .entry)) (now (map .entry)) (now (states .entry))))) ⌝ }
+    ensures tables { λ _. ⌜ lent (now (pebs .exit)) (now (map .exit)) (now (states .exit))
+        ≡ tablesAfter
+        (attachingInto (request (now (slip .entry))) (now (image .entry))
+        (lent (now (pebs .entry)) (now (map .entry)) (now (states .entry))))
+        (lent (now (pebs .entry)) (now (map .entry)) (now (states .entry))) ⌝ }
 {
     let a = attach::attach(slip, image, pebs, map, states);
     code(a)

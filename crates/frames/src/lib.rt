@@ -16,7 +16,8 @@ pub fn count() -> u64 {
     number_at(&head, 0, 4)
 }
 
-// Reads a frame: a length of two bytes, the highest first, and as many bytes of payload. Answers the length; 0 if they are not all there.
+// Reads a frame: a length of two bytes, the highest first, and as many bytes of payload. Answers the length; 0 if they
+// are not all there.
 pub fn next(buf: &mut [u8]) -> usize
     ensures { λ r. ⌜ r ≤ length (now (buf .exit)) ⌝ }
 {
@@ -139,8 +140,8 @@ fn onward(payload: &[u8], at: usize, n: usize) -> usize
     at + n
 }
 
-// A patch at `at`: an offset, a length, and so many bytes that are written there. Answers the place after it; the end, where it is not whole or
-// does not fit.
+// A patch at `at`: an offset, a length, and so many bytes that are written there. Answers the place after it; the end,
+// where it is not whole or does not fit.
 fn patch(image: &mut [u8], payload: &[u8], at: usize) -> usize
     requires { ⌜ at ≤ length (now payload) ⌝ }
     ensures { λ r. ⌜ r ≤ length (now (payload .entry)) ⌝ }
@@ -195,7 +196,8 @@ pub fn words(name: &[u8], words: &[u32]) {
     line_end();
 }
 
-// The i-th word is the last of n equal ones so far. They are printed if the next is another. Answers how many are equal up to the next.
+// The i-th word is the last of n equal ones so far. They are printed if the next is another. Answers how many are equal
+// up to the next.
 fn run_on(words: &[u32], i: usize, n: u64) -> u64
     requires { ⌜ i < length (now words) ⌝ }
 {

@@ -16,45 +16,20 @@ use Rattle.base.specs.Below.{concatBelow}
 use Rattle.base.proofs.Answers.{and-left, and-right, and-intro, or-right}
 use Rattle.geometry.specs.declared.Geometry.{Geometry}
 use Rattle.geometry.specs.Geometry.{goodUnit, makeGeometry, geometryRules, geometryOf}
+use Rattle.geometry.specs.Image.{pebCount, imageRules}
 use Rattle.geometry.specs.Slip.{valueAt, wellFormed, slipGeometry}
 use Rattle.report.specs.declared.Report.{Report}
-use Rattle.report.specs.View.{Views, viewsOf}
+use Rattle.report.specs.View.{Medium, mediumOf}
 use Rattle.report.specs.Scan.{Refusal}
 use Rattle.report.specs.Report.{noWord, entries, refusal}
-use Rattle.report.specs.Attach.{
-  Outcome,
-  early,
-  late,
-  whole,
-  pebCount,
-  imageRules,
-  longEnough,
-  byViews,
-  byGeometry,
-  attaching,
-  reportOf,
-}
+use Rattle.report.specs.Attach.{Tables, Outcome, early, late, whole, roomRules, longEnough, byViews, byGeometry}
+use Rattle.report.specs.Attach.{attaching, reportOf}
 use Rattle.report.proofs.Tables.{entries-fit}
-use Rattle.listing.specs.Text.{
-  ascii,
-  labelled,
-  pair,
-  numbersPart,
-  marksPart,
-  counterWord,
-  pebLine,
-  mapLine,
-  volLine,
-  pebLineAt,
-  mapLineAt,
-  volLineAt,
-  pebLines,
-  mapLines,
-  volLines,
-  reportText,
-  refusedText,
-}
-use Rattle.listing.specs.Listing.{slipPart, imagePart, tooMuch, afterSlip, pebTable, mapTable, stateTable, textFor, judging, listingOf}
+use Rattle.listing.specs.Text.{ascii, labelled, pair, numbersPart, marksPart, counterText, pebLine, mapLine}
+use Rattle.listing.specs.Text.{volLine, pebLineAt, mapLineAt, volLineAt, pebLines, mapLines, volLines}
+use Rattle.listing.specs.Text.{reportText, refusedText}
+use Rattle.listing.specs.Listing.{slipPart, imagePart, tooMuch, afterSlip, programTables, textFor, judging}
+use Rattle.listing.specs.Listing.{listingOf}
 use Rattle.listing.proofs.Laws.{decimal-short}
 
 -- ---- lines
@@ -63,24 +38,25 @@ labelled-short : (s : String) (n : ℕ) → length (labelled s n) ≤ length (as
 unfolding labelled
 labelled-short s n = simp length-append (omega (arith, decimal-short n))
 
-pair-short : (s : String) (m : ℕ) (t : String) (n : ℕ) → length (pair s m t n) ≤ length (ascii s) + (length (ascii t) + 40)
+pair-short : (s : String) (m : ℕ) (t : String) (n : ℕ)
+    → length (pair s m t n) ≤ length (ascii s) + (length (ascii t) + 40)
 unfolding pair
 pair-short s m t n = simp length-append (omega (arith, labelled-short s m, labelled-short t n))
 
 numbers-short : (r : Report) → length (numbersPart r) ≤ 113
 unfolding numbersPart
 numbers-short r =
-    simp length-append
-    (omega (arith, pair-short "attached " (r .«peb_count») " entries " (r .entries), pair-short " mean " (r .mean) " highest " (r .highest)))
+    let a = pair-short "attached " (r .«peb_count») " entries " (r .entries) in
+    simp length-append (omega (arith, a, pair-short " mean " (r .mean) " highest " (r .highest)))
 
 marks-short : (r : Report) → length (marksPart r) ≤ 113
 unfolding marksPart
 marks-short r =
-    simp length-append
-    (omega (arith, pair-short " readonly " (cond (r .«read_only») 1 0) " table " (r .table), pair-short " copies " (r .«copies_mark») " grade " (r .grade)))
+    let a = pair-short " readonly " (cond (r .«read_only») 1 0) " table " (r .table) in
+    simp length-append (omega (arith, a, pair-short " copies " (r .«copies_mark») " grade " (r .grade)))
 
-counter-short : (k : ℕ) → length (counterWord k) ≤ 21
-unfolding counterWord
+counter-short : (k : ℕ) → length (counterText k) ≤ 21
+unfolding counterText
 counter-short k = go (eqb k noWord)
   where
     go : (b : Bool) → length (cond b (ascii " lost") (labelled " " k)) ≤ 21
@@ -112,7 +88,7 @@ lines-short (suc n) k f h = rw length-append (omega (arith, lines-short n k f h,
 abbrev earlyNumber : Outcome → ℕ
 earlyNumber (early k) = k
 earlyNumber (late n r) = 0
-earlyNumber (whole g n vs) = 0
+earlyNumber (whole m) = 0
 
 record Fine (o : Outcome) : Type 0 where
   pub short : length (textFor o) ≤ 16384
@@ -126,7 +102,10 @@ fine-early : (k : ℕ) → k ≢ 4 → Fine (early k)
 fine-early k h = record { short = omega (arith, refused-short k 0); tables-suffice = h }
 
 fine-late : (n : ℕ) (r : Refusal) → Fine (late n r)
-fine-late n r = record { short = omega (arith, refused-short (r .number) (r .place)); tables-suffice = λ e. omega arith }
+fine-late n r = record {
+  short = omega (arith, refused-short (r .number) (r .place));
+  tables-suffice = λ e. omega arith;
+}
 
 peb-lines-short : (n : ℕ) (pebs : List ℕ) → length (pebLines n pebs) ≤ n * 67
 unfolding pebLines
@@ -140,15 +119,19 @@ vol-lines-short : (n : ℕ) (states : List ℕ) → length (volLines n states) �
 unfolding volLines
 vol-lines-short n states = lines-short n 46 (volLineAt states) (λ v. vol-short v _)
 
-report-short : (r : Report) (pebs map states : List ℕ) → r .«peb_count» ≤ 59 → r .entries ≤ 59 → length (reportText r pebs map states) ≤ 16384
+report-short : (r : Report) (t : Tables) → r .«peb_count» ≤ 59 → r .entries ≤ 59 → length (reportText r t) ≤ 16384
 unfolding reportText
-report-short r pebs map states h k =
-    simp length-append
-    (omega (arith, peb-lines-short (r .«peb_count») pebs, map-lines-short (r .entries) map, vol-lines-short 128 states, numbers-short r, marks-short r))
+report-short r t h k =
+    let p = peb-lines-short (r .«peb_count») (t .pebs) in
+    let m = map-lines-short (r .entries) (t .map) in
+    simp length-append (omega (arith, p, m, vol-lines-short 128 (t .states), numbers-short r, marks-short r))
 
-fine-whole : (g : Geometry) (n : ℕ) (vs : Views) → n ≤ 59 → length (entries g n vs) ≤ n → Fine (whole g n vs)
+fine-whole : (m : Medium) → m .count ≤ 59 → length (entries m) ≤ m .count → Fine (whole m)
 unfolding reportOf
-fine-whole g n vs h k = record { short = report-short (reportOf g n vs) _ _ _ h (omega arith); tables-suffice = λ e. omega arith }
+fine-whole m h k = record {
+  short = report-short (reportOf m) _ h (omega arith);
+  tables-suffice = λ e. omega arith;
+}
 
 -- a slip is refused with 1 or 2, or its PEB size is 1,024 at least
 by-slip : (P : Answer Geometry → Type 0) (s : List ℕ) → P (refused 1 0) → P (refused 2 0)
@@ -165,10 +148,13 @@ by-slip P s one two good = go (wellFormed s) (allOf (geometryRules peb unit sub)
     sub : ℕ
     sub = valueAt 12 2 s
 
-    go : (a b : Bool) → allOf (geometryRules peb unit sub) ≡ b → P (cond a (cond b (given (makeGeometry peb unit sub)) (refused 2 0)) (refused 1 0))
+    go : (a b : Bool) → allOf (geometryRules peb unit sub) ≡ b
+        → P (cond a (cond b (given (makeGeometry peb unit sub)) (refused 2 0)) (refused 1 0))
     go false b e = one
     go true false e = two
-    go true true e = good (makeGeometry peb unit sub) (leb-true 1024 peb (and-left (leb 1024 peb) _ (and-right (leb sub unit) _ (and-right (goodUnit sub) _ (and-right (goodUnit unit) _ e)))))
+    go true true e =
+        let r = and-right (leb sub unit) _ (and-right (goodUnit sub) _ (and-right (goodUnit unit) _ e)) in
+        good (makeGeometry peb unit sub) (leb-true 1024 peb (and-left (leb 1024 peb) _ r))
 
 -- 61,420 bytes are 59 PEBs at the most
 module _ (g : Geometry) (image : List ℕ) (h : 1024 ≤ g .«peb_size») (k : length image ≤ 61420) where
@@ -179,36 +165,47 @@ module _ (g : Geometry) (image : List ℕ) (h : 1024 ≤ g .«peb_size») (k : l
       let b : n * g .«peb_size» ≤ length image = div-mul-le-self (length image) (g .«peb_size») in
       omega (arith, a, b)
 
-  long-tables : longEnough (pebCount g image) pebTable mapTable stateTable ≡ true
-  unfolding longEnough pebTable mapTable stateTable
+  long-tables : longEnough programTables (pebCount g image) ≡ true
+  unfolding roomRules programTables
   long-tables =
       and-intro _ _ (le-leb (pebCount g image * 2) 118 (omega (arith, few-pebs)))
       (and-intro _ _ (le-leb (pebCount g image * 3) 177 (omega (arith, few-pebs))) refl)
 
-  fine-image : Fine (byGeometry image pebTable mapTable stateTable (given g))
+  fine-image : Fine (byGeometry image (longEnough programTables) (given g))
   unfolding imageRules
-  fine-image = go (allOf (imageRules g image)) refl (longEnough (pebCount g image) pebTable mapTable stateTable) long-tables (refusal g (pebCount g image) (viewsOf g image)) refl
+  fine-image =
+      go (allOf (imageRules g image)) refl (longEnough programTables (pebCount g image)) long-tables
+      (refusal (mediumOf g (pebCount g image) image)) refl
     where
-      go : (a : Bool) → allOf (imageRules g image) ≡ a → (b : Bool) → b ≡ true → (x : Option Refusal) → refusal g (pebCount g image) (viewsOf g image) ≡ x
-          → Fine (cond a (cond b (byViews g (pebCount g image) (viewsOf g image) x) (early 4)) (early 3))
+      go : (a : Bool) → allOf (imageRules g image) ≡ a → (b : Bool) → b ≡ true → (x : Option Refusal)
+          → refusal (mediumOf g (pebCount g image) image) ≡ x
+          → Fine (cond a (cond b (byViews (mediumOf g (pebCount g image) image) x) (early 4)) (early 3))
       go false e b q x z = fine-early 3 (λ w. omega arith)
       go true e false q x z = absurd (true≢false (sym q))
       go true e true q (some r) z = fine-late (pebCount g image) r
       go true e true q none z =
-          fine-whole g (pebCount g image) (viewsOf g image) few-pebs
-          (entries-fit g (pebCount g image) (viewsOf g image) z (leb-true 2 (pebCount g image) (and-left (leb 2 (pebCount g image)) _ (and-right (eqb (length image % g .«peb_size») 0) _ e))))
+          let two = and-left (leb 2 (pebCount g image)) _ (and-right (eqb (length image % g .«peb_size») 0) _ e) in
+          fine-whole (mediumOf g (pebCount g image) image) few-pebs
+          (entries-fit (mediumOf g (pebCount g image) image) z (leb-true 2 (pebCount g image) two))
+
+-- refusals 1 to 3
+fine-slip : (k : ℕ) → k ≤ 3 → Fine (early k)
+fine-slip k h = fine-early k (λ w. omega arith)
 
 fine-judged : (input : List ℕ) (more : Bool) → Fine (judging input more)
 unfolding judging attaching
 fine-judged input more = go (tooMuch input more) refl
   where
     go : (b : Bool) → tooMuch input more ≡ b
-        → Fine (cond b (afterSlip (slipGeometry (slipPart input))) (byGeometry (imagePart input) pebTable mapTable stateTable (slipGeometry (slipPart input))))
-    go true e = by-slip (λ (x : Answer Geometry). Fine (afterSlip x)) (slipPart input) (fine-early 1 (λ w. omega arith)) (fine-early 2 (λ w. omega arith)) (λ g h. fine-early 3 (λ w. omega arith))
+        → Fine (cond b (afterSlip (slipGeometry (slipPart input)))
+        (byGeometry (imagePart input) (longEnough programTables) (slipGeometry (slipPart input))))
+    go true e =
+        by-slip (λ (x : Answer Geometry). Fine (afterSlip x)) (slipPart input) (fine-slip 1 (omega arith))
+        (fine-slip 2 (omega arith)) (λ g h. fine-slip 3 (omega arith))
     go false e =
         let l : length input ≤ 61440 = ltb-false 61440 (length input) (or-right more (ltb 61440 (length input)) e) in
-        by-slip (λ (x : Answer Geometry). Fine (byGeometry (imagePart input) pebTable mapTable stateTable x)) (slipPart input)
-        (fine-early 1 (λ w. omega arith)) (fine-early 2 (λ w. omega arith))
+        by-slip (λ (x : Answer Geometry). Fine (byGeometry (imagePart input) (longEnough programTables) x))
+        (slipPart input) (fine-slip 1 (omega arith)) (fine-slip 2 (omega arith))
         (λ g h. fine-image g (imagePart input) h (omega (arith, length-drop 20 input)))
 
 -- every listing fits a buffer of 16,384 bytes

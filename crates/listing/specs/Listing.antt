@@ -7,7 +7,7 @@ use lib.ListN.{length, take, drop, replicate}
 use Rattle.base.specs.Answers.{Answer, given, refused}
 use Rattle.geometry.specs.declared.Geometry.{Geometry}
 use Rattle.geometry.specs.Slip.{slipGeometry}
-use Rattle.report.specs.Attach.{Outcome, early, attaching, over, answerOf, pebsAfter, mapAfter, statesAfter}
+use Rattle.report.specs.Attach.{Tables, lent, Outcome, early, request, attachingInto, over, answerOf, tablesAfter}
 use Rattle.listing.specs.Text.{textOf}
 
 -- "The slip precedes the image": the slip's fields take 20 bytes
@@ -26,24 +26,19 @@ abbrev pub afterSlip : Answer Geometry → Outcome
 afterSlip (refused k p) = early k
 afterSlip (given g) = early 3
 
--- the tables that the program lends: 61,420 bytes are 59 PEBs at the most, so they are never too short (`tables-suffice` of proofs/Bounds.antt)
-unfoldable pub pebTable : List ℕ
-pebTable = replicate 118 0
-
-unfoldable pub mapTable : List ℕ
-mapTable = replicate 177 0
-
-unfoldable pub stateTable : List ℕ
-stateTable = replicate 128 0
+-- the tables that the program lends: 61,420 bytes are 59 PEBs at the most, so they are never too short
+-- (`tables-suffice` of proofs/Bounds.antt)
+unfoldable pub programTables : Tables
+programTables = lent (replicate 118 0) (replicate 177 0) (replicate 128 0)
 
 -- what the input comes to
 unfoldable pub judging : List ℕ → Bool → Outcome
 judging input more =
     cond (tooMuch input more) (afterSlip (slipGeometry (slipPart input)))
-    (attaching (slipPart input) (imagePart input) pebTable mapTable stateTable)
+    (attachingInto (request (slipPart input)) (imagePart input) programTables)
 
 abbrev pub textFor : Outcome → List ℕ
-textFor o = textOf (answerOf o) (pebsAfter o pebTable) (mapAfter o mapTable) (statesAfter o stateTable)
+textFor o = textOf (answerOf o) (tablesAfter o programTables)
 
 -- what is printed
 unfoldable pub listingOf : List ℕ → Bool → List ℕ
@@ -51,8 +46,10 @@ listingOf input more = textFor (judging input more)
 
 -- the text's length, or refusal 4, here for the text's buffer
 unfoldable pub listed : List ℕ → Bool → List ℕ → Answer ℕ
-listed input more out = cond (leb (length (listingOf input more)) (length out)) (given (length (listingOf input more))) (refused 4 0)
+listed input more out =
+    cond (leb (length (listingOf input more)) (length out)) (given (length (listingOf input more))) (refused 4 0)
 
 -- the buffer then: the text at its start, or as it was
 unfoldable pub listedOut : List ℕ → Bool → List ℕ → List ℕ
-listedOut input more out = cond (leb (length (listingOf input more)) (length out)) (over (listingOf input more) out) out
+listedOut input more out =
+    cond (leb (length (listingOf input more)) (length out)) (over (listingOf input more) out) out

@@ -6,28 +6,31 @@ use lib.Dec.{leb}
 use lib.ListN.{length}
 use Rattle.base.specs.Answers.{Answer, given, refused, allOf}
 use Rattle.report.specs.declared.Report.{Report}
-use Rattle.report.specs.Attach.{over}
+use Rattle.report.specs.Attach.{Tables, over}
 use Rattle.listing.specs.Text.{textOf}
 use Rattle.listing.specs.declared.Rendered.{Rendered}
 use Rattle.listing.specs.declared.Rendered.the-variants.{Text, Short}
 
 -- the words of which a listing's lines are made stand in the tables
-abbrev pub tablesHold : Answer Report → List ℕ → List ℕ → List ℕ → Bool
-tablesHold (given r) pebs map states = allOf (leb (r .«peb_count» * 2) (length pebs) ∷ leb (r .entries * 3) (length map) ∷ leb 128 (length states) ∷ [])
-tablesHold (refused k p) pebs map states = true
+abbrev pub tablesHold : Answer Report → Tables → Bool
+tablesHold (given r) t =
+    allOf
+    (leb (r .«peb_count» * 2) (length (t .pebs)) ∷ leb (r .entries * 3) (length (t .map))
+    ∷ leb 128 (length (t .states)) ∷ [])
+tablesHold (refused k p) t = true
 
-module _ (a : Answer Report) (pebs map states out : List ℕ) where
+module _ (a : Answer Report) (t : Tables) (out : List ℕ) where
   -- refusal 4: "a lent table .. is too short", and so here the text's buffer
   unfoldable pub hasRoom : Bool
-  hasRoom = tablesHold a pebs map states && leb (length (textOf a pebs map states)) (length out)
+  hasRoom = tablesHold a t && leb (length (textOf a t)) (length out)
 
   -- the text's length, or refusal 4
   unfoldable pub rendering : Answer ℕ
-  rendering = cond hasRoom (given (length (textOf a pebs map states))) (refused 4 0)
+  rendering = cond hasRoom (given (length (textOf a t))) (refused 4 0)
 
   -- "Refusals 1 to 4 .. change nothing lent"; "lent .. bytes beyond an answer .. never change"
   unfoldable pub outAfter : List ℕ
-  outAfter = cond hasRoom (over (textOf a pebs map states) out) out
+  outAfter = cond hasRoom (over (textOf a t) out) out
 
 abbrev pub renderedAnswer : Rendered → Answer ℕ
 renderedAnswer (Text n) = given n

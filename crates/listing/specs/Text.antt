@@ -9,7 +9,8 @@ use lib.ListN.{getD}
 use Rattle.base.specs.Answers.{Answer, given, refused}
 use Rattle.base.specs.Below.{concatBelow}
 use Rattle.report.specs.declared.Report.{Report}
-use Rattle.report.specs.Report.{noWord}
+use Rattle.words.specs.Words.{noWord, classWord, counterWord, volumeWord, lnumWord, pebWord}
+use Rattle.report.specs.Attach.{Tables}
 
 -- the bytes of a text of ASCII characters
 abbrev pub ascii : String → List ℕ
@@ -50,11 +51,11 @@ abbrev pub attachedLine : Report → List ℕ
 attachedLine r = numbersPart r ++ marksPart r
 
 -- "peb: number, class, counter or `lost`"
-unfoldable pub counterWord : ℕ → List ℕ
-counterWord k = cond (eqb k noWord) (ascii " lost") (labelled " " k)
+unfoldable pub counterText : ℕ → List ℕ
+counterText k = cond (eqb k noWord) (ascii " lost") (labelled " " k)
 
 unfoldable pub pebLine : ℕ → ℕ → ℕ → List ℕ
-pebLine i c k = pair "peb " i " " c ++ (counterWord k ++ lineEnd)
+pebLine i c k = pair "peb " i " " c ++ (counterText k ++ lineEnd)
 
 -- "map: volume, LEB, PEB"
 unfoldable pub mapLine : ℕ → ℕ → ℕ → List ℕ
@@ -66,13 +67,13 @@ volLine v s = cond (eqb s 0) [] (pair "vol " v " " s ++ lineEnd)
 
 -- the lines of each table
 abbrev pub pebLineAt : List ℕ → ℕ → List ℕ
-pebLineAt pebs i = pebLine i (getD pebs (i * 2) 0) (getD pebs (i * 2 + 1) 0)
+pebLineAt pebs i = pebLine i (classWord pebs i) (counterWord pebs i)
 
 unfoldable pub pebLines : ℕ → List ℕ → List ℕ
 pebLines n pebs = concatBelow n (pebLineAt pebs)
 
 abbrev pub mapLineAt : List ℕ → ℕ → List ℕ
-mapLineAt map i = mapLine (getD map (i * 3) 0) (getD map (i * 3 + 1) 0) (getD map (i * 3 + 2) 0)
+mapLineAt map i = mapLine (volumeWord map i) (lnumWord map i) (pebWord map i)
 
 unfoldable pub mapLines : ℕ → List ℕ → List ℕ
 mapLines k map = concatBelow k (mapLineAt map)
@@ -84,14 +85,15 @@ unfoldable pub volLines : ℕ → List ℕ → List ℕ
 volLines k states = concatBelow k (volLineAt states)
 
 -- "prints in full"
-unfoldable pub reportText : Report → List ℕ → List ℕ → List ℕ → List ℕ
-reportText r pebs map states =
-    attachedLine r ++ (pebLines (r .«peb_count») pebs ++ (mapLines (r .entries) map ++ volLines 128 states))
+unfoldable pub reportText : Report → Tables → List ℕ
+reportText r t =
+    attachedLine r
+    ++ (pebLines (r .«peb_count») (t .pebs) ++ (mapLines (r .entries) (t .map) ++ volLines 128 (t .states)))
 
 -- "A refusal prints only `refused N at P`."
 unfoldable pub refusedText : ℕ → ℕ → List ℕ
 refusedText k p = pair "refused " k " at " p ++ lineEnd
 
-abbrev pub textOf : Answer Report → List ℕ → List ℕ → List ℕ → List ℕ
-textOf (given r) pebs map states = reportText r pebs map states
-textOf (refused k p) pebs map states = refusedText k p
+abbrev pub textOf : Answer Report → Tables → List ℕ
+textOf (given r) t = reportText r t
+textOf (refused k p) t = refusedText k p

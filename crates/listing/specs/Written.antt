@@ -1,5 +1,5 @@
--- What the contracts here cite: a text written at a place of a buffer, as far as the buffer goes; where the slip ends. No public promise names
--- them. Assumes nothing.
+-- What the contracts here cite: a text written at a place of a buffer, as far as the buffer goes; where the slip ends.
+-- No public promise names them. Assumes nothing.
 use mathlib.Core.Path.{_≡_}
 use mathlib.Core.List.{List, [], _∷_}
 use Prim.Native.Nat.{ℕ, zero, suc, _+_, _≤_}

@@ -3,15 +3,17 @@ ghost use mathlib.Core.Path.{_≡_};
 ghost use mathlib.Core.Bool.{cond};
 ghost use Prim.Native.Nat.{_+_, _*_, _≤_};
 ghost use lib.ListN.{length};
-ghost use Rattle.listing.specs.Text.{numbersPart, marksPart, attachedLine, counterWord, pebLine, mapLine, volLine};
+ghost use Rattle.listing.specs.Text.{numbersPart, marksPart, attachedLine, counterText, pebLine, mapLine, volLine};
 ghost use Rattle.listing.specs.Text.{pebLines, mapLines, volLines, refusedText};
 ghost use Rattle.listing.specs.Written.{Written};
 use crate::write::append;
 use crate::write::labelled;
 use crate::write::pair;
-use report::NO_WORD;
 use report::Report;
 use report::state::ABSENT;
+use words::ENTRY_WORDS;
+use words::NO_WORD;
+use words::PEB_WORDS;
 
 // The report's numbers: the first four.
 fn numbers_part(out: &mut [u8], r: Report) -> usize
@@ -73,9 +75,9 @@ fn bit(b: bool) -> u64
 }
 
 // A blank, and a counter or the word for a lost one.
-fn counter_word(out: &mut [u8], at: usize, counter: u32) -> usize
+fn counter_text(out: &mut [u8], at: usize, counter: u32) -> usize
     requires { ⌜ at ≤ 0x1FFFFFFFFFFF ⌝ }
-    ensures text { λ r. ⌜ Written (now (out .entry)) at (counterWord counter) r (now (out .exit)) ⌝ }
+    ensures text { λ r. ⌜ Written (now (out .entry)) at (counterText counter) r (now (out .exit)) ⌝ }
     ensures end { λ r. ⌜ r ≤ at + 36 ⌝ }
 {
     if counter == NO_WORD {
@@ -90,7 +92,7 @@ fn peb_line(out: &mut [u8], at: usize, peb: u32, class: u32, counter: u32) -> us
     ensures end { λ r. ⌜ r ≤ at + 128 ⌝ }
 {
     let a = pair(out, at, b"peb ", peb as u64, b" ", class as u64);
-    let b = counter_word(out, a, counter);
+    let b = counter_text(out, a, counter);
     append(out, b, b"\n")
 }
 
@@ -125,7 +127,7 @@ pub fn peb_lines(out: &mut [u8], at: usize, n: u32, pebs: &[u32]) -> usize
     let mut end = at;
     let mut i: u32 = 0;
     while i < n {
-        let k = i as usize * 2;
+        let k = i as usize * PEB_WORDS;
         end = peb_line(out, end, i, pebs[k], pebs[k + 1]);
         i += 1;
     }
@@ -141,7 +143,7 @@ pub fn map_lines(out: &mut [u8], at: usize, entries: u32, map: &[u32]) -> usize
     let mut end = at;
     let mut i: u32 = 0;
     while i < entries {
-        let k = i as usize * 3;
+        let k = i as usize * ENTRY_WORDS;
         end = map_line(out, end, map[k], map[k + 1], map[k + 2]);
         i += 1;
     }

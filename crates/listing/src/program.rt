@@ -1,8 +1,8 @@
 // The listing program's whole job.
 ghost use mathlib.Core.Path.{_≡_};
 ghost use Rattle.geometry.specs.Slip.{slipGeometry};
-ghost use Rattle.report.specs.Attach.{attachedAnswer, answerOf};
-ghost use Rattle.listing.specs.Listing.{tooMuch, afterSlip, listed, listedOut};
+ghost use Rattle.report.specs.Attach.{lent, attachedAnswer, answerOf, tablesAfter};
+ghost use Rattle.listing.specs.Listing.{tooMuch, afterSlip, programTables, judging, listed, listedOut};
 ghost use Rattle.listing.specs.Render.{renderedAnswer, within};
 ghost use Rattle.listing.specs.Written.{SplitAt};
 use crate::Rendered;
@@ -58,7 +58,45 @@ fn refuse_long(slip: &[u8]) -> Attached
     }
 }
 
-// The text that is printed for the bytes read, at the start of the buffer; `more` says whether there was more input than they are.
+// What the input comes to, in the program's tables.
+fn judge(
+    input: &[u8],
+    more: bool,
+    pebs: &mut [u32],
+    map: &mut [u32],
+    states: &mut [u32],
+) -> Attached
+    requires { ⌜ lent (now pebs) (now map) (now states) ≡ programTables ⌝ }
+    ensures answer { λ r. ⌜ attachedAnswer r ≡ answerOf (judging (now (input .entry)) more) ⌝ }
+    ensures tables { λ _. ⌜ lent (now (pebs .exit)) (now (map .exit)) (now (states .exit))
+        ≡ tablesAfter (judging (now (input .entry)) more) programTables ⌝ }
+{
+    let at = slip_end(input);
+    if too_much(input, more) {
+        return refuse_long(&input[..at]);
+    }
+    attach::attach(&input[..at], &input[at..], pebs, map, states)
+}
+
+fn list_into(
+    input: &[u8],
+    more: bool,
+    pebs: &mut [u32],
+    map: &mut [u32],
+    states: &mut [u32],
+    out: &mut [u8],
+) -> Rendered
+    requires { ⌜ lent (now pebs) (now map) (now states) ≡ programTables ⌝ }
+    ensures answer { λ r. ⌜ renderedAnswer r ≡ listed (now (input .entry)) more (now (out .entry)) ⌝ }
+    ensures out { λ _. ⌜ now (out .exit) ≡ listedOut (now (input .entry)) more (now (out .entry)) ⌝ }
+    ensures room { λ r. ⌜ within r (now (out .exit)) ⌝ }
+{
+    let a = judge(input, more, pebs, map, states);
+    render(a, pebs, map, states, out)
+}
+
+// The text that is printed for the bytes read, at the start of the buffer; `more` says whether there was more input
+// than they are.
 pub fn list(input: &[u8], more: bool, out: &mut [u8]) -> Rendered
     ensures answer { λ r. ⌜ renderedAnswer r ≡ listed (now (input .entry)) more (now (out .entry)) ⌝ }
     ensures out { λ _. ⌜ now (out .exit) ≡ listedOut (now (input .entry)) more (now (out .entry)) ⌝ }
@@ -67,11 +105,5 @@ pub fn list(input: &[u8], more: bool, out: &mut [u8]) -> Rendered
     let mut pebs = [0u32; 118];
     let mut map = [0u32; 177];
     let mut states = [0u32; 128];
-    let at = slip_end(input);
-    if too_much(input, more) {
-        let a = refuse_long(&input[..at]);
-        return render(a, &pebs, &map, &states, out);
-    }
-    let a = attach::attach(&input[..at], &input[at..], &mut pebs, &mut map, &mut states);
-    render(a, &pebs, &map, &states, out)
+    list_into(input, more, &mut pebs, &mut map, &mut states, out)
 }

@@ -48,12 +48,23 @@ fn print_report(r: Report) {
     frames::next_number(r.mean as u64);
     frames::word(b" highest");
     frames::next_number(r.highest);
+    print_marks(r);
+}
+
+fn print_marks(r: Report) {
     frames::word(b" readonly");
-    frames::next_number(if r.read_only { 1 } else { 0 });
+    frames::next_number(bit(r.read_only));
     frames::word(b" table");
     frames::next_number(r.table as u64);
     frames::word(b" copies");
     frames::next_number(r.copies_mark as u64);
     frames::word(b" grade");
     frames::next_number(r.grade as u64);
+}
+
+fn bit(b: bool) -> u64 {
+    if b {
+        return 1;
+    }
+    0
 }

@@ -1,4 +1,5 @@
-// Lists the dump of each frame into a buffer of the frame's length, and prints the text and whether the bytes behind it stayed.
+// Lists the dump of each frame into a buffer of the frame's length, and prints the text and whether the bytes behind it
+// stayed.
 use listing::Rendered;
 
 fn main() {

@@ -5,7 +5,8 @@ use Rattle.transfer.specs.declared.Transfer.the-variants as row
 use Rattle.ubilist.specs.declared.input.Input.{Input}
 use Rattle.ubilist.specs.declared.input.Input.the-variants.{Whole, More, Failed}
 
--- a row of calls with room for one byte more than is held: full, there is more; ended, that is all; anything else is no input
+-- a row of calls with room for one byte more than is held: full, there is more; ended, that is all; anything else is
+-- no input
 abbrev pub inputOf : Transfer → Input
 inputOf (row.On p) = Failed
 inputOf row.Full = More

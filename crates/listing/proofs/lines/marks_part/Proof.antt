@@ -6,6 +6,13 @@ use Rattle.listing.specs.Text.{marksPart, pair, labelled}
 use Rattle.listing.proofs.lines.marks_part.Statement.{statement}
 use Rattle.listing.proofs.lines.marks_part.Tie as tie
 
+append-requires : tie.Need-append-requires
+append-requires c κs =
+    let second = c .before .before .before .before in
+    let first = second .before .before .before .before .before .before .before .before in
+    let start = first .before .before .before .before .before .before .before in
+    omega (arith, second .pair2 .ensures .1, first .pair .ensures .1, start .pre)
+
 returns : tie.Need-returns
 unfolding marksPart pair labelled
 returns c =
@@ -25,4 +32,4 @@ marks-part-spec =
     tie.close
     (tie.spec (λ c. search needs) (λ c κs. search needs) (λ c. search needs) (λ c. search needs)
     (λ c κs. search needs) (λ c. search needs) (λ c. search needs) (λ c. search needs) (λ c. search needs)
-    (λ c κs. search needs) (λ c. search needs) (λ c κs. search needs) (λ c. search needs) returns)
+    (λ c κs. search needs) (λ c. search needs) append-requires (λ c. search needs) returns)

@@ -12,7 +12,7 @@ returns c =
     let e = c .before .before .append .ensures in
     let k = c .before .before .before .before .before .before .before in
     let w = k .before .before .before .before .pair .ensures .0 in
-    (both-written w (both-written (k .counter-word .ensures .0) e), omega (arith, e .after))
+    (both-written w (both-written (k .counter-text .ensures .0) e), omega (arith, e .after))
 
 pub peb-line-spec : {M : Type 1} → statement M
 peb-line-spec =

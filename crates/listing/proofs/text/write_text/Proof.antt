@@ -1,10 +1,9 @@
 -- `listing::text::write_text` meets its contract. Assumes nothing.
-use mathlib.Core.Path.{_≡_, sym}
-use borrow.Author.Needs.{needs}
-use mathlib.Core.Path.{subst}
+use mathlib.Core.Path.{_≡_, sym, subst}
 use mathlib.Core.Bool.{true}
+use borrow.Author.Needs.{needs}
 use Rattle.report.specs.declared.Attached.{Attached}
-use Rattle.report.specs.Attach.{attachedAnswer}
+use Rattle.report.specs.Attach.{lent, attachedAnswer}
 use Rattle.listing.specs.Text.{textOf}
 use Rattle.listing.specs.Render.{tablesHold}
 use Rattle.listing.specs.Written.{Written}
@@ -13,17 +12,28 @@ use Rattle.listing.proofs.text.write_text.Statement.{statement}
 use Rattle.listing.proofs.text.write_text.Tie as tie
 
 write-report-requires : tie.Need-write-report-requires
-write-report-requires c κs = let a = c .before .before .before .before .before .before .before .before .args in
+write-report-requires c κs =
+    let s = c .before .before .before .before .before .before .before .before in
+    let a = s .args in
+    let t = lent (a .pebs .now) (a .map .now) (a .states .now) in
     let q = c .before .before .a .given in
-    held (q .0 .0) (a .pebs .now) (a .map .now) (a .states .now) (subst (λ (x : Attached). tablesHold (attachedAnswer x) (a .pebs .now) (a .map .now) (a .states .now) ≡ true) (q .1) (c .before .before .before .before .before .before .before .before .pre))
+    held (q .0 .0) t (subst (λ (x : Attached). tablesHold (attachedAnswer x) t ≡ true) (q .1) (s .pre))
 
 returns : tie.Need-returns
-returns c = let a = c .before .before .before .before .before .before .before .before .before .before .before .args in
-    subst (λ (x : Attached). Written (a .out .now) 0 (textOf (attachedAnswer x) (a .pebs .now) (a .map .now) (a .states .now)) (c .before .before .write-report .result) (c .before .before .write-report .last .0)) (sym (c .before .before .before .before .before .a .given .1)) (c .before .before .write-report .ensures)
+returns c =
+    let w = c .before .before .write-report in
+    let a = c .before .before .before .before .before .before .before .before .before .before .before .args in
+    let t = lent (a .pebs .now) (a .map .now) (a .states .now) in
+    subst (λ (x : Attached). Written (a .out .now) 0 (textOf (attachedAnswer x) t) (w .result) (w .last .0))
+    (sym (c .before .before .before .before .before .a .given .1)) (w .ensures)
 
 returns-2 : tie.Need-returns-2
-returns-2 c = let a = c .before .before .before .before .before .before .before .before .before .before .before .args in
-    subst (λ (x : Attached). Written (a .out .now) 0 (textOf (attachedAnswer x) (a .pebs .now) (a .map .now) (a .states .now)) (c .before .before .refused-line .result) (c .before .before .refused-line .last .0)) (sym (c .before .before .before .before .before .a2 .given .1)) (c .before .before .refused-line .ensures)
+returns-2 c =
+    let w = c .before .before .refused-line in
+    let a = c .before .before .before .before .before .before .before .before .before .before .before .args in
+    let t = lent (a .pebs .now) (a .map .now) (a .states .now) in
+    subst (λ (x : Attached). Written (a .out .now) 0 (textOf (attachedAnswer x) t) (w .result) (w .last .0))
+    (sym (c .before .before .before .before .before .a2 .given .1)) (w .ensures)
 
 pub write-text-spec : {M : Type 1} → statement M
 write-text-spec =
