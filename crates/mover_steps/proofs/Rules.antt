@@ -16,9 +16,9 @@ use Rattle.header.specs.Fields.{isGood}
 use Rattle.header.specs.Ec.{judgeEc}
 use Rattle.header.specs.Vid.{judgeVid}
 use Rattle.geometry.specs.Image.{imageRules}
-use Rattle.plan.specs.Step.{stepRules, runnable}
-use Rattle.plan.specs.Running.{Measured, Running}
-use Rattle.plan.specs.declared.Plan.{Plan}
+use Rattle.mover_rules.specs.Step.{stepRules, runnable}
+use Rattle.mover_rules.specs.Running.{Measured, Running}
+use Rattle.mover_rules.specs.declared.Plan.{Plan}
 
 -- ---- a rule that does not hold
 

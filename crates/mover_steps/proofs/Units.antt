@@ -10,10 +10,10 @@ use lib.ListN.{length}
 use Rattle.base.specs.Lists.{part, put}
 use Rattle.geometry.specs.declared.Geometry.{Geometry}
 use Rattle.job.specs.Write.{pebStart}
-use Rattle.plan.specs.Write.{dataSteps, unitBytes}
-use Rattle.plan.specs.Running.{Running}
-use Rattle.plan.specs.declared.Plan.{Plan}
-use Rattle.plan.proofs.Steps.{unit-within}
+use Rattle.mover_rules.specs.Write.{dataSteps, unitBytes}
+use Rattle.mover_rules.specs.Running.{Running}
+use Rattle.mover_rules.specs.declared.Plan.{Plan}
+use Rattle.mover_rules.proofs.Steps.{unit-within}
 
 -- runs at one place of two blocks do not overlap
 apart : (a b size at n : ℕ) → a ≢ b → at + n ≤ size → (a * size + at + n ≤ b * size + at) ⊎ (b * size + at + n ≤ a * size + at)

@@ -15,10 +15,10 @@ use Rattle.job.specs.Write.{Write, appliedWhole, pebStart}
 use Rattle.job.specs.Relocation.{relocating}
 use Rattle.job.specs.Job.{on, done, stepWrite, stepAnswer, stepping}
 use Rattle.job.proofs.Relocated.{vid-write, unit-write, erase-write, ec-write}
-use Rattle.plan.specs.Write.{planGeometry, dataSteps, stepCount, unitBytes, relocation, writeAfter}
-use Rattle.plan.specs.Step.{runnable, oneOn, moverJob}
-use Rattle.plan.specs.declared.Plan.{Plan}
-use Rattle.plan.proofs.Steps.{mover-lawful}
+use Rattle.mover_rules.specs.Write.{planGeometry, dataSteps, stepCount, unitBytes, relocation, writeAfter}
+use Rattle.mover_rules.specs.Step.{runnable, oneOn, moverJob}
+use Rattle.mover_rules.specs.declared.Plan.{Plan}
+use Rattle.mover_rules.proofs.Steps.{mover-lawful}
 
 -- ---- the write, where one is left
 

@@ -1,10 +1,10 @@
 // The rest of a move at once.
 ghost use mathlib.Core.Path.{_≡_};
 ghost use Rattle.job.specs.Job.{finishing};
-ghost use Rattle.plan.specs.Step.{moverJob, steppedAnswer};
+ghost use Rattle.mover_rules.specs.Step.{moverJob, steppedAnswer};
 use crate::steps::step;
-use plan::Plan;
-use plan::Stepped;
+use mover_rules::Plan;
+use mover_rules::Stepped;
 
 // All steps that are left of a move.
 pub fn finish(plan: Plan, image: &mut [u8]) -> Stepped

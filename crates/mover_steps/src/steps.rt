@@ -4,13 +4,13 @@ ghost use Prim.Native.Nat.{_+_, _-_, _*_, _/_, _≤_, _<_, min};
 ghost use Rattle.base.specs.Lists.{put};
 ghost use Rattle.job.specs.Write.{appliedWhole, pebStart};
 ghost use Rattle.job.specs.Job.{stepping};
-ghost use Rattle.plan.specs.Write.{dataSteps, stepCount, unitBytes, writeAfter};
-ghost use Rattle.plan.specs.Step.{runnable, moverJob, steppedAnswer};
-ghost use Rattle.plan.specs.Running.{Measured, Running};
+ghost use Rattle.mover_rules.specs.Write.{dataSteps, stepCount, unitBytes, writeAfter};
+ghost use Rattle.mover_rules.specs.Step.{runnable, moverJob, steppedAnswer};
+ghost use Rattle.mover_rules.specs.Running.{Measured, Running};
 use geometry::Geometry;
 use geometry::GeometryRead;
-use plan::Plan;
-use plan::Stepped;
+use mover_rules::Plan;
+use mover_rules::Stepped;
 
 // May the plan's steps run on the image? Refusal 18 past the geometry.
 fn may_run(plan: Plan, g: Geometry, image: &[u8]) -> bool

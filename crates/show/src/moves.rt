@@ -1,8 +1,8 @@
 // Plans and answers of moves, in payloads and on lines.
 ghost use Prim.Native.Nat.{_≤_};
-use plan::Begun;
-use plan::Plan;
-use plan::Stepped;
+use mover_rules::Begun;
+use mover_rules::Plan;
+use mover_rules::Stepped;
 
 // A plan's 81 bytes from `at` on.
 pub fn plan_at(payload: &[u8], at: usize) -> Plan

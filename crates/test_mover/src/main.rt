@@ -1,9 +1,9 @@
 // Carries out the operations of each frame on its image, and prints what each answers and leaves.
 use lookup::LebPlace;
 use lookup::PebReport;
-use plan::Begun;
-use plan::Plan;
-use plan::Stepped;
+use mover_rules::Begun;
+use mover_rules::Plan;
+use mover_rules::Stepped;
 
 fn main() {
     for _ in 0..frames::count() {
@@ -108,7 +108,7 @@ fn begin(
     let volume = frames::u32_at(s, 1);
     let lnum = frames::u32_at(s, 5);
     let target = frames::u32_at(s, 9);
-    let r = mover::begin(slip, image, pebs, map, states, volume, lnum, target);
+    let r = mover_begin::begin(slip, image, pebs, map, states, volume, lnum, target);
     show::begun(r);
     show::image(image);
     show::tables(pebs, map, states);

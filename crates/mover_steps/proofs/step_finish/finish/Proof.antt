@@ -5,9 +5,9 @@ use borrow.Author.Needs.{needs}
 use lib.ListN.{length}
 use Rattle.job.specs.Job.{finishing}
 use Rattle.job.proofs.Finish.{fewer, finish-on, finish-last}
-use Rattle.plan.specs.Write.{stepCount}
-use Rattle.plan.specs.Step.{moverJob, steppedAnswer}
-use Rattle.plan.proofs.Steps.{mover-lawful}
+use Rattle.mover_rules.specs.Write.{stepCount}
+use Rattle.mover_rules.specs.Step.{moverJob, steppedAnswer}
+use Rattle.mover_rules.proofs.Steps.{mover-lawful}
 use mathlib.Core.Logic.{inl, inr}
 use Rattle.mover_steps.proofs.step_finish.finish.Statement.{statement}
 use Rattle.mover_steps.proofs.step_finish.finish.Tie as tie

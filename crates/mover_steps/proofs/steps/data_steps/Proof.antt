@@ -1,7 +1,7 @@
 -- `mover_steps::steps::data_steps` meets its contract. Assumes nothing.
 use mathlib.Core.Path.{refl}
 use borrow.Author.Needs.{needs}
-use Rattle.plan.specs.Write.{dataSteps}
+use Rattle.mover_rules.specs.Write.{dataSteps}
 use Rattle.mover_steps.proofs.Rules.{steps-most}
 use Rattle.mover_steps.proofs.steps.data_steps.Statement.{statement}
 use Rattle.mover_steps.proofs.steps.data_steps.Tie as tie

@@ -2,7 +2,7 @@
 use mathlib.Core.Path.{sym, ap, _∙_}
 use borrow.Author.Needs.{needs}
 use Rattle.geometry.specs.Geometry.{geometryRead}
-use Rattle.plan.proofs.Rules.{measured}
+use Rattle.mover_rules.proofs.Rules.{measured}
 use Rattle.mover_steps.proofs.Rules.{outside}
 use Rattle.mover_steps.proofs.Whole.{step-refused}
 use Rattle.mover_steps.proofs.steps.step.Statement.{statement}

@@ -3,10 +3,10 @@ use mathlib.Core.Path.{_≡_}
 use mathlib.Core.Bool.{true}
 use borrow.Author.Needs.{needs}
 use Rattle.base.proofs.Answers.{was-false, was-true}
-use Rattle.plan.specs.Write.{stepCount}
-use Rattle.plan.specs.Step.{runnable, oneOn}
-use Rattle.plan.specs.Running.{Running}
-use Rattle.plan.proofs.Rules.{running}
+use Rattle.mover_rules.specs.Write.{stepCount}
+use Rattle.mover_rules.specs.Step.{runnable, oneOn}
+use Rattle.mover_rules.specs.Running.{Running}
+use Rattle.mover_rules.proofs.Rules.{running}
 use Rattle.mover_steps.proofs.Rules.{data-bounds}
 use Rattle.mover_steps.proofs.Whole.{step-refused, step-done, step-on}
 use Rattle.mover_steps.proofs.steps.step_measured.Statement.{statement}

@@ -2,7 +2,7 @@
 use Prim.Native.Nat.{_+_, _*_, _≤_, _<_}
 use native.Mathlib.Omega.{arith}
 use borrow.Author.Needs.{needs}
-use Rattle.plan.proofs.Steps.{unit-within}
+use Rattle.mover_rules.proofs.Steps.{unit-within}
 use Rattle.mover_steps.proofs.Units.{at-within, copyable, unit-stored}
 use Rattle.mover_steps.proofs.steps.store_unit.Statement.{statement}
 use Rattle.mover_steps.proofs.steps.store_unit.Tie as tie
