@@ -9,14 +9,14 @@ use lib.ListN.{length, take, drop, replicate, length-append, length-drop, length
 use lib.Seq.{take-append-seam, drop-append-seam}
 use Rattle.base.proofs.Answers.{by-option}
 use Rattle.base.proofs.Lists.{table-length}
-use Rattle.words.specs.Words.{pebWordsNeeded, mapWordsNeeded, stateWordsNeeded}
+use Rattle.words.specs.Words.{pebWordsNeeded, mapWordsNeeded, stateWordsNeeded, noWord}
 use Rattle.geometry.specs.declared.Geometry.{Geometry}
 use Rattle.header.specs.declared.EcHeader.{EcHeader}
 use Rattle.header.specs.Fields.{Verdict, good, bad, newer}
 use Rattle.header.specs.Ec.{readEc}
 use Rattle.header.proofs.Laws.{ec-good}
 use Rattle.report.specs.View.{allFF, ecBlank, ecOf, goodEc, viewOf, viewsOf, Medium, mediumOf, pebAt, ecs}
-use Rattle.report.specs.Report.{noWord, counterOr, hasCounter, counterAt, refusal, entries, stateAt}
+use Rattle.report.specs.Report.{counterOr, hasCounter, counterAt, refusal, entries, stateAt}
 use Rattle.report.specs.Scan.{Refusal}
 use Rattle.report.specs.Attach.{
   Tables,

@@ -8,7 +8,6 @@ use lib.ListN.{length, take, drop, replicate, length-append, length-take, length
 use lib.Seq.{take-append-seam, drop-append-seam, take-at, drop-at, take-append-le, drop-append-le, take-append-add}
 use lib.Seq.{drop-append-add, length-take-le, drop-drop, drop-length}
 use Rattle.base.specs.Lists.{part, put, Bytes}
-use Rattle.base.proofs.Lists as lists
 use Rattle.base.proofs.Lists.{bytes-take, bytes-drop}
 
 -- ---- stores
@@ -107,8 +106,6 @@ pub put-all : (bs s : List ℕ) → length bs ≡ length s → put 0 bs s ≡ bs
 put-all bs s e = rw (zero-add, e, drop-length, append-nil)
 
 -- a part of the front (Lists has it without the length)
-pub part-take : (r c d : ℕ) (b : List ℕ) → c + r ≤ d → d ≤ length b → part c r (take d b) ≡ part c r b
-part-take r c d b h k = lists.part-take c r d b h
 
 -- ---- runs of one number
 

@@ -1,12 +1,12 @@
 -- Laws of choosing a LEB's copy once, and marking it. Assumes nothing.
 use mathlib.Core.Path.{_≡_, refl, sym, ap, ap₂, _∙_}
 use mathlib.Core.Logic.{_≢_, inl, inr, ⊎-elim}
-use mathlib.Core.Bool.{true, false≢true}
-use mathlib.Core.Option.{Option, none, some}
+use mathlib.Core.Bool.{true}
+use mathlib.Core.Option.{Option, some}
 use mathlib.Core.List.{List, [], _∷_, _++_}
 use Prim.Native.Nat.{ℕ, zero, suc, _+_, _*_, _≤_, _<_}
 use native.Mathlib.Omega.{arith}
-use borrow.Author.Tests.{eqb-true, eq-eqb}
+use borrow.Author.Tests.{eq-eqb}
 use lib.ListN.{length, getD, set, drop, length-set}
 use Rattle.base.specs.Below.{anyBelow, concatBelow}
 use Rattle.base.proofs.Answers.{none-some, by-test}
@@ -14,6 +14,7 @@ use Rattle.base.proofs.Below.{eq-or-ne, one-more, any-hit}
 use Rattle.words.specs.Words.{noWord, pebStride, pebWordsNeeded, classWord, volumeWord, lnumWord}
 use Rattle.words.proofs.Laws.{class-set-same, class-set-other, class-set-counter, class-set-tail, class-at, counter-at}
 use Rattle.geometry.specs.declared.Geometry.{Geometry}
+use Rattle.report.proofs.Facts.{place-is}
 use Rattle.report.specs.View.{Copy, EcView, VidView, vidGood, vidNewer, vidBlank, vidBad, Views, Medium, mediumOf, ecs, ecGood, ecNewer, ecBlank, ecLost, copies, goodVid, isMappable}
 use Rattle.report.specs.Class.{classBy, firstClass}
 use Rattle.report.specs.Choice.{chosen}
@@ -26,10 +27,6 @@ use Rattle.choice.specs.Keyed.{Holds, Keyed, sameLeb}
 use Rattle.choice.specs.Marking.{MarkedTo}
 use Rattle.choice.proofs.Words.{held, has-words, same-true, mappable-word}
 use Rattle.choice.proofs.Rows.{rows-there}
-
-pub place-is : (x : Option ℕ) (i : ℕ) → isPlace x i ≡ true → x ≡ some i
-place-is none i e = absurd (false≢true e)
-place-is (some p) i e = ap some (eqb-true p i e)
 
 -- the class of a copy of a user or layout LEB
 pub class-of : (f : Copy → ℕ) (e : EcView) (v : VidView) (c : Copy) → goodVid v ≡ some c

@@ -9,13 +9,12 @@ use native.Mathlib.Nat.{mul-le-mul-right}
 use borrow.Author.Tests.{eqb-true, eqb-false, eq-eqb}
 use lib.Dec.{eqb}
 use lib.ListN.{getD}
-use Rattle.base.proofs.Answers.{by-test, not-so, and-left, and-right}
+use Rattle.base.proofs.Answers.{by-test, not-so, and-left, and-right, by-option, none-some}
 use Rattle.words.specs.Words.{noWord, volumeWord, lnumWord}
 use Rattle.geometry.specs.declared.Geometry.{Geometry}
 use Rattle.report.specs.View.{Copy, VidView, vidGood, vidNewer, vidBlank, vidBad, copyOf, viewsOf, goodVid, copies, isMappable}
 use Rattle.report.specs.Choice.{repeats}
 use Rattle.report.specs.Scratch.{keyWords}
-use Rattle.base.proofs.Answers.{by-option, none-some}
 use Rattle.copies.specs.InPlace.{copyAt}
 use Rattle.copies.proofs.Copies.{copy-is}
 use Rattle.choice.specs.Keyed.{Holds, Keyed, Within, sequenceAt, sameLeb, repeatsAt}

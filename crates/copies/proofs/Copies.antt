@@ -11,7 +11,7 @@ use lib.Dec.{eqb, ltb}
 use lib.ListN.{length, take, drop}
 use Rattle.base.specs.Answers.{mapO, allOf}
 use Rattle.base.specs.Lists.{part, Bytes}
-use Rattle.base.proofs.Answers.{each-holds, and-left}
+use Rattle.base.proofs.Answers.{each-holds, and-left, by-option, none-some, mapO-some}
 use Rattle.base.proofs.Lists.{length-part, bytes-part, part-part}
 use Rattle.crc32.specs.Crc.{crcOf}
 use Rattle.geometry.specs.declared.Geometry.{Geometry}
@@ -26,7 +26,6 @@ use Rattle.report.specs.Choice.{chosen}
 use Rattle.report.specs.Volumes.{faceOf, facesOf, placesOf}
 use Rattle.report.specs.Report.{faces, places}
 use Rattle.report.proofs.Choice.{chosen-at}
-use Rattle.base.proofs.Answers.{by-option, none-some, mapO-some}
 use Rattle.copies.specs.InPlace.{headerAt, copyAt, faceAt, HasCopy}
 
 -- ---- a good copy is the one of the fields in its place

@@ -9,7 +9,7 @@ use native.Mathlib.Omega.{arith}
 use lib.ListN.{take, replicate, length-replicate}
 use lib.Seq.{take-at}
 use Rattle.base.specs.Lists.{part, put, eqs}
-use Rattle.base.proofs.Answers.{by-test, clash, or-true-cases}
+use Rattle.base.proofs.Answers.{by-test, clash, or-true-cases, none-some}
 use Rattle.base.proofs.Lists.{eqs-true}
 use Rattle.base.proofs.Stores.{put-behind, drop-replicate, take-replicate}
 use Rattle.field.specs.Be.{toBeOn}
@@ -23,7 +23,6 @@ use Rattle.header.specs.declared.VidHeader.{VidHeader}
 use Rattle.header.proofs.Writes.{ec-64}
 use Rattle.header.proofs.RoundTrip.{ec-judged, vid-judged}
 use Rattle.report.specs.View.{allFF, Copy, EcView, ecGood, ecBlank, ecLost, VidView, vidGood, vidBlank, vidBad, ecOf, copyOf, vidOf, vidPart, viewOf, goodEc, goodVid}
-use Rattle.report.proofs.First.{none-some}
 use Rattle.job.specs.Torn.{unlike}
 
 -- a written header is not all 0xFF

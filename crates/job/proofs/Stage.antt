@@ -8,7 +8,7 @@ use native.Mathlib.Omega.{arith}
 use lib.Dec.{eqb}
 use borrow.Author.Tests.{eqb-true, eq-eqb, ne-eqb}
 use Rattle.base.proofs.Answers.{by-test}
-use Rattle.base.proofs.Below.{eq-or-ne}
+use Rattle.base.proofs.Below.{eq-or-ne, first-some}
 use Rattle.header.specs.declared.EcHeader.{EcHeader}
 use Rattle.header.specs.declared.VidHeader.{VidHeader}
 use Rattle.report.specs.View.{Copy, ecGood, vidGood, vidBlank, vidBad, Views, Medium, ecs, copies, isMappable}
@@ -18,7 +18,7 @@ use Rattle.report.specs.Volumes.{faceOf, facesOf, placesOf, tableLeb, tableReco
 use Rattle.report.specs.Report.{faces, places, records, refusal}
 use Rattle.report.proofs.Choice.{Moving, chosen-at, chosen-cong, chosen-unsound, chosen-moved, chosen-other, key-or}
 use Rattle.report.proofs.Map.{placesWith}
-use Rattle.report.proofs.Facts.{seqIn, Parts, parts, of-parts, first-some, none5678-at, no-5678, none9-at, no-9, no-10}
+use Rattle.report.proofs.Facts.{seqIn, Parts, parts, of-parts, none5678-at, no-5678, none9-at, no-9, no-10}
 use Rattle.report.proofs.Tables.{no-1112}
 
 -- ---- refusal 9

@@ -18,7 +18,8 @@ use Rattle.report.specs.Scratch.{markedClass}
 use Rattle.copies.specs.InPlace.{copyAt}
 use Rattle.copies.proofs.Copies.{copy-at}
 use Rattle.choice.proofs.Words.{has-words}
-use Rattle.choice.proofs.Marks.{place-is, class-of}
+use Rattle.report.proofs.Facts.{place-is}
+use Rattle.choice.proofs.Marks.{class-of}
 use Rattle.layout.specs.Layout.{isChosen, Found, Chosen}
 
 -- a marked class of 1 is a chosen copy's

@@ -21,7 +21,8 @@ use Rattle.geometry.specs.Slip.{valueAt, wellFormed, slipGeometry}
 use Rattle.report.specs.declared.Report.{Report}
 use Rattle.report.specs.View.{Medium, mediumOf}
 use Rattle.report.specs.Scan.{Refusal}
-use Rattle.report.specs.Report.{noWord, entries, refusal}
+use Rattle.report.specs.Report.{entries, refusal}
+use Rattle.words.specs.Words.{noWord}
 use Rattle.report.specs.Attach.{Tables, Outcome, early, late, whole, roomRules, longEnough, byViews, byGeometry}
 use Rattle.report.specs.Attach.{attaching, reportOf}
 use Rattle.report.proofs.Tables.{entries-fit}

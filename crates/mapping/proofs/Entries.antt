@@ -2,7 +2,7 @@
 -- Assumes nothing.
 use mathlib.Core.Path.{_≡_, refl, sym, ap, ap₂, _∙_}
 use mathlib.Core.Logic.{inl, inr, ⊎-elim}
-use mathlib.Core.Bool.{Bool, true, false, cond, false≢true, or-true}
+use mathlib.Core.Bool.{Bool, true, false, cond, or-true}
 use mathlib.Core.Option.{Option, none, some}
 use mathlib.Core.List.{List, [], _∷_, _++_, append-assoc, append-nil}
 use Prim.Native.Nat.{ℕ, _+_, _-_, _≤_, _<_}
@@ -20,6 +20,7 @@ use Rattle.base.proofs.Rows.{rows-tail}
 use Rattle.header.specs.Vid.{layoutVolume}
 use Rattle.words.specs.Words.{noWord, entryStride, mostPebs, mapWordsNeeded, classWord, counterWord, volumeWord, lnumWord, pebWord}
 use Rattle.words.proofs.Laws.{class-at, counter-at, volume-at, lnum-at, peb-at}
+use Rattle.report.proofs.Facts.{place-is}
 use Rattle.report.specs.View.{Copy, EcView, ecGood, ecNewer, ecBlank, ecLost, VidView, vidGood, vidNewer, vidBlank, vidBad, Medium, ecs, copies, goodVid, isMappable}
 use Rattle.report.specs.Choice.{chosen}
 use Rattle.report.specs.Volumes.{Places, placesOf, recordFor, reservedOf, mapUpTo, mapOf}
@@ -61,10 +62,6 @@ class-is t ps i e vidNewer = refl
 class-is t ps i e vidBad = refl
 
 -- ---- which PEBs are in the map
-
-place-is : (x : Option ℕ) (i : ℕ) → isPlace x i ≡ true → x ≡ some i
-place-is none i e = absurd (false≢true e)
-place-is (some p) i e = ap some (eqb-true p i e)
 
 place-chosen : (x : Option (ℕ × Copy)) (p : ℕ) → mapO (λ (y : ℕ × Copy). y .0) x ≡ some p
     → (c : Copy) × (x ≡ some (p, c))

@@ -33,7 +33,8 @@ use Rattle.report.specs.View.{
   isMappable,
 }
 use Rattle.report.specs.Volumes.{Places}
-use Rattle.report.specs.Report.{noWord, classOf, classAt, counterAt, isInternal, meanOf, records, places, isPlace, staysIn}
+use Rattle.report.specs.Report.{classOf, classAt, counterAt, isInternal, meanOf, records, places, isPlace, staysIn}
+use Rattle.words.specs.Words.{noWord}
 use Rattle.mover_rules.specs.Headers.{dataEnd, oldCounter}
 use Rattle.mover_checks.specs.Reported.{Reported, isNoTarget}
 use Rattle.mover_checks.proofs.Data.{clean-end}

@@ -11,7 +11,7 @@ use lib.ListN.{length, drop, getD, replicate, length-drop}
 use lib.Seq.{take-all, drop-drop}
 use Rattle.base.specs.Answers.{given, allOf}
 use Rattle.base.specs.Lists.{part, put, Bytes}
-use Rattle.base.proofs.Answers.{either-way, each-holds}
+use Rattle.base.proofs.Answers.{either-way, each-holds, none-some}
 use Rattle.base.proofs.Lists.{length-part, part-part}
 use Rattle.base.proofs.Stores.{drop-replicate}
 use Rattle.geometry.specs.Geometry.{geometryRules}
@@ -27,7 +27,6 @@ use Rattle.report.specs.Report.{faces, places, records, classAt, entries, refus
 use Rattle.geometry.specs.Image.{pebCount, imageRules}
 use Rattle.report.specs.Attach.{AttachRequest, whole}
 use Rattle.report.proofs.Choice.{chosen-at}
-use Rattle.report.proofs.First.{none-some}
 use Rattle.report.proofs.Map.{placesWith, map-moved}
 use Rattle.mover_rules.specs.declared.Plan.{Plan}
 use Rattle.mover_rules.specs.Headers.{newVid}

@@ -10,7 +10,7 @@ use borrow.Author.Tests.{eq-eqb, ne-eqb, not-true}
 use lib.ListN.{take, drop, replicate}
 use lib.Seq.{drop-drop}
 use Rattle.base.specs.Lists.{part, eqs}
-use Rattle.base.proofs.Answers.{clash}
+use Rattle.base.proofs.Answers.{clash, none-some}
 use Rattle.base.proofs.Below.{eq-or-ne}
 use Rattle.base.proofs.Lists.{eqs-refl, eqs-true}
 use Rattle.crc32.specs.Crc.{crcOf}
@@ -24,7 +24,6 @@ use Rattle.report.specs.Choice.{sound}
 use Rattle.report.specs.Report.{refusal}
 use Rattle.report.specs.Volumes.{contentOf, faceOf}
 use Rattle.report.proofs.Choice.{chosen-at}
-use Rattle.report.proofs.First.{none-some}
 use Rattle.mover_rules.specs.declared.Plan.{Plan}
 use Rattle.mover_rules.proofs.Good.{Good}
 use Rattle.job.specs.Torn.{unlike}

@@ -9,7 +9,7 @@ use native.Mathlib.Omega.{arith}
 use lib.Dec.{eqb, ltb}
 use borrow.Author.Tests.{eqb-true, eqb-false, ltb-true, lt-ltb, eq-eqb, not-false}
 use Rattle.base.specs.Answers.{Answer, given}
-use Rattle.base.proofs.Answers.{by-test, or-left, or-right, or-true-right}
+use Rattle.base.proofs.Answers.{by-test, or-left, or-right, or-true-right, none-some}
 use Rattle.base.proofs.Highest.{max-at}
 use Rattle.header.specs.Vid.{layoutVolume}
 use Rattle.header.specs.declared.EcHeader.{EcHeader}
@@ -17,7 +17,6 @@ use Rattle.report.specs.View.{Copy, EcView, ecGood, ecNewer, ecBlank, ecLost, V
 use Rattle.report.specs.Choice.{sound, chosen}
 use Rattle.report.specs.Volumes.{Places, recordFor, reservedOf, mapOf}
 use Rattle.report.specs.Report.{isPlace, staysIn, classOf, highestOf, sequenceOr0, places, records, classAt, entries}
-use Rattle.report.proofs.First.{none-some}
 use Rattle.report.proofs.Facts.{when-none}
 use Rattle.report.proofs.Map.{in-map}
 use Rattle.mover_rules.specs.Headers.{isStatic, oldCounter}

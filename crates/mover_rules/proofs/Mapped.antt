@@ -8,13 +8,12 @@ use Prim.Native.Nat.{ℕ}
 use lib.Dec.{eqb}
 use borrow.Author.Tests.{eqb-true, eq-eqb}
 use Rattle.base.specs.Answers.{mapO}
-use Rattle.base.proofs.Answers.{by-test, and-left, and-right, or-true-cases, or-true-right}
+use Rattle.base.proofs.Answers.{by-test, and-left, and-right, or-true-cases, or-true-right, none-some}
 use Rattle.report.specs.View.{Copy, Medium, copies}
 use Rattle.report.specs.Choice.{chosen}
 use Rattle.report.specs.Volumes.{placesOf, Entry, mapOf}
 use Rattle.report.specs.Report.{places, records, entries}
 use Rattle.report.proofs.Choice.{chosen-at}
-use Rattle.report.proofs.First.{none-some}
 use Rattle.report.proofs.Map.{in-map}
 use Rattle.mover_rules.specs.Begin.{isIn, mapped}
 

@@ -8,11 +8,11 @@ use native.Mathlib.Omega.{arith}
 use lib.Dec.{ltb, eqb}
 use borrow.Author.Tests.{ltb-true, ltb-false, eqb-true, eq-eqb, lt-ltb, le-ltb}
 use Rattle.base.specs.Below.{anyBelow}
-use Rattle.base.proofs.Answers.{and-left, and-right, clash}
+use Rattle.base.proofs.Answers.{and-left, and-right, clash, not-so, none-some}
 use Rattle.base.proofs.Below.{eq-or-ne, none-at, none-intro, any-intro, any-cong, first-none-at, first-cong, first-only, first-hit}
 use Rattle.report.specs.View.{Copy}
 use Rattle.report.specs.Choice.{sound, ofKey, beats, unless, unbeaten, pick, chosen}
-use Rattle.report.proofs.First.{none-some, First, first}
+use Rattle.report.proofs.First.{First, first}
 
 -- ---- `beats` is a strict order
 
@@ -113,10 +113,6 @@ pick-some n f i c h e q = none-some (sym (first-none-at n (λ i. unbeaten n f (f
     is = rw (b .is, none-intro n (λ j. beats (f j) (b .value)) (λ j k. safe (f j) (b .leads j k)))
 
 -- ---- 01's words
-
-not-so : (b : Bool) → (b ≡ true → ⊥) → b ≡ false
-not-so true h = absurd (h refl)
-not-so false h = refl
 
 -- "choose the highest sequence that is sound; if none is sound, the lowest sequence"
 pub record IsChoice (n : ℕ) (f : ℕ → Option Copy) (c : Copy) : Type 0 where

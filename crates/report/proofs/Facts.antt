@@ -1,17 +1,15 @@
 -- What is known of an image that attaches, refusal by refusal, and what is enough for it to attach. Assumes nothing.
 use mathlib.Core.Path.{_≡_, refl, sym, _∙_, ap}
 use mathlib.Core.Logic.{_≢_, ⊎-elim}
-use mathlib.Core.Bool.{Bool, true, false, not, _&&_}
+use mathlib.Core.Bool.{Bool, true, false, not, _&&_, false≢true}
 use mathlib.Core.Option.{Option, none, some}
 use Prim.Native.Nat.{ℕ, _≤_, _<_}
 use native.Mathlib.Omega.{arith}
 use lib.Dec.{eqb}
 use borrow.Author.Tests.{eqb-true, eq-eqb, not-false}
 use Rattle.base.specs.Below.{allBelow, anyBelow}
-use Rattle.base.proofs.Answers.{clash, by-test, none-some, and-left, and-right, orElse-none}
-pub use Rattle.base.proofs.Answers.{mapO-none}
-pub use Rattle.base.proofs.Below.{first-some}
-use Rattle.base.proofs.Below.{eq-or-ne, lt-or-le, all-at, none-at, none-intro, first-none-at, first-none, first-hit}
+use Rattle.base.proofs.Answers.{clash, by-test, none-some, and-left, and-right, orElse-none, mapO-none}
+use Rattle.base.proofs.Below.{first-some, eq-or-ne, lt-or-le, all-at, none-at, none-intro, first-none-at, first-none, first-hit}
 use Rattle.geometry.specs.declared.Geometry.{Geometry}
 use Rattle.header.specs.declared.EcHeader.{EcHeader}
 use Rattle.report.specs.View.{
@@ -38,7 +36,7 @@ use Rattle.report.specs.Scan.{when, differs, imageSeq, ecRefusal, vidRef
 use Rattle.report.specs.Class.{isUnused}
 use Rattle.report.specs.Choice.{ofKey, repeats, refusal9, pick, chosen}
 use Rattle.report.specs.Volumes.{tableLeb, refusal1112}
-use Rattle.report.specs.Report.{faces, places, records, refusal}
+use Rattle.report.specs.Report.{isPlace, faces, places, records, refusal}
 use Rattle.report.proofs.Choice.{IsChoice, choice-sequence, pick-some, pick-literal, ofKey-some}
 
 -- ---- answers and tests
@@ -49,6 +47,10 @@ when-none false k e = refl
 
 pub differs-false : (s x : ℕ) → differs (some s) x ≡ false → x ≡ s
 differs-false s x e = eqb-true x s (not-false (eqb x s) e)
+
+pub place-is : (x : Option ℕ) (i : ℕ) → isPlace x i ≡ true → x ≡ some i
+place-is none i e = absurd (false≢true e)
+place-is (some p) i e = ap some (eqb-true p i e)
 
 -- ---- the four parts of attaching
 

@@ -4,7 +4,7 @@ use mathlib.Core.Logic.{_⊎_, inl, inr, ⊎-elim}
 use mathlib.Core.Option.{Option, none, some}
 use Prim.Native.Nat.{ℕ, zero, suc, _<_}
 use native.Mathlib.Omega.{arith}
-pub use Rattle.base.proofs.Answers.{none-some}
+use Rattle.base.proofs.Answers.{none-some}
 use Rattle.base.proofs.Below.{step-below}
 
 module _ {A : Type 0} (f : ℕ → Option A) (before : A → A → Type 0) where

@@ -25,11 +25,10 @@ use lib.Dec.{eqb}
 use lib.ListN.{length, length-append}
 use borrow.Author.Tests.{eqb-true}
 use Rattle.base.specs.Below.{sumBelow, concatBelow}
-use Rattle.base.proofs.Answers.{and-left, and-right}
+use Rattle.base.proofs.Answers.{and-left, and-right, none-some}
 use Rattle.base.proofs.Below.{below-suc}
 use Rattle.header.specs.Vid.{layoutVolume}
 use Rattle.report.specs.Volumes.{Places, recordFor, reservedOf, Entry, entryAt, mapUpTo, mapOf, placeWritten}
-use Rattle.report.proofs.First.{none-some}
 
 -- ---- joined lists
 

@@ -8,7 +8,8 @@ use lib.ListN.{length}
 use Rattle.base.proofs.Rows.{rows-length}
 use Rattle.report.specs.View.{VidView, vidGood, vidNewer, vidBlank, vidBad, Medium, isMappable}
 use Rattle.report.specs.Volumes.{Entry}
-use Rattle.report.specs.Report.{noWord, classAt, counterAt}
+use Rattle.report.specs.Report.{classAt, counterAt}
+use Rattle.words.specs.Words.{noWord}
 use Rattle.report.specs.Attach.{pebWords, entryWords}
 use Rattle.report.specs.Scratch.{keyWords}
 

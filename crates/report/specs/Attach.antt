@@ -1,22 +1,22 @@
 -- 01 'The report' and 'Refusal numbers': what attaching answers, and what the lent tables hold afterwards. Assumes
 -- nothing.
-use Prim.Native.Nat.{ℕ, _-_, _*_, _/_, _%_}
+use Prim.Native.Nat.{ℕ, _-_}
 use mathlib.Core.Bool.{Bool, cond}
 use mathlib.Core.Option.{Option, none, some}
 use mathlib.Core.List.{List, [], _∷_, _++_}
-use lib.Dec.{eqb, leb}
+use lib.Dec.{leb}
 use lib.ListN.{length, drop, replicate}
 use Rattle.base.specs.Answers.{Answer, given, refused, allOf}
 use Rattle.base.specs.Lists.{table}
-pub use Rattle.words.specs.Words.{pebWordsNeeded, mapWordsNeeded, stateWordsNeeded}
+use Rattle.words.specs.Words.{pebWordsNeeded, mapWordsNeeded, stateWordsNeeded, noWord}
 use Rattle.base.specs.Below.{concatBelow}
-pub use Rattle.geometry.specs.Image.{pebCount, imageRules}
+use Rattle.geometry.specs.Image.{pebCount, imageRules}
 use Rattle.geometry.specs.Slip.{slipGeometry}
 use Rattle.geometry.specs.declared.Geometry.{Geometry}
 use Rattle.report.specs.View.{Medium, mediumOf, copies}
 use Rattle.report.specs.Scan.{Refusal, imageSeq}
 use Rattle.report.specs.Volumes.{Entry, orZero}
-use Rattle.report.specs.Report.{classAt, counterAt, entries, stateAt, meanOf, highestOf, readOnlyOf, gradeOf, taken, mark, noWord, refusal}
+use Rattle.report.specs.Report.{classAt, counterAt, entries, stateAt, meanOf, highestOf, readOnlyOf, gradeOf, taken, mark, refusal}
 use Rattle.report.specs.declared.Report.{Report}
 use Rattle.report.specs.declared.Attached.{Attached}
 use Rattle.report.specs.declared.Attached.the-variants.{Given, Refused}

@@ -5,7 +5,7 @@ use mathlib.Core.Option.{Option, none, some}
 use mathlib.Core.List.{List}
 use lib.Dec.{eqb, ltb}
 use Rattle.base.specs.Answers.{Answer, orElse}
-pub use Rattle.words.specs.Words.{noWord}
+use Rattle.words.specs.Words.{noWord}
 use Rattle.base.specs.Below.{allBelow, anyBelow, countBelow, sumBelow, maxBelow}
 use Rattle.header.specs.Vid.{layoutVolume}
 use Rattle.header.specs.declared.EcHeader.{EcHeader}

@@ -8,7 +8,8 @@ use Rattle.header.specs.declared.VidHeader.{VidHeader}
 use Rattle.report.specs.View.{Copy, EcView, VidView, vidGood, vidNewer, vidBlank, vidBad, Views, isMappable, ecs}
 use Rattle.report.specs.Class.{classBy}
 use Rattle.report.specs.Volumes.{Places}
-use Rattle.report.specs.Report.{noWord, counterOr, isPlace}
+use Rattle.report.specs.Report.{counterOr, isPlace}
+use Rattle.words.specs.Words.{noWord}
 
 -- volume, LEB and PEB of a copy of a user or layout LEB; else no words
 abbrev pub copyWords : ℕ → VidHeader → List ℕ

@@ -6,9 +6,6 @@ pub mod state;
 
 use geometry::Geometry;
 
-// An unused word of a lent table, and the counter of an EC header that is lost.
-pub const NO_WORD: u32 = 0xFFFFFFFF;
-
 // The report's numbers; the classes, counters, map and volume states are in the lent tables. Geometry, PEB count and
 // image sequence are for callers that go on with the image.
 pub struct Report {

@@ -8,7 +8,7 @@ use Prim.Native.Nat.{ℕ, _≤_, _<_}
 use native.Mathlib.Omega.{arith}
 use borrow.Author.Tests.{eqb-true, eq-eqb, lt-ltb, le-ltb}
 use Rattle.base.proofs.Answers.{and-left, and-right}
-use Rattle.base.proofs.Below.{first-none}
+use Rattle.base.proofs.Below.{first-none, first-lowest}
 use Rattle.geometry.specs.declared.Geometry.{Geometry}
 use Rattle.volume_record.specs.Record.{recordOf}
 use Rattle.volume_table.specs.Table.{recordAt}
@@ -22,7 +22,6 @@ use Rattle.copies.specs.InPlace.{headerAt}
 use Rattle.volumes.specs.declared.RecordNumbers.{RecordNumbers}
 use Rattle.words.specs.Words.{volumeWord, lnumWord, pebWord}
 use Rattle.volumes.specs.Sorted.{numbersOf, isOf, misfitBy, FirstMisfit, VolumeMisfit, tableRefusal, misfitRefusal, SortedMap, NoMisfit}
-use Rattle.base.proofs.Below.{first-lowest}
 use Rattle.volumes.proofs.Words.{fs, ps, rs, place-is, lower-first}
 use Rattle.volumes.proofs.Faces.{record-not, most, leb-within, face-here, record-here, EntryOf, face-or, used-first, first-there}
 

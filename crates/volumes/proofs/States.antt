@@ -10,8 +10,8 @@ use borrow.Author.Tests.{eqb-true, eq-eqb, ne-eqb, ltb-true, ltb-false}
 use lib.Dec.{eqb, ltb}
 use Rattle.base.specs.Answers.{mapO}
 use Rattle.base.specs.Below.{anyBelow, countBelow}
-use Rattle.base.proofs.Answers.{and-left, and-right}
-use Rattle.base.proofs.Below.{any-intro, any-cong, first-none}
+use Rattle.base.proofs.Answers.{and-left, and-right, by-test, same-test, by-option}
+use Rattle.base.proofs.Below.{any-intro, any-cong, first-none, any-hit}
 use Rattle.geometry.specs.declared.Geometry.{Geometry}
 use Rattle.volume_record.specs.Record.{recordOf}
 use Rattle.volume_table.specs.Table.{recordAt}
@@ -25,8 +25,6 @@ use Rattle.copies.proofs.Copies.{static-below, copy-at, face-is}
 use Rattle.volumes.specs.declared.RecordNumbers.{RecordNumbers}
 use Rattle.words.specs.Words.{volumeWord, lnumWord, pebWord}
 use Rattle.volumes.specs.Sorted.{faultyBy, numbersOf, asksBy, isOf, faultAt, FirstOf, LacksLeb, SortedMap, NoMisfit}
-use Rattle.base.proofs.Answers.{by-test, same-test, by-option}
-use Rattle.base.proofs.Below.{any-hit}
 use Rattle.volumes.proofs.Counts.{count-cong, count-upto, fewer, has, count-map}
 use Rattle.volumes.proofs.Words.{fs, ps, rs, es, nth, volume-is}
 use Rattle.volumes.proofs.Faces.{record-there, record-not, most, leb-within, face-here, EntryOf, face-or}

@@ -11,7 +11,7 @@ use lib.Dec.{ltb}
 use lib.ListN.{length, getD, length-append, length-take, List·getD-append}
 use lib.Seq.{getD-take}
 use Rattle.base.specs.Answers.{given}
-use Rattle.base.proofs.Answers.{each-holds}
+use Rattle.base.proofs.Answers.{each-holds, by-test}
 use Rattle.geometry.specs.declared.Geometry.{Geometry}
 use Rattle.header.specs.Vid.{layoutVolume}
 use Rattle.volume_table.specs.Table.{recordCount, recordsPart, tableTests, tableGood}
@@ -26,7 +26,6 @@ use Rattle.copies.specs.InPlace.{HasCopy}
 use Rattle.copies.proofs.Copies.{copy-at}
 use Rattle.words.specs.Words.{volumeWord, lnumWord, pebWord}
 use Rattle.volumes.specs.Sorted.{Entries, SortedMap}
-use Rattle.base.proofs.Answers.{by-test}
 use Rattle.base.proofs.Lists.{getD-mem, mem-getD}
 
 -- ---- a list of entries, by number

@@ -1,5 +1,5 @@
 -- `mover_checks::block::is_no_target` meets its contract. Assumes nothing.
-use mathlib.Core.Path.{refl, sym, _∙_}
+use mathlib.Core.Path.{refl, _∙_}
 use native.Mathlib.Omega.{arith}
 use Rattle.report.specs.View.{mediumOf}
 use Rattle.mover_checks.proofs.Words.{room, absent-target, used-target, free-target}
