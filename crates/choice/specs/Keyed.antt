@@ -7,11 +7,10 @@ use Prim.Native.Nat.{ℕ, _+_, _*_, _≤_, _<_}
 use lib.Dec.{eqb, ltb, leb}
 use lib.ListN.{length, getD}
 use Rattle.words.specs.Words.{noWord, mapWordsNeeded, HasEntry, volumeWord, lnumWord}
-use Rattle.base.specs.Below.{anyBelow}
 use Rattle.geometry.specs.declared.Geometry.{Geometry}
 use Rattle.geometry.specs.Placed.{Placed}
-use Rattle.report.specs.View.{Copy, viewsOf, copies}
-use Rattle.report.specs.Choice.{repeats, refusal9}
+use Rattle.report.specs.View.{viewsOf, copies}
+use Rattle.report.specs.Choice.{refusal9}
 use Rattle.report.specs.Scan.{Refusal}
 use Rattle.report.specs.Scratch.{keyWords}
 use Rattle.copies.specs.InPlace.{headerAt}
@@ -46,10 +45,6 @@ sameLeb map i j = eqb (volumeWord map i) (volumeWord map j) && eqb (lnumWord map
 abbrev pub repeatsAt : Geometry → List ℕ → List ℕ → ℕ → ℕ → Bool
 repeatsAt g image map i j =
     not (eqb (volumeWord map i) noWord) && (sameLeb map i j && eqb (sequenceAt g image i) (sequenceAt g image j))
-
--- does PEB i repeat one of the copies below it?
-abbrev pub repeatsLower : (ℕ → Option Copy) → ℕ → Bool
-repeatsLower cs i = anyBelow i (λ (j : ℕ). repeats (cs i) (cs j))
 
 -- the refusal that a first repeat r stands for, if it is one of the n PEBs
 abbrev pub repeatAt : ℕ → ℕ → Option Refusal

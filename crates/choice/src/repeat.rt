@@ -1,10 +1,10 @@
 // Refusal 9: two copies of one user or layout LEB that share a sequence.
 ghost use mathlib.Core.Path.{_≡_};
-ghost use Prim.Native.Nat.{_≤_, _<_};
+ghost use Prim.Native.Nat.{_≤_};
 ghost use Rattle.words.specs.Words.{HasEntry};
 ghost use Rattle.report.specs.View.{viewsOf, copies};
 ghost use Rattle.report.specs.Choice.{refusal9};
-ghost use Rattle.choice.specs.Keyed.{Keyed, Within, sameLeb, repeatsAt, repeatsLower, repeatAt};
+ghost use Rattle.choice.specs.Keyed.{Keyed, Within, sameLeb, repeatsAt, repeatAt};
 ghost use Rattle.choice.specs.Chain.{Linked};
 use crate::chain::link;
 use copies::header_field;
@@ -14,36 +14,26 @@ use words::NO_WORD;
 use words::lnum_word;
 use words::volume_word;
 
-// The lowest PEB that repeats the volume, LEB and sequence of a lower one; n if there is none.
+// The lowest PEB that repeats the volume, LEB and sequence of a lower one; n if there is none. Only the lower PEBs of
+// its bucket can have its LEB.
 pub fn first_repeat(image: &[u8], g: Geometry, n: usize, map: &[u32]) -> usize
     requires { ⌜ (Keyed g (now image) n (now map)) × (Linked n (now map)) ⌝ }
     ensures { λ r. ⌜ (repeatAt n r ≡ refusal9 n (copies (viewsOf g (now (image .entry))))) × (r ≤ n) ⌝ }
 {
     let mut i: usize = 0;
-    while i < n {
-        if repeats_lower(image, g, n, map, i) {
-            return i;
+    'pebs: while i < n {
+        let mut above = i;
+        let mut j = link(map, i);
+        while j < above {
+            if is_repeat(image, g, map, i, j) {
+                break 'pebs;
+            }
+            above = j;
+            j = link(map, j);
         }
         i += 1;
     }
-    n
-}
-
-// Does PEB i repeat a lower one? Only the lower PEBs of its bucket can have its LEB.
-fn repeats_lower(image: &[u8], g: Geometry, n: usize, map: &[u32], i: usize) -> bool
-    requires { ⌜ (i < n) × ((Keyed g (now image) n (now map)) × (Linked n (now map))) ⌝ }
-    ensures { λ r. ⌜ r ≡ repeatsLower (copies (viewsOf g (now (image .entry)))) i ⌝ }
-{
-    let mut above = i;
-    let mut j = link(map, i);
-    while j < above {
-        if is_repeat(image, g, map, i, j) {
-            return true;
-        }
-        above = j;
-        j = link(map, j);
-    }
-    false
+    i
 }
 
 // Does PEB i, which holds a user or layout LEB, repeat PEB j? The image is read only where volume and LEB agree.

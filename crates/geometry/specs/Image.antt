@@ -6,6 +6,7 @@ use lib.Dec.{eqb, leb}
 use lib.ListN.{length}
 use Rattle.geometry.specs.declared.Geometry.{Geometry}
 
+-- the number of whole PEBs
 abbrev pub pebCount : Geometry → List ℕ → ℕ
 pebCount g image = length image / g .«peb_size»
 

@@ -1,12 +1,14 @@
 -- No power cut loses a block: demand 3. Assumes nothing.
 use mathlib.Core.Path.{_≡_, refl, sym, _∙_, ap, subst}
-use mathlib.Core.Bool.{true}
+use mathlib.Core.Bool.{Bool, true}
 use mathlib.Core.Option.{some}
 use mathlib.Core.List.{List}
 use Prim.Native.Nat.{ℕ}
 use Rattle.base.specs.Answers.{Answer, given, refused, mapO}
 use Rattle.base.specs.Lists.{table, Bytes}
 use Rattle.geometry.specs.declared.Geometry.{Geometry}
+use Rattle.geometry.specs.Slip.{slipGeometry}
+use Rattle.geometry.specs.Image.{pebCount}
 use Rattle.report.specs.View.{Copy, Medium, mediumOf}
 use Rattle.report.specs.Volumes.{Face, Faces, tableLeb, tableRecords, tableMark, stateOf}
 use Rattle.report.specs.Report.{faces, stateAt, entries}
@@ -14,10 +16,12 @@ use Rattle.report.specs.Attach.{AttachRequest, Outcome, whole, stateWords}
 use Rattle.mover_rules.specs.declared.Plan.{Plan}
 use Rattle.mover_rules.specs.Begin.{makePlan, planOf, beginOn, beginning}
 use Rattle.mover_rules.proofs.Accepted.{Accepted, accepted}
+use Rattle.mover_rules.proofs.Steps.{mover-lawful}
 use Rattle.job.specs.Course.{imageLeft}
 use Rattle.job.specs.Outcomes.{outcomeOf, attaches, Table, tableIn, statesIn, mapIn, contentIn}
 use Rattle.job.proofs.Calls.{all-calls}
-use Rattle.job.proofs.Outcomes.{Chip, attached, has-attached}
+use Rattle.job.proofs.Outcomes.{Chip, any-room, attached, has-attached}
+use Rattle.job.proofs.Finish.{ToEnd, finish-is-to-end}
 use Rattle.mover_rules.specs.Step.{moverJob}
 use Rattle.mover_powercut.specs.Book.{Call, WithBook, callLeft, begun, afterCall, atFirst, afterCalls, Each}
 use Rattle.mover_powercut.specs.Premise.{premiseOf, Premise}
@@ -132,3 +136,17 @@ no-cut-loses-a-block req image calls bytes at pr =
       };
       each = r .2;
     }
+
+-- ---- the calls as the code makes them
+
+-- with tables that are long enough a beginning answers the same
+pub any-beginning : (req : AttachRequest) (image : List ℕ) (room : ℕ → Bool) (g : Geometry)
+    → slipGeometry (req .slip) ≡ given g → room (pebCount g image) ≡ true → (c : Call)
+    → beginning req image room (c .volume) (c .lnum) (c .target) ≡ begun req image c
+unfolding beginning begun outcomeOf
+any-beginning req image room g e h c =
+    ap (λ (y : Outcome). beginOn y (c .volume) (c .lnum) (c .target)) (any-room req image room g e h)
+
+-- `finish` is the course to the end, of every plan and image
+pub mover-finish-is-to-end : (p : Plan) (image : List ℕ) (further : ℕ) → ToEnd moverJob mover-lawful p image further
+mover-finish-is-to-end = finish-is-to-end moverJob mover-lawful

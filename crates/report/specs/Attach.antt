@@ -80,7 +80,8 @@ abbrev pub answerOr : ℕ → Answer ℕ → ℕ
 answerOr x (given k) = k
 answerOr x (refused k p) = x
 
--- the report's numbers
+-- the report's numbers; beside them, ours: the geometry, and "the image sequence that refusal 7 compares with", 0 if
+-- there is none
 unfoldable pub reportOf : Medium → Report
 reportOf m = record {
   geometry = m .geometry;

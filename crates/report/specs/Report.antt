@@ -45,6 +45,7 @@ copyClass t ps i c =
     cond (isPlace (ps (c .header .volume) (c .header .lnum)) i)
     (cond (staysIn t (c .header .volume) (c .header .lnum)) 1 5) 2
 
+-- the class of PEB i, with that of a user or layout copy as above
 abbrev pub classOf : List ℕ → Places → ℕ → EcView → VidView → ℕ
 classOf t ps i = classBy (copyClass t ps i)
 
@@ -76,7 +77,7 @@ sequenceOr0 (some c) = c .header .sequence
 unfoldable pub highestOf : ℕ → (ℕ → Option Copy) → ℕ
 highestOf n cs = maxBelow n (λ (i : ℕ). sequenceOr0 (cs i))
 
--- a copy of one of the "other internal volumes" with this compatibility
+-- a copy of one of the "Other internal volumes" with this compatibility
 abbrev pub isInternal : ℕ → Option Copy → Bool
 isInternal k none = false
 isInternal k (some c) = not (isMappable (c .header .volume)) && eqb (c .header .compat) k

@@ -113,6 +113,6 @@ goodVid vidBad = none
 abbrev pub copies : Views → ℕ → Option Copy
 copies vs i = goodVid (vs i .vid)
 
--- a user volume ("volume below 128") or the layout volume; the others of good headers are 01's "other internal volumes"
+-- a user volume ("volume below 128") or the layout volume; the others of good headers are 01's "Other internal volumes"
 abbrev pub isMappable : ℕ → Bool
 isMappable v = ltb v 128 || eqb v layoutVolume

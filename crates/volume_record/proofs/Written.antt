@@ -14,8 +14,8 @@ use Rattle.field.specs.Be.{beOf, toBeOn, toBe}
 use Rattle.field.proofs.Laws.{read-back-fits, each-toBe, length-toBe}
 use Rattle.crc32.specs.Crc.{crcOf}
 use Rattle.crc32.proofs.Laws.{crcOf-lt}
-use Rattle.volume_record.specs.Record.{recordOf, recordCrcMatches, recordHead, sizesStored, kindStored}
-use Rattle.volume_record.specs.Record.{nameStored, crcStored}
+use Rattle.volume_record.specs.Record.{recordOf, recordCrcMatches, recordHead}
+use Rattle.volume_record.specs.Stores.{sizesStored, kindStored, nameStored, crcStored}
 use Rattle.volume_record.specs.Record.{recordBytes, recordOut}
 use Rattle.volume_record.specs.declared.VolumeRecord.{VolumeRecord}
 

@@ -7,13 +7,15 @@ use lib.Dec.{eqb, ltb, leb}
 use lib.ListN.{length, take, drop, getD, replicate}
 use Rattle.base.specs.Answers.{Answer, given, refused, allOf}
 use Rattle.base.specs.Below.{allBelow}
-use Rattle.base.specs.Lists.{put, eqs}
+use Rattle.base.specs.Lists.{eqs}
 use Rattle.field.specs.Be.{toBe}
-use Rattle.field.specs.Fields.{bytesIn, numberIn, stored, storedAll}
+use Rattle.field.specs.Fields.{bytesIn, numberIn}
 use Rattle.crc32.specs.Crc.{crcOf}
 use Rattle.volume_record.specs.Fields.{recordReserved, recordAlignment, recordDataPad, recordType, recordMarker}
 use Rattle.volume_record.specs.Fields.{recordNameLength, recordName, recordFlags, recordCrc}
 use Rattle.volume_record.specs.declared.VolumeRecord.{VolumeRecord}
+use Rattle.volume_record.specs.declared.RecordWritten.{RecordWritten}
+use Rattle.volume_record.specs.declared.RecordWritten.the-variants as written
 use Rattle.volume_record.specs.declared.RecordKind.{RecordKind}
 use Rattle.volume_record.specs.declared.RecordKind.the-variants.{Empty, Good, Bad, Short}
 
@@ -100,24 +102,15 @@ recordHead v =
 unfoldable pub recordBytes : VolumeRecord → List ℕ
 recordBytes v = recordHead v ++ toBe 4 (crcOf (recordHead v))
 
+-- refusal 4, as for a header buffer
+abbrev pub recordAccepted : List ℕ → Answer (Unit {0})
+recordAccepted out = cond (leb 172 (length out)) (given tt) (refused 4 0)
+
+-- what each case of the writer's answer is in 01
+abbrev pub recordWritten : RecordWritten → Answer (Unit {0})
+recordWritten written.Done = given tt
+recordWritten written.Short = refused 4 0
+
 -- the lent bytes afterwards: refusal 4 changes nothing, and bytes beyond 172 never change
 unfoldable pub recordOut : VolumeRecord → List ℕ → List ℕ
 recordOut v out = cond (leb 172 (length out)) (recordBytes v ++ drop 172 out) out
-
--- ---- what private contracts cite, and no public promise: the stores of a record's fields
-
-unfoldable pub sizesStored : VolumeRecord → List ℕ → List ℕ
-sizesStored v s =
-    storedAll ((recordReserved, v .reserved) ∷ (recordAlignment, v .alignment) ∷ (recordDataPad, v .«data_pad») ∷ []) s
-
-unfoldable pub kindStored : VolumeRecord → List ℕ → List ℕ
-kindStored v s =
-    storedAll
-    ((recordType, v .«vol_type») ∷ (recordMarker, v .«update_marker») ∷ (recordNameLength, v .«name_length»)
-    ∷ (recordFlags, v .flags) ∷ []) s
-
-unfoldable pub nameStored : List ℕ → List ℕ → List ℕ
-nameStored name s = put (recordName .at) name s
-
-unfoldable pub crcStored : List ℕ → List ℕ
-crcStored s = stored recordCrc (crcOf (take 168 s)) s

@@ -45,6 +45,12 @@ pub enum RecordKind {
     Short,
 }
 
+// What writing a record comes to.
+pub enum RecordWritten {
+    Done,
+    Short,
+}
+
 // The answer beside the record: an enum cannot hold an array.
 pub struct RecordRead {
     pub kind: RecordKind,

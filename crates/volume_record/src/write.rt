@@ -1,9 +1,10 @@
 // A volume record written, field by field through the table.
 ghost use mathlib.Core.Path.{_≡_};
 ghost use Prim.Native.Nat.{_≤_};
-ghost use lib.Dec.{leb};
 ghost use lib.ListN.{length};
-ghost use Rattle.volume_record.specs.Record.{recordOut, sizesStored, kindStored, nameStored, crcStored};
+ghost use Rattle.volume_record.specs.Record.{recordAccepted, recordWritten, recordOut};
+ghost use Rattle.volume_record.specs.Stores.{sizesStored, kindStored, nameStored, crcStored};
+use crate::RecordWritten;
 use crate::VolumeRecord;
 use crate::fields::NAME_SIZE;
 use crate::fields::RECORD_ALIGNMENT;
@@ -59,12 +60,13 @@ fn store_crc(out: &mut [u8])
     set_field(out, RECORD_CRC, crc as u64)
 }
 
-// A record is written to the first 172 bytes, with its CRC and zero padding; false where fewer are lent (refusal 4).
-pub fn write_record(v: VolumeRecord, out: &mut [u8]) -> bool
-    ensures { λ r. ⌜ (r ≡ leb 172 (length (now (out .entry)))) × (now (out .exit) ≡ recordOut v (now (out .entry))) ⌝ }
+// A record is written to the first 172 bytes, with its CRC and zero padding; Short is refusal 4.
+pub fn write_record(v: VolumeRecord, out: &mut [u8]) -> RecordWritten
+    ensures answer { λ r. ⌜ recordWritten r ≡ recordAccepted (now (out .entry)) ⌝ }
+    ensures out { λ _. ⌜ now (out .exit) ≡ recordOut v (now (out .entry)) ⌝ }
 {
     if out.len() < RECORD_SIZE {
-        return false;
+        return RecordWritten::Short;
     }
     base::fill(out, RECORD_SIZE, 0);
     store_sizes(v, out);
@@ -72,5 +74,5 @@ pub fn write_record(v: VolumeRecord, out: &mut [u8]) -> bool
     let name = v.name;
     store_name(name, out);
     store_crc(out);
-    true
+    RecordWritten::Done
 }

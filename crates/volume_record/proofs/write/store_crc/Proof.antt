@@ -1,6 +1,6 @@
 -- `volume_record::write::store_crc` meets its contract. Assumes nothing.
 use borrow.Author.Needs.{needs}
-use Rattle.volume_record.specs.Record.{crcStored}
+use Rattle.volume_record.specs.Stores.{crcStored}
 use Rattle.volume_record.proofs.write.store_crc.Statement.{statement}
 use Rattle.volume_record.proofs.write.store_crc.Tie as tie
 

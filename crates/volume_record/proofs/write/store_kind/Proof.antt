@@ -1,6 +1,6 @@
 -- `volume_record::write::store_kind` meets its contract. Assumes nothing.
 use borrow.Author.Needs.{needs}
-use Rattle.volume_record.specs.Record.{kindStored}
+use Rattle.volume_record.specs.Stores.{kindStored}
 use Rattle.volume_record.proofs.write.store_kind.Statement.{statement}
 use Rattle.volume_record.proofs.write.store_kind.Tie as tie
 

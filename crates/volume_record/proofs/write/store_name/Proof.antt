@@ -3,7 +3,7 @@ use mathlib.Core.Path.{ap}
 use native.Mathlib.Omega.{arith}
 use borrow.Author.Needs.{needs}
 use Rattle.field.specs.declared.Field.{Field}
-use Rattle.volume_record.specs.Record.{nameStored}
+use Rattle.volume_record.specs.Stores.{nameStored}
 use Rattle.volume_record.proofs.write.store_name.Statement.{statement}
 use Rattle.volume_record.proofs.write.store_name.Tie as tie
 

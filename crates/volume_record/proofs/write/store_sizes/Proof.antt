@@ -1,6 +1,6 @@
 -- `volume_record::write::store_sizes` meets its contract. Assumes nothing.
 use borrow.Author.Needs.{needs}
-use Rattle.volume_record.specs.Record.{sizesStored}
+use Rattle.volume_record.specs.Stores.{sizesStored}
 use Rattle.volume_record.proofs.write.store_sizes.Statement.{statement}
 use Rattle.volume_record.proofs.write.store_sizes.Tie as tie
 

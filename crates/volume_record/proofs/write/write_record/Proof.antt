@@ -1,5 +1,4 @@
 -- `volume_record::write::write_record` meets its contract. Assumes nothing.
-use mathlib.Core.Path.{sym}
 use borrow.Author.Needs.{needs}
 use borrow.Author.Tests.{lt-leb, le-leb}
 use Rattle.volume_record.specs.Record.{recordOut}
@@ -17,7 +16,7 @@ returns-2 c =
     let z = k .before .before .before .before in let f = z .before .before .before .before in
     let a = f .before .before .before .before .args in
     let l = f .before .before .if1 .left in (
-      sym (le-leb _ _ l),
+      rw (le-leb _ _ l),
       stored-is (a .v) (n .store-name .ensures .1) (a .out .now) l (f .fill .ensures) (z .store-sizes .ensures)
           (k .store-kind .ensures)
           (n .store-name .ensures .0) (c .before .before .store-crc .ensures),
