@@ -1,10 +1,10 @@
--- `test_mover::run` is safe and ends. Assumes nothing.
+-- `test_moves::steps::run` is safe and ends. Assumes nothing.
 use mathlib.Core.Path.{_≡_}
 use Prim.Native.Nat.{_-_}
 use borrow.Author.Needs.{needs}
 use lib.ListN.{length}
-use Rattle.test_mover.proofs.run.Statement.{statement}
-use Rattle.test_mover.proofs.run.Tie as tie
+use Rattle.test_moves.proofs.steps.run.Statement.{statement}
+use Rattle.test_moves.proofs.steps.run.Tie as tie
 
 abbrev Inv-loop : tie.InvT-loop
 Inv-loop plan image₀ most p₀ r₀ i₀ image p r i = length image ≡ length image₀

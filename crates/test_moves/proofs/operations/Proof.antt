@@ -1,10 +1,10 @@
--- `test_mover::operations` is safe and ends. Assumes nothing.
+-- `test_moves::operations` is safe and ends. Assumes nothing.
 use mathlib.Core.Path.{_≡_}
 use Prim.Native.Nat.{_-_}
 use borrow.Author.Needs.{needs}
 use lib.ListN.{length}
-use Rattle.test_mover.proofs.operations.Statement.{statement}
-use Rattle.test_mover.proofs.operations.Tie as tie
+use Rattle.test_moves.proofs.operations.Statement.{statement}
+use Rattle.test_moves.proofs.operations.Tie as tie
 
 abbrev Inv-loop : tie.InvT-loop
 Inv-loop slip s image₀ pebs₀ map₀ states₀ plan₀ i₀ n image pebs map states plan i =
