@@ -1,4 +1,2 @@
-pub mod Text
-pub mod Render
 pub mod Listing
-pub mod Written
+pub mod Split

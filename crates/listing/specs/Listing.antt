@@ -8,7 +8,7 @@ use Rattle.base.specs.Answers.{Answer, given, refused}
 use Rattle.geometry.specs.declared.Geometry.{Geometry}
 use Rattle.geometry.specs.Slip.{slipGeometry}
 use Rattle.report.specs.Attach.{Tables, lent, Outcome, early, request, attachingInto, over, answerOf, tablesAfter}
-use Rattle.listing.specs.Text.{textOf}
+use Rattle.listing_text.specs.Text.{textOf}
 
 -- "The slip precedes the image": the slip's fields take 20 bytes
 abbrev pub slipPart : List ℕ → List ℕ

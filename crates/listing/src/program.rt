@@ -3,11 +3,10 @@ ghost use mathlib.Core.Path.{_≡_};
 ghost use Rattle.geometry.specs.Slip.{slipGeometry};
 ghost use Rattle.report.specs.Attach.{lent, attachedAnswer, answerOf, tablesAfter};
 ghost use Rattle.listing.specs.Listing.{tooMuch, afterSlip, programTables, judging, listed, listedOut};
-ghost use Rattle.listing.specs.Render.{renderedAnswer, within};
-ghost use Rattle.listing.specs.Written.{SplitAt};
-use crate::Rendered;
-use crate::text::render;
+ghost use Rattle.listing_text.specs.Render.{renderedAnswer, within};
+ghost use Rattle.listing.specs.Split.{SplitAt};
 use geometry::GeometryRead;
+use listing_text::Rendered;
 use report::Attached;
 use report::refusal;
 
@@ -92,7 +91,7 @@ fn list_into(
     ensures room { λ r. ⌜ within r (now (out .exit)) ⌝ }
 {
     let a = judge(input, more, pebs, map, states);
-    render(a, pebs, map, states, out)
+    listing_text::render(a, pebs, map, states, out)
 }
 
 // The text that is printed for the bytes read, at the start of the buffer; `more` says whether there was more input

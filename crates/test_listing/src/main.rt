@@ -1,6 +1,6 @@
 // Lists the dump of each frame into a buffer of the frame's length, and prints the text and whether the bytes behind it
 // stayed.
-use listing::Rendered;
+use listing_text::Rendered;
 
 fn main() {
     for _ in 0..frames::count() {

@@ -4,7 +4,7 @@ mod input;
 mod output;
 
 use input::Input;
-use listing::Rendered;
+use listing_text::Rendered;
 
 fn main() {
     let mut held = [0u8; input::HELD];

@@ -1,0 +1,18 @@
+-- What the contracts here cite: a text written at a place of a buffer, as far as the buffer goes. No public
+-- promise names it. Assumes nothing.
+use mathlib.Core.Path.{_≡_}
+use mathlib.Core.List.{List, [], _∷_}
+use Prim.Native.Nat.{ℕ, zero, suc, _+_}
+use lib.ListN.{length}
+
+-- s with t stored from `at` on, as far as s goes
+abbrev pub clipped : ℕ → List ℕ → List ℕ → List ℕ
+clipped at t [] = []
+clipped (suc at) t (y ∷ s) = y ∷ clipped at t s
+clipped zero [] (y ∷ s) = y ∷ s
+clipped zero (x ∷ t) (y ∷ s) = x ∷ clipped zero t s
+
+-- t was written at `at` into s, which is s′ then; r is the place after it
+pub record Written (s : List ℕ) (at : ℕ) (t : List ℕ) (r : ℕ) (s′ : List ℕ) : Type 0 where
+  pub after : r ≡ at + length t
+  pub bytes : s′ ≡ clipped at t s
