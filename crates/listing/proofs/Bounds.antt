@@ -19,12 +19,7 @@ use Rattle.geometry.specs.Slip.{valueAt, wellFormed, slipGeometry}
 use Rattle.report.specs.View.{Medium, mediumOf}
 use Rattle.report.specs.Scan.{Refusal}
 use Rattle.report.specs.Report.{entries, refusal}
-<<<<<<< HEAD
-use Rattle.words.specs.Words.{noWord}
-use Rattle.report.specs.Attach.{Tables, Outcome, early, late, whole, roomRules, longEnough, byViews, byGeometry}
-=======
 use Rattle.report.specs.Attach.{Outcome, early, late, whole, roomRules, longEnough, byViews, byGeometry}
->>>>>>> house-t
 use Rattle.report.specs.Attach.{attaching, reportOf}
 use Rattle.report.proofs.Tables.{entries-fit}
 use Rattle.listing.specs.Listing.{slipPart, imagePart, tooMuch, afterSlip, programTables, textFor, judging}
