@@ -17,7 +17,7 @@ pub fn header_field(image: &[u8], g: Geometry, i: usize, field: usize) -> u64
     ensures { λ r. ⌜ r ≡ vidField field (headerAt g (now (image .entry)) i) ⌝ }
 {
     let at = i * g.peb_size as usize + g.vid_start as usize;
-    header::vid_field(&image[at..at + 64], field)
+    vid_header::vid_field(&image[at..at + 64], field)
 }
 
 // Is the data CRC of PEB i's copy that of its first data-size bytes?

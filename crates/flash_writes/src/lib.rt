@@ -39,7 +39,7 @@ fn store_vid_by(h: VidHeader, leb_size: u32, buffer: &mut [u8], image: &mut [u8]
         × ((at + 64 ≤ length (now image)) × (isGood (judgeVid «leb_size» h) ≡ true)) ⌝ }
     ensures { λ _. ⌜ now (image .exit) ≡ put at (vidBytes h) (now (image .entry)) ⌝ }
 {
-    header::write_vid(h, leb_size, buffer);
+    vid_header::write_vid(h, leb_size, buffer);
     base::store(image, at, buffer)
 }
 
@@ -57,7 +57,7 @@ fn store_ec_by(h: EcHeader, buffer: &mut [u8], image: &mut [u8], at: usize)
     requires { ⌜ (length (now buffer) ≡ 64) × ((at + 64 ≤ length (now image)) × (isGood (judgeEc h) ≡ true)) ⌝ }
     ensures { λ _. ⌜ now (image .exit) ≡ put at (ecBytes h) (now (image .entry)) ⌝ }
 {
-    header::write_ec(h, buffer);
+    ec_header::write_ec(h, buffer);
     base::store(image, at, buffer)
 }
 

@@ -1,4 +1,4 @@
--- What private contracts cite: the stores of a header's fields. No public promise names them. Assumes nothing.
+-- What inner contracts cite: the stores of a header's fields. No public promise names them. Assumes nothing.
 use Prim.Native.Nat.{ℕ}
 use mathlib.Core.List.{List, [], _∷_, _++_}
 use lib.ListN.{take, drop, replicate}

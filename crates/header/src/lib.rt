@@ -1,24 +1,28 @@
-// The erase counter (EC) and volume identifier (VID) headers of a physical block: 64 bytes each, read and written.
-mod ec_header;
+// The erase counter (EC) and volume identifier (VID) headers of a physical block, 64 bytes each: what they are, and
+// their fields one by one.
 mod fields;
-mod vid_header;
-mod vid_rules;
 
-pub use ec_header::ec_readable;
-pub use ec_header::read_ec;
-pub use ec_header::write_ec;
+pub use fields::EC_COUNTER;
+pub use fields::EC_DATA_START;
+pub use fields::EC_IMAGE_SEQ;
+pub use fields::EC_VERSION;
+pub use fields::EC_VID_START;
+pub use fields::VID_COMPAT;
 pub use fields::VID_COPY_FLAG;
 pub use fields::VID_DATA_CRC;
 pub use fields::VID_DATA_PAD;
 pub use fields::VID_DATA_SIZE;
+pub use fields::VID_LNUM;
 pub use fields::VID_SEQUENCE;
 pub use fields::VID_TYPE;
 pub use fields::VID_USED_LEBS;
-pub use vid_header::read_vid;
-pub use vid_header::vid_field;
-pub use vid_header::vid_fields;
-pub use vid_header::vid_readable;
-pub use vid_header::write_vid;
+pub use fields::VID_VERSION;
+pub use fields::VID_VOLUME;
+pub use fields::begin;
+pub use fields::finish;
+pub use fields::get;
+pub use fields::is_header;
+pub use fields::set;
 
 // The volume that holds the volume table.
 pub const LAYOUT_VOLUME: u32 = 0x7FFFEFFF;

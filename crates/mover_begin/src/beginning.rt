@@ -109,7 +109,7 @@ fn plan_peb(image: &[u8], report: Report, pebs: &[u32], old: u32, target: u32) -
     let at = old as usize * size;
     let p = &image[at..at + size];
     let vid = g.vid_start as usize;
-    let h = header::vid_fields(&p[vid..vid + HEADER_SIZE]);
+    let h = vid_header::vid_fields(&p[vid..vid + HEADER_SIZE]);
     plan_copy(image, p, report, pebs, old, h, target)
 }
 

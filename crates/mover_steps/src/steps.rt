@@ -30,10 +30,10 @@ fn may_run(plan: Plan, g: Geometry, image: &[u8]) -> bool
     if plan.old == plan.target {
         return false;
     }
-    if !header::vid_readable(plan.vid, g.leb_size) {
+    if !vid_header::vid_readable(plan.vid, g.leb_size) {
         return false;
     }
-    header::ec_readable(plan.ec)
+    ec_header::ec_readable(plan.ec)
 }
 
 // Where PEB i starts.

@@ -34,7 +34,7 @@ pub fn see_ec(p: &[u8], g: Geometry) -> EcSeen
     ensures { λ r. ⌜ ecSeen r ≡ viewOf g (now (p .entry)) .ec ⌝ }
 {
     let s = &p[0..64];
-    let r = header::read_ec(s);
+    let r = ec_header::read_ec(s);
     match r {
         EcRead::Good(h) => return EcSeen::Good(h),
         EcRead::Newer => return EcSeen::Newer,
@@ -60,7 +60,7 @@ pub fn see_vid(p: &[u8], g: Geometry) -> VidSeen
 {
     let at = g.vid_start as usize;
     let s = &p[at..at + 64];
-    let r = header::read_vid(s, g.leb_size);
+    let r = vid_header::read_vid(s, g.leb_size);
     match r {
         VidRead::Good(h) => return VidSeen::Good(h),
         VidRead::Newer => return VidSeen::Newer,

@@ -8,12 +8,12 @@ use header::Written;
 pub fn answer(payload: &[u8]) {
     let operation = frames::number_at(payload, 0, 1);
     if operation == 1 {
-        print_ec(header::read_ec(frames::rest(payload, 1)));
+        print_ec(ec_header::read_ec(frames::rest(payload, 1)));
         return;
     }
     if operation == 2 {
         let leb_size = frames::u32_at(payload, 1);
-        print_vid(header::read_vid(frames::rest(payload, 5), leb_size));
+        print_vid(vid_header::read_vid(frames::rest(payload, 5), leb_size));
         return;
     }
     if operation == 3 {
@@ -64,12 +64,12 @@ fn print_written(r: Written, out: &[u8]) {
 }
 
 fn ec_into(h: EcHeader, out: &mut [u8]) {
-    let r = header::write_ec(h, out);
+    let r = ec_header::write_ec(h, out);
     print_written(r, out);
 }
 
 fn vid_into(h: VidHeader, leb_size: u32, out: &mut [u8]) {
-    let r = header::write_vid(h, leb_size, out);
+    let r = vid_header::write_vid(h, leb_size, out);
     print_written(r, out);
 }
 
