@@ -22,7 +22,7 @@ use Rattle.report.specs.Attach.{
   Tables,
   lent,
   late,
-  byViews,
+  byRefusal,
   over,
   pebWords,
   entryWords,
@@ -110,7 +110,7 @@ module _ (m : Medium) where
 
   -- they depend on the words beyond those needed alone
   tables-from : {t t₁ : Tables} → 2 ≤ m .count → SameBeyond (m .count) t t₁
-      → tablesAfter (byViews m (refusal m)) t₁ ≡ tablesAfter (byViews m (refusal m)) t
+      → tablesAfter (byRefusal m (refusal m)) t₁ ≡ tablesAfter (byRefusal m (refusal m)) t
   tables-from {t} {t₁} h s =
       by-option (refusal m)
       (λ q. rw q (lent-same (over-same (pebWords m) _ _ _ (peb-words-length m) (s .pebs-tail))
@@ -122,10 +122,10 @@ module _ (m : Medium) where
 
   -- what ends so from later words ends so from earlier ones
   pub ended-from : {t t₁ t′ : Tables} {r : Attached} → 2 ≤ m .count → SameBeyond (m .count) t t₁
-      → Ended (byViews m (refusal m)) r t₁ t′ → Ended (byViews m (refusal m)) r t t′
+      → Ended (byRefusal m (refusal m)) r t₁ t′ → Ended (byRefusal m (refusal m)) r t t′
   ended-from h s o = record { answer = o .answer; tables-are = o .tables-are ∙ tables-from h s }
 
   -- a refusal 5 to 12
   pub ended-refused : {t t′ : Tables} {r : Attached} {x : Refusal} → refusal m ≡ some x
-      → Ended (late (m .count) x) r t t′ → Ended (byViews m (refusal m)) r t t′
+      → Ended (late (m .count) x) r t t′ → Ended (byRefusal m (refusal m)) r t t′
   ended-refused q o = rw q o

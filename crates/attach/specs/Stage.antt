@@ -1,5 +1,5 @@
--- What the contracts here cite: what is known at each stage of attaching, and how it ends. No public promise names them.
--- Assumes nothing.
+-- What the contracts here cite: what is known at each stage of attaching, and how it ends. No public promise names
+-- them. Assumes nothing.
 use mathlib.Core.Path.{_≡_}
 use Prim.Native.Nat.{ℕ, _*_, _≤_}
 use mathlib.Core.Option.{none}
@@ -13,7 +13,7 @@ use Rattle.report.specs.View.{viewsOf, mediumOf, copies}
 use Rattle.report.specs.Scan.{refusal5678, refusal10}
 use Rattle.report.specs.Choice.{refusal9}
 use Rattle.report.specs.Report.{refusal, records, taken, mark}
-use Rattle.report.specs.Attach.{Outcome, Tables, byViews, attachedAnswer, answerOf, tablesAfter, pebWords}
+use Rattle.report.specs.Attach.{Outcome, Tables, byRefusal, attachedAnswer, answerOf, tablesAfter, pebWords}
 use Rattle.report.specs.declared.Attached.{Attached}
 use Rattle.report.specs.Scratch.{keysOf}
 use Rattle.scan.specs.Pass.{TotalsOf, firstWords}
@@ -28,7 +28,7 @@ pub record Ended (o : Outcome) (r : Attached) (before after : Tables) : Type 0 w
 
 -- what an image of n PEBs comes to
 abbrev pub outcome : Geometry → ℕ → List ℕ → Outcome
-outcome g n image = byViews (mediumOf g n image) (refusal (mediumOf g n image))
+outcome g n image = byRefusal (mediumOf g n image) (refusal (mediumOf g n image))
 
 -- the words beyond those that n PEBs need are the same
 pub record SameBeyond (n : ℕ) (before now : Tables) : Type 0 where
@@ -64,14 +64,16 @@ pub record Past10 (g : Geometry) (n : ℕ) (image : List ℕ) (s : ScanTotals) (
   pub no10 : refusal10 (mediumOf g n image) ≡ none
 
 -- refusal 11 is past, and the table taken is known: its records, its LEB and the copies mark
-pub record Past11 (g : Geometry) (n : ℕ) (image : List ℕ) (s : ScanTotals) (r : List ℕ) (l k : ℕ) (t : Tables) : Type 0 where
+pub record Past11 (g : Geometry) (n : ℕ) (image : List ℕ) (s : ScanTotals) (r : List ℕ) (l k : ℕ)
+    (t : Tables) : Type 0 where
   pub past10 : Past10 g n image s t
   pub table-is : r ≡ records (mediumOf g n image)
   pub taken-is : taken (mediumOf g n image) ≡ given l
   pub mark-is : k ≡ mark (mediumOf g n image)
 
 -- refusal 12 is past, and the map made, with so many entries
-pub record Past12 (g : Geometry) (n : ℕ) (image : List ℕ) (s : ScanTotals) (r : List ℕ) (l k count : ℕ) (t : Tables) : Type 0 where
+pub record Past12 (g : Geometry) (n : ℕ) (image : List ℕ) (s : ScanTotals) (r : List ℕ) (l k count : ℕ)
+    (t : Tables) : Type 0 where
   pub room : Room g n image t
   pub totals : TotalsOf n (viewsOf g image) s
   pub pebs-are : take (pebWordsNeeded n) (t .pebs) ≡ pebWords (mediumOf g n image)

@@ -159,7 +159,8 @@ fn attach_image(
 ) -> Attached
     requires { ⌜ Placed g ⌝ }
     ensures { λ r. ⌜ Ended
-        (byGeometry (now (image .entry)) (longEnough (lent (now (pebs .entry)) (now (map .entry)) (now (states .entry)))) (given g)) r
+        (byGeometry (now (image .entry))
+        (longEnough (lent (now (pebs .entry)) (now (map .entry)) (now (states .entry)))) (given g)) r
         (lent (now (pebs .entry)) (now (map .entry)) (now (states .entry)))
         (lent (now (pebs .exit)) (now (map .exit)) (now (states .exit))) ⌝ }
 {

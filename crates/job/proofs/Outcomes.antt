@@ -19,7 +19,7 @@ use Rattle.report.specs.View.{Medium, mediumOf}
 use Rattle.report.specs.Scan.{Refusal}
 use Rattle.report.specs.Report.{refusal}
 use Rattle.geometry.specs.Image.{pebCount, imageRules}
-use Rattle.report.specs.Attach.{AttachRequest, early, whole, byViews, byGeometry, attaching}
+use Rattle.report.specs.Attach.{AttachRequest, early, whole, byRefusal, byGeometry, attaching}
 use Rattle.job.specs.Outcomes.{outcomeOf, attaches}
 
 -- with tables that are long enough for its PEBs, attaching an image comes to the same
@@ -93,7 +93,7 @@ pub has-attached : (req : AttachRequest) (image : List ℕ) → attaches (outcom
 unfolding outcomeOf attaching imageRules
 has-attached req image e = go (slipGeometry (req .slip)) refl e
   where
-    some-not : (m : Medium) (r : Option Refusal) → attaches (byViews m r) ≡ true → r ≡ none
+    some-not : (m : Medium) (r : Option Refusal) → attaches (byRefusal m r) ≡ true → r ≡ none
     some-not m none e = refl
     some-not m (some r) e = absurd (false≢true e)
 
@@ -105,7 +105,7 @@ has-attached req image e = go (slipGeometry (req .slip)) refl e
         n = pebCount g image
 
         by : (r : Bool) → allOf (imageRules g image) ≡ r
-            → attaches (cond r (byViews (mediumOf g n image) (refusal (mediumOf g n image))) (early 3)) ≡ true → Attached req image
+            → attaches (cond r (byRefusal (mediumOf g n image) (refusal (mediumOf g n image))) (early 3)) ≡ true → Attached req image
         by false q e = absurd (false≢true e)
         by true q e =
             let r : (k : ℕ) → getD (imageRules g image) k true ≡ true = each-holds (imageRules g image) q in

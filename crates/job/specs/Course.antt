@@ -47,8 +47,8 @@ module _ {P : Type 0} (J : Job P) where
   imageLeft p image (toStop s) =
       stepCut J (s .stored) (s .erased) (afterSteps p image (s .before) .plan) (afterSteps p image (s .before) .image)
 
-  -- the steps of an accepted job, called one by one: none is refused; the first go on, as many as the job counts; "Further
-  -- steps answer done and change nothing."
+  -- the steps of an accepted job, called one by one: none is refused; the first go on, as many as the job counts;
+  -- "Further steps answer done and change nothing."
   pub record Steps (p : P) (image : List ℕ) : Type 0 where
     pub go-on : (k : ℕ) → k < J .count p image
         → nextStep (afterSteps p image k) .answer ≡ given (on (afterSteps p image (suc k) .plan))

@@ -19,7 +19,7 @@ use Rattle.geometry.specs.Slip.{valueAt, wellFormed, slipGeometry}
 use Rattle.report.specs.View.{Medium, mediumOf}
 use Rattle.report.specs.Scan.{Refusal}
 use Rattle.report.specs.Report.{entries, refusal}
-use Rattle.report.specs.Attach.{Outcome, early, late, whole, roomRules, longEnough, byViews, byGeometry}
+use Rattle.report.specs.Attach.{Outcome, early, late, whole, roomRules, longEnough, byRefusal, byGeometry}
 use Rattle.report.specs.Attach.{attaching, reportOf}
 use Rattle.report.proofs.Tables.{entries-fit}
 use Rattle.listing.specs.Listing.{slipPart, imagePart, tooMuch, afterSlip, programTables, textFor, judging}
@@ -99,7 +99,7 @@ module _ (g : Geometry) (image : List ℕ) (h : 1024 ≤ g .«peb_size») (k : l
     where
       go : (a : Bool) → allOf (imageRules g image) ≡ a → (b : Bool) → b ≡ true → (x : Option Refusal)
           → refusal (mediumOf g (pebCount g image) image) ≡ x
-          → Fine (cond a (cond b (byViews (mediumOf g (pebCount g image) image) x) (early 4)) (early 3))
+          → Fine (cond a (cond b (byRefusal (mediumOf g (pebCount g image) image) x) (early 4)) (early 3))
       go false e b q x z = fine-early 3 (λ w. omega arith)
       go true e false q x z = absurd (true≢false (sym q))
       go true e true q (some r) z = fine-late (pebCount g image) r

@@ -37,7 +37,9 @@ pub fn data_end(s: &[u8]) -> usize
 // The bytes of a dynamic copy that are worth moving: all up to the last that is not 0xFF, in whole units.
 fn content_size(p: &[u8], g: Geometry, pad: u32) -> u32
     requires { ⌜ (Placed g) × ((length (now p) ≡ g .«peb_size») × (pad ≤ g .«leb_size»)) ⌝ }
-    ensures { λ r. ⌜ (r ≡ roundUp (g .unit) (dataEnd (take (g .«leb_size» - pad) (drop (g .«data_start») (now (p .entry)))))) × (r ≤ g .«leb_size») ⌝ }
+    ensures { λ r. ⌜ (r
+        ≡ roundUp (g .unit) (dataEnd (take (g .«leb_size» - pad) (drop (g .«data_start») (now (p .entry))))))
+        × (r ≤ g .«leb_size») ⌝ }
 {
     let at = g.data_start as usize;
     let end = data_end(&p[at..at + (g.leb_size - pad) as usize]);
@@ -58,18 +60,20 @@ fn new_size(p: &[u8], g: Geometry, h: VidHeader) -> u32
 
 // The CRC of the first `to` data bytes, from that of the first `from`.
 fn extend_crc(p: &[u8], g: Geometry, crc: u32, from: u32, to: u32) -> u32
-    requires { ⌜ (crc ≡ crcOf (part (g .«data_start») from (now p))) × ((from ≤ to) × (g .«data_start» + to ≤ length (now p))) ⌝ }
+    requires { ⌜ (crc ≡ crcOf (part (g .«data_start») from (now p)))
+        × ((from ≤ to) × (g .«data_start» + to ≤ length (now p))) ⌝ }
     ensures { λ r. ⌜ r ≡ crcOf (part (g .«data_start») to (now (p .entry))) ⌝ }
 {
     let at = g.data_start as usize;
     crc32::update(crc, &p[at + from as usize..at + to as usize])
 }
 
-// The CRCs of the first `old` and of the first `new` data bytes. The longer run goes on where the shorter ends, so that no byte is
-// checksummed twice; 0xFFFFFFFF is the CRC of no bytes.
+// The CRCs of the first `old` and of the first `new` data bytes. The longer run goes on where the shorter ends, so that
+// no byte is checksummed twice; 0xFFFFFFFF is the CRC of no bytes.
 fn both_crcs(p: &[u8], g: Geometry, old: u32, new: u32) -> Crcs
     requires { ⌜ (g .«data_start» + old ≤ length (now p)) × (g .«data_start» + new ≤ length (now p)) ⌝ }
-    ensures { λ r. ⌜ (r .old ≡ crcOf (part (g .«data_start») old (now (p .entry)))) × (r .new ≡ crcOf (part (g .«data_start») new (now (p .entry)))) ⌝ }
+    ensures { λ r. ⌜ (r .old ≡ crcOf (part (g .«data_start») old (now (p .entry))))
+        × (r .new ≡ crcOf (part (g .«data_start») new (now (p .entry)))) ⌝ }
 {
     if old < new {
         let crc = extend_crc(p, g, 0xFFFFFFFF, 0, old);

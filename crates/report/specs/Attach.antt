@@ -53,9 +53,9 @@ pub data Outcome : Type 0 where
   late : ℕ → Refusal → Outcome
   whole : Medium → Outcome
 
-abbrev pub byViews : Medium → Option Refusal → Outcome
-byViews m (some r) = late (m .count) r
-byViews m none = whole m
+abbrev pub byRefusal : Medium → Option Refusal → Outcome
+byRefusal m (some r) = late (m .count) r
+byRefusal m none = whole m
 
 -- an image of a geometry; `room` says of a PEB count whether the lent tables are long enough for it
 module _ (image : List ℕ) (room : ℕ → Bool) where
@@ -64,7 +64,7 @@ module _ (image : List ℕ) (room : ℕ → Bool) where
   byGeometry (given g) =
       cond (allOf (imageRules g image))
       (cond (room (pebCount g image))
-      (byViews (mediumOf g (pebCount g image) image) (refusal (mediumOf g (pebCount g image) image)))
+      (byRefusal (mediumOf g (pebCount g image) image) (refusal (mediumOf g (pebCount g image) image)))
       (early 4))
       (early 3)
 

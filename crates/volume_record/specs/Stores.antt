@@ -1,4 +1,5 @@
--- What the contracts of the record writer cite: the stores of its fields. No public promise names them. Assumes nothing.
+-- What the contracts of the record writer cite: the stores of its fields. No public promise names them. Assumes
+-- nothing.
 use mathlib.Core.List.{List, [], _∷_}
 use Prim.Native.Nat.{ℕ}
 use lib.ListN.{take}

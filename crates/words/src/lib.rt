@@ -17,9 +17,6 @@ pub const ENTRY_WORDS: usize = 3;
 // The words of all volume states: one for each user volume.
 pub const STATE_WORDS: usize = 128;
 
-// An image has so many PEBs at most.
-pub const MAX_PEBS: usize = 4096;
-
 // The class of PEB i.
 pub fn class_word(pebs: &[u32], i: usize) -> u32
     requires { ⌜ HasPeb (now pebs) i ⌝ }

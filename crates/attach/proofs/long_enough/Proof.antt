@@ -6,7 +6,8 @@ use Rattle.attach.proofs.long_enough.Statement.{statement}
 use Rattle.attach.proofs.long_enough.Tie as tie
 
 returns : tie.Need-returns
-returns c = let a = c .before .args in short-pebs (lent (a .pebs .now) (a .map .now) (a .states .now)) (a .n) (c .if1 .taken)
+returns c =
+    let a = c .before .args in short-pebs (lent (a .pebs .now) (a .map .now) (a .states .now)) (a .n) (c .if1 .taken)
 
 returns-2 : tie.Need-returns-2
 returns-2 c =

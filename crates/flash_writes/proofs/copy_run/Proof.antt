@@ -12,19 +12,19 @@ use Rattle.flash_writes.proofs.copy_run.Statement.{statement}
 use Rattle.flash_writes.proofs.copy_run.Tie as tie
 
 abbrev Inv-loop : tie.InvT-loop
-Inv-loop image₀ from to n i₀ image i = (i ≤ n) × ((length image ≡ length image₀) × (image ≡ paste image₀ to (part from n image₀) i))
+Inv-loop image₀ from to n i₀ image i =
+    (i ≤ n) × ((length image ≡ length image₀) × (image ≡ paste image₀ to (part from n image₀) i))
 
 abbrev μ-loop : tie.MeasureT-loop
 μ-loop image₀ from to n i₀ image i = n - i
 
 loop-holds : tie.Need-loop-holds Inv-loop μ-loop
-loop-holds c = (omega arith, (refl, paste-zero (c .args .image .now) (c .args .to) (part (c .args .from) (c .args .n) (c .args .image .now))))
+loop-holds c =
+    (omega arith, (refl, paste-zero (c .args .image .now) (c .args .to) (part (c .args .from) (c .args .n) (c .args .image .now))))
 
 loop-again : tie.Need-loop-again Inv-loop μ-loop
 loop-again c =
-    let l = c .before .before .loop in
-    let s = c .before .before .before in
-    let a = s .args in
+    let s = c .before .before .before in let l = c .before .before .loop in let a = s .args in
     let more = copy-more (a .image .now) (a .from) (a .to) (a .n) (l .i) (omega arith) (omega arith) (omega arith) (s .pre .1 .1) in
     (omega arith, (rw length-set (l .inv .1 .0), rw (l .inv .1 .1) more))
 

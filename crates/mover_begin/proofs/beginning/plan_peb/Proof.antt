@@ -14,13 +14,19 @@ use Rattle.mover_begin.proofs.beginning.plan_peb.Statement.{statement}
 use Rattle.mover_begin.proofs.beginning.plan_peb.Tie as tie
 
 mul-at : tie.Need-mul-at
-mul-at c = let d = c .before .before .before .before in record { fits = omega (arith, room (d .pre .0 .reported) (d .args .old) (d .pre .1 .0)) }
+mul-at c =
+    let d = c .before .before .before .before in
+    record { fits = omega (arith, room (d .pre .0 .reported) (d .args .old) (d .pre .1 .0)) }
 
 add-p : tie.Need-add-p
-add-p c = let d = c .before .before .before .before in record { fits = omega (arith, room (d .pre .0 .reported) (d .args .old) (d .pre .1 .0)) }
+add-p c =
+    let d = c .before .before .before .before in
+    record { fits = omega (arith, room (d .pre .0 .reported) (d .args .old) (d .pre .1 .0)) }
 
 part-p-end : tie.Need-part-p-end
-part-p-end c = let d = c .before .before .before .before in search (needs, room (d .pre .0 .reported) (d .args .old) (d .pre .1 .0))
+part-p-end c =
+    let d = c .before .before .before .before in
+    search (needs, room (d .pre .0 .reported) (d .args .old) (d .pre .1 .0))
 
 plan-copy-requires : tie.Need-plan-copy-requires
 plan-copy-requires c κs =

@@ -10,10 +10,10 @@ use Rattle.mover_checks.proofs.block.is_to_delete.Tie as tie
 returns : tie.Need-returns
 unfolding copyOf
 returns c =
-    let a = c .before .before .before .before .before .before .args in
+    let at-see-vid = c .before .before .before .before in let a = at-see-vid .before .before .args in
     c .is-internal .ensures
     ∙ ap (λ (v : VidView). isInternal 1 (goodVid v))
-    (sym (ap (vidSeen (a .g) (a .p .now)) (c .before .before .v .given .1)) ∙ c .before .before .before .before .see-vid .ensures)
+    (sym (ap (vidSeen (a .g) (a .p .now)) (c .before .before .v .given .1)) ∙ at-see-vid .see-vid .ensures)
 
 returns-2 : tie.Need-returns-2
 returns-2 c =

@@ -20,10 +20,14 @@ loop-holds : tie.Need-loop-holds Inv-loop μ-loop
 loop-holds c = let s = c .args .s .now in (omega arith, ap dataEnd (take-all (length s) s (omega arith)))
 
 returns : tie.Need-returns Inv-loop μ-loop
-returns c = (end-stop (c .before .before .before .before .args .s .now) (c .before .before .before .loop .i) (omega arith) (omega arith) (c .if1 .taken) ∙ c .before .before .before .loop .inv .1, omega arith)
+returns c =
+    let at-loop = c .before .before .before in let start = at-loop .before in
+    (end-stop (start .args .s .now) (at-loop .loop .i) (omega arith) (omega arith) (c .if1 .taken) ∙ at-loop .loop .inv .1, omega arith)
 
 loop-again : tie.Need-loop-again Inv-loop μ-loop
-loop-again c = (omega arith, end-go (c .before .before .before .before .args .s .now) (c .before .before .before .loop .i) (omega arith) (omega arith) (c .if1 .left) ∙ c .before .before .before .loop .inv .1)
+loop-again c =
+    let at-loop = c .before .before .before in let start = at-loop .before in
+    (omega arith, end-go (start .args .s .now) (at-loop .loop .i) (omega arith) (omega arith) (c .if1 .left) ∙ at-loop .loop .inv .1)
 
 returns-2 : tie.Need-returns-2 Inv-loop μ-loop
 unfolding dataEnd

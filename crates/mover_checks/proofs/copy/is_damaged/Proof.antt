@@ -10,7 +10,9 @@ returns-2 : tie.Need-returns-2
 returns-2 c = flagged (c .before .before .before .args .h) (c .before .before .if1 .left) (c .if2 .taken)
 
 returns-3 : tie.Need-returns-3
-returns-3 c = plain (c .before .before .before .before .args .h) (c .before .before .before .if1 .left) (c .before .if2 .left)
+returns-3 c =
+    let start = c .before .before .before .before in
+    plain (start .args .h) (c .before .before .before .if1 .left) (c .before .if2 .left)
 
 pub is-damaged-spec : {M : Type 1} → statement M
 is-damaged-spec = tie.close (tie.spec returns returns-2 returns-3)

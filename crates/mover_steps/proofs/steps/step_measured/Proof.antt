@@ -22,7 +22,9 @@ may : (e : tie.Else1) → let a = e .before .before .before .before .args in run
 may e = was-true (e .before .may-run .ensures) (e .if1 .left)
 
 runs : (e : tie.Else1) → let a = e .before .before .before .before .args in Running (a .g) (a .plan) (a .image .now)
-runs e = let s = e .before .before .before .before in running (s .args .g) (s .args .plan) (s .pre) (s .args .image .now) (may e)
+runs e =
+    let s = e .before .before .before .before in
+    running (s .args .g) (s .args .plan) (s .pre) (s .args .image .now) (may e)
 
 data-steps-requires : tie.Need-data-steps-requires
 data-steps-requires c κs = data-bounds (runs c)
@@ -43,11 +45,10 @@ write-next-requires c κs =
 returns-3 : tie.Need-returns-3
 unfolding stepCount oneOn
 returns-3 c =
-    let w = c .before .before .before in
-    let e = w .before .before in
-    let d = e .before .before in
+    let w = c .before .before .before in let e = w .before .before in let d = e .before .before in
     let a = d .before .before .before .before .before .args in
-    step-on (a .plan) (a .image .now) (may (d .before)) (rw (← (d .data-steps .ensures .0)) (e .if2 .left)) (w .write-next .ensures)
+    step-on (a .plan) (a .image .now) (may (d .before)) (rw (← (d .data-steps .ensures .0)) (e .if2 .left))
+    (w .write-next .ensures)
 
 pub step-measured-spec : {M : Type 1} → statement M
 step-measured-spec =

@@ -36,20 +36,17 @@ add-to c =
 
 copy-run-requires : tie.Need-copy-run-requires
 copy-run-requires c κs =
-    let f = c .before .before in
-    let l = f .before .before in
-    let s = l .before .before .before in
-    copyable (s .args .g) (s .args .plan) (s .args .image .now) (s .pre .0) (s .args .j) (s .pre .1) (f .peb-start .ensures)
+    let f = c .before .before in let l = f .before .before in let s = l .before .before .before in
+    copyable (s .args .g) (s .args .plan) (s .args .image .now) (s .pre .0) (s .args .j) (s .pre .1)
+    (f .peb-start .ensures)
     (c .before .peb-start2 .ensures) (l .unit-length .ensures)
 
 returns : tie.Need-returns
 returns c =
-    let r = c .before .before in
-    let t = r .before .before in
-    let f = t .before in
-    let l = f .before .before in
+    let r = c .before .before in let t = r .before .before in let f = t .before in let l = f .before .before in
     let s = l .before .before .before in
-    unit-stored (s .args .g) (s .args .plan) (s .args .image .now) (s .pre .0) (s .args .j) (s .pre .1) (f .peb-start .ensures)
+    unit-stored (s .args .g) (s .args .plan) (s .args .image .now) (s .pre .0) (s .args .j) (s .pre .1)
+    (f .peb-start .ensures)
     (t .peb-start2 .ensures) (l .unit-length .ensures) (r .copy-run .ensures)
 
 pub store-unit-spec : {M : Type 1} → statement M
