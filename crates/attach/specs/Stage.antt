@@ -32,32 +32,32 @@ outcome g n image = byRefusal (mediumOf g n image) (refusal (mediumOf g n image)
 
 -- the words beyond those that n PEBs need are the same
 pub record SameBeyond (n : ℕ) (before now : Tables) : Type 0 where
-  pub pebs-tail : drop (pebWordsNeeded n) (now .pebs) ≡ drop (pebWordsNeeded n) (before .pebs)
-  pub map-tail : drop (mapWordsNeeded n) (now .map) ≡ drop (mapWordsNeeded n) (before .map)
-  pub states-tail : drop stateWordsNeeded (now .states) ≡ drop stateWordsNeeded (before .states)
+  pub pebs-tail : drop (pebWordsNeeded n) now.pebs ≡ drop (pebWordsNeeded n) before.pebs
+  pub map-tail : drop (mapWordsNeeded n) now.map ≡ drop (mapWordsNeeded n) before.map
+  pub states-tail : drop stateWordsNeeded now.states ≡ drop stateWordsNeeded before.states
 
 -- an image of 2 to 4,096 PEBs, and lent tables that are long enough
 pub record Room (g : Geometry) (n : ℕ) (image : List ℕ) (t : Tables) : Type 0 where
   pub placed : Placed g
-  pub whole : length image ≡ n * g .«peb_size»
+  pub whole : length image ≡ n * g.«peb_size»
   pub least : 2 ≤ n
   pub few : n ≤ 4096
-  pub long-pebs : pebWordsNeeded n ≤ length (t .pebs)
-  pub long-map : mapWordsNeeded n ≤ length (t .map)
-  pub long-states : stateWordsNeeded ≤ length (t .states)
+  pub long-pebs : pebWordsNeeded n ≤ length t.pebs
+  pub long-map : mapWordsNeeded n ≤ length t.map
+  pub long-states : stateWordsNeeded ≤ length t.states
 
 -- refusals 5 to 8 are past, and the words are those of the first pass
 pub record Past8 (g : Geometry) (n : ℕ) (image : List ℕ) (s : ScanTotals) (t : Tables) : Type 0 where
   pub room : Room g n image t
   pub totals : TotalsOf n (viewsOf g image) s
   pub no5678 : refusal5678 (mediumOf g n image) ≡ none
-  pub pebs-are : t .pebs ≡ firstWords n (viewsOf g image) ++ drop (pebWordsNeeded n) (t .pebs)
-  pub map-is : t .map ≡ keysOf n (viewsOf g image) ++ drop (mapWordsNeeded n) (t .map)
+  pub pebs-are : t .pebs ≡ firstWords n (viewsOf g image) ++ drop (pebWordsNeeded n) t.pebs
+  pub map-is : t .map ≡ keysOf n (viewsOf g image) ++ drop (mapWordsNeeded n) t.map
 
 -- refusals 5 to 10 are past, and the chosen copies marked
 pub record Past10 (g : Geometry) (n : ℕ) (image : List ℕ) (s : ScanTotals) (t : Tables) : Type 0 where
   pub room : Room g n image t
-  pub chosen : Chosen g image n (t .map) (t .pebs)
+  pub chosen : Chosen g image n t.map t.pebs
   pub totals : TotalsOf n (viewsOf g image) s
   pub no5678 : refusal5678 (mediumOf g n image) ≡ none
   pub no9 : refusal9 n (copies (viewsOf g image)) ≡ none
@@ -76,7 +76,7 @@ pub record Past12 (g : Geometry) (n : ℕ) (image : List ℕ) (s : ScanTotals) (
     (t : Tables) : Type 0 where
   pub room : Room g n image t
   pub totals : TotalsOf n (viewsOf g image) s
-  pub pebs-are : take (pebWordsNeeded n) (t .pebs) ≡ pebWords (mediumOf g n image)
-  pub fitting : NoMisfit g n image (t .map) r count
+  pub pebs-are : take (pebWordsNeeded n) t.pebs ≡ pebWords (mediumOf g n image)
+  pub fitting : NoMisfit g n image t.map r count
   pub taken-is : taken (mediumOf g n image) ≡ given l
   pub mark-is : k ≡ mark (mediumOf g n image)

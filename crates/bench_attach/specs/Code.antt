@@ -5,5 +5,5 @@ use Rattle.report.specs.declared.Report.{Report}
 
 -- the report's grade, or 16 and the refusal's number
 abbrev pub codeOf : Answer Report → ℕ
-codeOf (given r) = r .grade
+codeOf (given r) = r.grade
 codeOf (refused k p) = k + 16

@@ -22,7 +22,7 @@ Holds map i = volumeWord map i ≡ noWord → ⊥
 -- an image of n PEBs, and the lent words: the first two of each PEB's three hold its volume and LEB
 pub record Keyed (g : Geometry) (image : List ℕ) (n : ℕ) (map : List ℕ) : Type 0 where
   pub placed : Placed g
-  pub whole : length image ≡ n * g .«peb_size»
+  pub whole : length image ≡ n * g.«peb_size»
   pub long : mapWordsNeeded n ≤ length map
   pub volumes : (i : ℕ) → i < n → volumeWord map i ≡ getD (keyWords i (viewsOf g image i .vid)) 0 0
   pub lnums : (i : ℕ) → i < n → lnumWord map i ≡ getD (keyWords i (viewsOf g image i .vid)) 1 0
@@ -34,7 +34,7 @@ sequenceAt g image i = headerAt g image i .sequence
 -- PEB i lies within the image, and its three words within the map
 pub record Within (g : Geometry) (image map : List ℕ) (i : ℕ) : Type 0 where
   pub placed : Placed g
-  pub bytes : (i + 1) * g .«peb_size» ≤ length image
+  pub bytes : (i + 1) * g.«peb_size» ≤ length image
   pub words : HasEntry map i
 
 -- do the words of two PEBs name one volume and LEB?
@@ -61,8 +61,7 @@ pub record Choosing (g : Geometry) (image : List ℕ) (n : ℕ) (map : List ℕ)
 -- with the higher
 abbrev pub higherOf : Geometry → List ℕ → ℕ → List ℕ → ℕ → ℕ → ℕ → ℕ → ℕ
 higherOf g image n map i most best j =
-    cond
-    (sameLeb map i j
+    cond (sameLeb map i j
     && (leb (sequenceAt g image j) most && (eqb best n || ltb (sequenceAt g image best) (sequenceAt g image j)))) j best
 
 -- r is, of the copies of PEB i's LEB in the PEBs from k on with a sequence of at most `most`, one with the highest

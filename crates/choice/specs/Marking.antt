@@ -24,10 +24,10 @@ pub record Linking (g : Geometry) (image : List ℕ) (n : ℕ) (map heads : List
 -- a class word is that of the first pass, or marked already; it is marked if it is of the chosen copy of a LEB that a
 -- PEB below i has
 pub record MarkedTo (m : Medium) (map pebs : List ℕ) (i : ℕ) : Type 0 where
-  pub long : pebWordsNeeded (m .count) ≤ length pebs
-  pub counters : (p : ℕ) → p < m .count → counterWord pebs p ≡ counterOr noWord (ecs (m .views) p)
-  pub classes : (p : ℕ) → p < m .count
-      → (classWord pebs p ≡ firstClass (m .views p .ec) (m .views p .vid))
-      ⊎ (classWord pebs p ≡ markedClass (places m) p (m .views p .ec) (m .views p .vid))
+  pub long : pebWordsNeeded m.count ≤ length pebs
+  pub counters : (p : ℕ) → p < m.count → counterWord pebs p ≡ counterOr noWord (ecs m.views p)
+  pub classes : (p : ℕ) → p < m.count
+      → (classWord pebs p ≡ firstClass (m.views p .ec) (m.views p .vid))
+      ⊎ (classWord pebs p ≡ markedClass (places m) p (m.views p .ec) (m.views p .vid))
   pub chosen : (k : ℕ) → k < i → (Holds map k)
       → (p : ℕ) → places m (volumeWord map k) (lnumWord map k) ≡ some p → classWord pebs p ≡ 1

@@ -26,5 +26,5 @@ faceAt g image i = faceOf g (copyAt g image i)
 -- PEB i lies within the image, and its VID header is good
 pub record HasCopy (g : Geometry) (image : List ℕ) (i : ℕ) : Type 0 where
   pub placed : Placed g
-  pub bytes : (i + 1) * g .«peb_size» ≤ length image
+  pub bytes : (i + 1) * g.«peb_size» ≤ length image
   pub is : copies (viewsOf g image) i ≡ some (copyAt g image i)

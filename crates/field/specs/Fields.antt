@@ -16,16 +16,16 @@ row fields i = getD fields i (field 0 0)
 
 -- the bytes of a field of s, and the number in them
 abbrev pub bytesIn : Field → List ℕ → List ℕ
-bytesIn f s = part (f .at) (f .width) s
+bytesIn f s = part f.at f.width s
 
 abbrev pub numberIn : Field → List ℕ → ℕ
 numberIn f s = beOf (bytesIn f s)
 
 -- s with the number v stored in a field
 abbrev pub stored : Field → ℕ → List ℕ → List ℕ
-stored f v s = put (f .at) (toBe (f .width) v) s
+stored f v s = put f.at (toBe f.width v) s
 
 -- s with several numbers stored, the first of them first
 abbrev pub storedAll : List (Field × ℕ) → List ℕ → List ℕ
 storedAll [] s = s
-storedAll (x ∷ xs) s = storedAll xs (stored (x .0) (x .1) s)
+storedAll (x ∷ xs) s = storedAll xs (stored x.0 x.1 s)

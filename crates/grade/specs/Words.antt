@@ -21,7 +21,7 @@ soundState states v = not (eqb (getD states v 0) 2 || eqb (getD states v 0) 3)
 
 -- the words are those of the report, and the word of a lost counter is no good counter
 pub record Read (m : Medium) (pebs states : List ℕ) (marked : ℕ) : Type 0 where
-  pub pebs-are : take (pebWordsNeeded (m .count)) pebs ≡ pebWords m
+  pub pebs-are : take (pebWordsNeeded m.count) pebs ≡ pebWords m
   pub states-are : take stateWordsNeeded states ≡ stateWords m
   pub mark-is : marked ≡ mark m
-  pub lost-only : (i : ℕ) → i < m .count → counterAt m i ≡ noWord → hasCounter (ecs (m .views) i) ≡ false
+  pub lost-only : (i : ℕ) → i < m.count → counterAt m i ≡ noWord → hasCounter (ecs m.views i) ≡ false

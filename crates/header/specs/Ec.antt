@@ -31,10 +31,10 @@ ecFields s = record {
 
 -- "lost if .. the counter exceeds 0x7FFFFFFF"
 unfoldable pub ecRules : EcHeader → List Bool
-ecRules h = leb (h .counter) 0x7FFFFFFF ∷ []
+ecRules h = leb h.counter 0x7FFFFFFF ∷ []
 
 unfoldable pub judgeEc : EcHeader → Verdict EcHeader
-judgeEc h = judged (h .version) (ecRules h) h
+judgeEc h = judged h.version (ecRules h) h
 
 -- the header in the first 64 bytes
 unfoldable pub readEc : List ℕ → Verdict EcHeader
@@ -54,8 +54,8 @@ ecAnswer Short = refused 4 0
 -- data start 20-23, image sequence 24-27, zero 28-59"; "Padding is written as zero and read only through the CRC."
 unfoldable pub ecHead : EcHeader → List ℕ
 ecHead h =
-    ecMagic ++ toBe 1 (h .version) ++ replicate 3 0 ++ toBe 8 (h .counter)
-    ++ toBe 4 (h .«vid_start») ++ toBe 4 (h .«data_start») ++ toBe 4 (h .«image_seq») ++ replicate 32 0
+    ecMagic ++ toBe 1 h.version ++ replicate 3 0 ++ toBe 8 h.counter
+    ++ toBe 4 h.«vid_start» ++ toBe 4 h.«data_start» ++ toBe 4 h.«image_seq» ++ replicate 32 0
 
 unfoldable pub ecBytes : EcHeader → List ℕ
 ecBytes h = headerBytes (ecHead h)

@@ -23,21 +23,19 @@ crcStored s = stored headerCrc (crcOf (take 60 s)) s
 unfoldable pub ecStored : EcHeader → List ℕ → List ℕ
 ecStored h s =
     storedAll
-    ((ecVersion, h .version) ∷ (ecCounter, h .counter) ∷ (ecVidStart, h .«vid_start») ∷ (ecDataStart, h .«data_start»)
-    ∷ (ecImageSeq, h .«image_seq») ∷ []) s
+    ((ecVersion, h.version) ∷ (ecCounter, h.counter) ∷ (ecVidStart, h.«vid_start») ∷ (ecDataStart, h.«data_start»)
+    ∷ (ecImageSeq, h.«image_seq») ∷ []) s
 
 -- the bytes s with the fields of a VID header stored, in three runs
 unfoldable pub kindStored : VidHeader → List ℕ → List ℕ
 kindStored h s =
-    storedAll
-    ((vidVersion, h .version) ∷ (vidType, h .«vol_type») ∷ (vidCopyFlag, h .«copy_flag»)
-    ∷ (vidCompat, h .compat) ∷ []) s
+    storedAll ((vidVersion, h.version) ∷ (vidType, h.«vol_type») ∷ (vidCopyFlag, h.«copy_flag»)
+    ∷ (vidCompat, h.compat) ∷ []) s
 
 unfoldable pub volumeStored : VidHeader → List ℕ → List ℕ
-volumeStored h s = storedAll ((vidVolume, h .volume) ∷ (vidLnum, h .lnum) ∷ (vidSequence, h .sequence) ∷ []) s
+volumeStored h s = storedAll ((vidVolume, h.volume) ∷ (vidLnum, h.lnum) ∷ (vidSequence, h.sequence) ∷ []) s
 
 unfoldable pub dataStored : VidHeader → List ℕ → List ℕ
 dataStored h s =
-    storedAll
-    ((vidDataSize, h .«data_size») ∷ (vidUsedLebs, h .«used_lebs») ∷ (vidDataPad, h .«data_pad»)
-    ∷ (vidDataCrc, h .«data_crc») ∷ []) s
+    storedAll ((vidDataSize, h.«data_size») ∷ (vidUsedLebs, h.«used_lebs») ∷ (vidDataPad, h.«data_pad»)
+    ∷ (vidDataCrc, h.«data_crc») ∷ []) s

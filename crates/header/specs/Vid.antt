@@ -43,10 +43,8 @@ IsVidField i = (5 ≤ i) × (i < 16)
 -- the number in field i
 abbrev pub vidField : ℕ → VidHeader → ℕ
 vidField i h =
-    getD
-    (h .version ∷ h .«vol_type» ∷ h .«copy_flag» ∷ h .compat ∷ h .volume ∷ h .lnum ∷ h .«data_size» ∷ h .«used_lebs»
-    ∷ h .«data_pad» ∷ h .«data_crc» ∷ h .sequence ∷ [])
-    (i - 5) 0
+    getD (h.version ∷ h.«vol_type» ∷ h.«copy_flag» ∷ h.compat ∷ h.volume ∷ h.lnum ∷ h.«data_size» ∷ h.«used_lebs»
+    ∷ h.«data_pad» ∷ h.«data_crc» ∷ h.sequence ∷ []) (i - 5) 0
 
 -- if the first, then the second
 abbrev pub implies : Bool → Bool → Bool
@@ -59,45 +57,40 @@ layoutVolume = 0x7FFFEFFF
 -- "volume below 128 with compatibility 0, or 0x7FFFEFFF to 0x7FFFFFFF with 1, 2, 4 or 5"
 unfoldable pub volumeRule : VidHeader → Bool
 volumeRule h =
-    (ltb (h .volume) 128 && eqb (h .compat) 0)
-    || (leb layoutVolume (h .volume)
-    && (leb (h .volume) 0x7FFFFFFF
-    && (eqb (h .compat) 1 || (eqb (h .compat) 2 || (eqb (h .compat) 4 || eqb (h .compat) 5)))))
+    (ltb h.volume 128 && eqb h.compat 0) || (leb layoutVolume h.volume && (leb h.volume 0x7FFFFFFF
+    && (eqb h.compat 1 || (eqb h.compat 2 || (eqb h.compat 4 || eqb h.compat 5)))))
 
 -- "static: LEB below used LEBs, data size above 0, and equal to LEB size less pad unless LEB is the last used"
 unfoldable pub staticRule : ℕ → VidHeader → Bool
 staticRule size h =
-    implies (eqb (h .«vol_type») 2)
-    (ltb (h .lnum) (h .«used_lebs»)
-    && (ltb 0 (h .«data_size») && (eqb (h .lnum + 1) (h .«used_lebs») || eqb (h .«data_size») (size - h .«data_pad»))))
+    implies (eqb h.«vol_type» 2) (ltb h.lnum h.«used_lebs»
+    && (ltb 0 h.«data_size» && (eqb (h.lnum + 1) h.«used_lebs» || eqb h.«data_size» (size - h.«data_pad»))))
 
 -- "dynamic: used LEBs 0; with copy flag 0, data size and CRC 0; with copy flag 1, data size above 0"
 unfoldable pub dynamicRule : VidHeader → Bool
 dynamicRule h =
-    implies (eqb (h .«vol_type») 1)
-    (eqb (h .«used_lebs») 0
-    && (implies (eqb (h .«copy_flag») 0) (eqb (h .«data_size») 0 && eqb (h .«data_crc») 0)
-    && implies (eqb (h .«copy_flag») 1) (ltb 0 (h .«data_size»))))
+    implies (eqb h.«vol_type» 1) (eqb h.«used_lebs» 0
+    && (implies (eqb h.«copy_flag» 0) (eqb h.«data_size» 0 && eqb h.«data_crc» 0)
+    && implies (eqb h.«copy_flag» 1) (ltb 0 h.«data_size»)))
 
 -- "volume 0x7FFFEFFF (layout): type 1, compatibility 5, pad 0, LEB 0 or 1"
 unfoldable pub layoutRule : VidHeader → Bool
 layoutRule h =
-    implies (eqb (h .volume) layoutVolume)
-    (eqb (h .«vol_type») 1 && (eqb (h .compat) 5 && (eqb (h .«data_pad») 0 && leb (h .lnum) 1)))
+    implies (eqb h.volume layoutVolume) (eqb h.«vol_type» 1 && (eqb h.compat 5 && (eqb h.«data_pad» 0 && leb h.lnum 1)))
 
 -- "A VID header is also bad unless all hold", in 01's order; `size` is the LEB size
 unfoldable pub vidRules : ℕ → VidHeader → List Bool
 vidRules size h =
     -- "copy flag 0 or 1; type 1 (dynamic) or 2 (static)"
-    leb (h .«copy_flag») 1 ∷ (eqb (h .«vol_type») 1 || eqb (h .«vol_type») 2)
+    leb h.«copy_flag» 1 ∷ (eqb h.«vol_type» 1 || eqb h.«vol_type» 2)
     -- volume with compatibility; "LEB and used LEBs at most 0x7FFFFFFF"
-    ∷ volumeRule h ∷ leb (h .lnum) 0x7FFFFFFF ∷ leb (h .«used_lebs») 0x7FFFFFFF
+    ∷ volumeRule h ∷ leb h.lnum 0x7FFFFFFF ∷ leb h.«used_lebs» 0x7FFFFFFF
     -- "twice data pad below LEB size; data size at most LEB size less pad"
-    ∷ ltb (2 * h .«data_pad») size ∷ leb (h .«data_size») (size - h .«data_pad»)
+    ∷ ltb (2 * h.«data_pad») size ∷ leb h.«data_size» (size - h.«data_pad»)
     ∷ staticRule size h ∷ dynamicRule h ∷ layoutRule h ∷ []
 
 unfoldable pub judgeVid : ℕ → VidHeader → Verdict VidHeader
-judgeVid size h = judged (h .version) (vidRules size h) h
+judgeVid size h = judged h.version (vidRules size h) h
 
 -- the header in the first 64 bytes
 unfoldable pub readVid : ℕ → List ℕ → Verdict VidHeader
@@ -118,10 +111,10 @@ vidAnswer Short = refused 4 0
 -- zero 48-59"; "Padding is written as zero and read only through the CRC."
 unfoldable pub vidHead : VidHeader → List ℕ
 vidHead h =
-    vidMagic ++ toBe 1 (h .version) ++ toBe 1 (h .«vol_type») ++ toBe 1 (h .«copy_flag») ++ toBe 1 (h .compat)
-    ++ toBe 4 (h .volume) ++ toBe 4 (h .lnum) ++ replicate 4 0
-    ++ toBe 4 (h .«data_size») ++ toBe 4 (h .«used_lebs») ++ toBe 4 (h .«data_pad»)
-    ++ toBe 4 (h .«data_crc») ++ replicate 4 0 ++ toBe 8 (h .sequence) ++ replicate 12 0
+    vidMagic ++ toBe 1 h.version ++ toBe 1 h.«vol_type» ++ toBe 1 h.«copy_flag» ++ toBe 1 h.compat
+    ++ toBe 4 h.volume ++ toBe 4 h.lnum ++ replicate 4 0
+    ++ toBe 4 h.«data_size» ++ toBe 4 h.«used_lebs» ++ toBe 4 h.«data_pad»
+    ++ toBe 4 h.«data_crc» ++ replicate 4 0 ++ toBe 8 h.sequence ++ replicate 12 0
 
 unfoldable pub vidBytes : VidHeader → List ℕ
 vidBytes h = headerBytes (vidHead h)

@@ -31,10 +31,10 @@ module _ {P : Type 0} (J : Job P) where
 
   -- the next step: what it answers, and what it leaves
   unfoldable pub nextStep : Left P → Stepping P
-  nextStep x = stepping J (x .plan) (x .image)
+  nextStep x = stepping J x.plan x.image
 
   unfoldable pub oneStep : Left P → Left P
-  oneStep x = record { plan = planLeft (x .plan) (nextStep x .answer); image = nextStep x .image }
+  oneStep x = record { plan = planLeft x.plan (nextStep x .answer); image = nextStep x .image }
 
   -- "its steps, each given the plan and image that the call before left": after k of them
   unfoldable pub afterSteps : P → List ℕ → ℕ → Left P
@@ -43,16 +43,16 @@ module _ {P : Type 0} (J : Job P) where
 
   -- the image that a job leaves which began on `image`: "to the last and any further ones", or stopped
   unfoldable pub imageLeft : P → List ℕ → Course → List ℕ
-  imageLeft p image (toEnd further) = afterSteps p image (J .count p image + further) .image
+  imageLeft p image (toEnd further) = afterSteps p image (J.count p image + further) .image
   imageLeft p image (toStop s) =
-      stepCut J (s .stored) (s .erased) (afterSteps p image (s .before) .plan) (afterSteps p image (s .before) .image)
+      stepCut J s.stored s.erased (afterSteps p image s.before .plan) (afterSteps p image s.before .image)
 
   -- the steps of an accepted job, called one by one: none is refused; the first go on, as many as the job counts;
   -- "Further steps answer done and change nothing."
   pub record Steps (p : P) (image : List ℕ) : Type 0 where
-    pub go-on : (k : ℕ) → k < J .count p image
+    pub go-on : (k : ℕ) → k < J.count p image
         → nextStep (afterSteps p image k) .answer ≡ given (on (afterSteps p image (suc k) .plan))
-    pub are-done : (k : ℕ) → J .count p image ≤ k
+    pub are-done : (k : ℕ) → J.count p image ≤ k
         → (nextStep (afterSteps p image k) .answer ≡ given done)
         × (nextStep (afterSteps p image k) .image ≡ afterSteps p image k .image)
 

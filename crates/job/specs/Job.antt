@@ -31,12 +31,12 @@ pub record Stepping (P : Type 0) : Type 0 where
 module _ {P : Type 0} (J : Job P) where
   -- the write of the plan's next step
   unfoldable pub stepWrite : P → List ℕ → Write
-  stepWrite p image = cond (J .runnable p image) (J .write p image (J .ran p)) nothing
+  stepWrite p image = cond (J.runnable p image) (J.write p image (J.ran p)) nothing
 
   -- 18 is judged first, also of a finished plan. "Further steps answer done and change nothing."
   unfoldable pub stepAnswer : P → List ℕ → Answer (Progress P)
   stepAnswer p image =
-      cond (J .runnable p image) (given (cond (ltb (J .ran p) (J .count p image)) (on (J .next p)) done)) (refused 18 0)
+      cond (J.runnable p image) (given (cond (ltb (J.ran p) (J.count p image)) (on (J.next p)) done)) (refused 18 0)
 
   unfoldable pub stepping : P → List ℕ → Stepping P
   stepping p image = record { answer = stepAnswer p image; image = appliedWhole (stepWrite p image) image }
@@ -58,4 +58,4 @@ module _ {P : Type 0} (J : Job P) where
 
   -- all steps that are left, and one that answers done
   unfoldable pub finishing : P → List ℕ → Stepping P
-  finishing p image = runFor (suc (J .count p image - J .ran p)) p image
+  finishing p image = runFor (suc (J.count p image - J.ran p)) p image

@@ -44,7 +44,7 @@ mapIn (whole m) = entries m
 abbrev pub contentIn : Outcome → ℕ → ℕ → Option (List ℕ)
 contentIn (early k) v l = none
 contentIn (late n r) v l = none
-contentIn (whole m) v l = mapO (λ (f : Face). f .content) (faces m v l)
+contentIn (whole m) v l = mapO (λ (f : Face). f.content) (faces m v l)
 
 -- the class of a PEB
 abbrev pub classIn : Outcome → ℕ → Option ℕ

@@ -19,8 +19,8 @@ pub record Relocation : Type 0 where
 -- the write of the step after k steps: "Step 1 stores the header; each next step one unit of data .., ascending; then
 -- one erases the old PEB to 0xFF; the last stores its EC header .. Further steps .. change nothing."
 unfoldable pub relocating : Geometry → Relocation → ℕ → Write
-relocating g r zero = store (pebStart g (r .target) + g .«vid_start») (r .vid)
+relocating g r zero = store (pebStart g r.target + g.«vid_start») r.vid
 relocating g r (suc j) =
-    cond (ltb j (r .units)) (store (pebStart g (r .target) + (g .«data_start» + j * g .unit)) (r .unit j))
-    (cond (eqb j (r .units)) (erase (pebStart g (r .old)) (g .«peb_size»))
-    (cond (eqb j (r .units + 1)) (store (pebStart g (r .old)) (r .ec)) nothing))
+    cond (ltb j r.units) (store (pebStart g r.target + (g.«data_start» + j * g.unit)) (r.unit j))
+    (cond (eqb j r.units) (erase (pebStart g r.old) g.«peb_size»)
+    (cond (eqb j (r.units + 1)) (store (pebStart g r.old) r.ec) nothing))

@@ -16,7 +16,7 @@ abbrev pub vidAt : Geometry → List ℕ → ℕ → List ℕ
 vidAt g image i = vidPart g (pebAt g image i)
 
 abbrev pub runAt : Geometry → ℕ → List ℕ → ℕ → List ℕ
-runAt g size image i = part (g .«data_start») size (pebAt g image i)
+runAt g size image i = part g.«data_start» size (pebAt g image i)
 
 -- 64 bytes in a header's place, which are whole or not: those that are not have a CRC field unlike the CRC of bytes
 -- 0-59. 0xFF alone need not be named: its CRC field never matches, so the premise is the same with and without it

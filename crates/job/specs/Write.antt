@@ -32,4 +32,4 @@ appliedCut stored erased nothing image = image
 
 -- where a PEB starts in the image
 abbrev pub pebStart : Geometry → ℕ → ℕ
-pebStart g i = i * g .«peb_size»
+pebStart g i = i * g.«peb_size»

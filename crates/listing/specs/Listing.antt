@@ -51,5 +51,4 @@ listed input more out =
 
 -- the buffer then: the text at its start, or as it was
 unfoldable pub listedOut : List ℕ → Bool → List ℕ → List ℕ
-listedOut input more out =
-    cond (leb (length (listingOf input more)) (length out)) (over (listingOf input more) out) out
+listedOut input more out = cond (leb (length (listingOf input more)) (length out)) (over (listingOf input more) out) out

@@ -14,9 +14,8 @@ use Rattle.listing_text.specs.declared.Rendered.the-variants.{Text, Shor
 -- the words of which a listing's lines are made stand in the tables
 abbrev pub tablesHold : Answer Report → Tables → Bool
 tablesHold (given r) t =
-    allOf
-    (leb (r .«peb_count» * 2) (length (t .pebs)) ∷ leb (r .entries * 3) (length (t .map))
-    ∷ leb 128 (length (t .states)) ∷ [])
+    allOf (leb (r.«peb_count» * 2) (length t.pebs) ∷ leb (r.entries * 3) (length t.map)
+    ∷ leb 128 (length t.states) ∷ [])
 tablesHold (refused k p) t = true
 
 module _ (a : Answer Report) (t : Tables) (out : List ℕ) where

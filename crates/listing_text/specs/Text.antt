@@ -39,13 +39,12 @@ lineEnd = ascii "\n"
 
 -- "The first line names its numbers (after attached, the PEB count)"
 unfoldable pub numbersPart : Report → List ℕ
-numbersPart r =
-    pair "attached " (r .«peb_count») " entries " (r .entries) ++ pair " mean " (r .mean) " highest " (r .highest)
+numbersPart r = pair "attached " r.«peb_count» " entries " r.entries ++ pair " mean " r.mean " highest " r.highest
 
 unfoldable pub marksPart : Report → List ℕ
 marksPart r =
-    pair " readonly " (cond (r .«read_only») 1 0) " table " (r .table)
-    ++ (pair " copies " (r .«copies_mark») " grade " (r .grade) ++ lineEnd)
+    pair " readonly " (cond r.«read_only» 1 0) " table " r.table
+    ++ (pair " copies " r.«copies_mark» " grade " r.grade ++ lineEnd)
 
 abbrev pub attachedLine : Report → List ℕ
 attachedLine r = numbersPart r ++ marksPart r
@@ -87,8 +86,7 @@ volLines k states = concatBelow k (volLineAt states)
 -- "prints in full"
 unfoldable pub reportText : Report → Tables → List ℕ
 reportText r t =
-    attachedLine r
-    ++ (pebLines (r .«peb_count») (t .pebs) ++ (mapLines (r .entries) (t .map) ++ volLines 128 (t .states)))
+    attachedLine r ++ (pebLines r.«peb_count» t.pebs ++ (mapLines r.entries t.map ++ volLines 128 t.states))
 
 -- "A refusal prints only `refused N at P`."
 unfoldable pub refusedText : ℕ → ℕ → List ℕ

@@ -32,7 +32,7 @@ placeAt map v l i = cond (isEntry map v l i) (some (pebWord map i)) none
 
 -- the PEB of the first of so many entries that is of the volume's LEB
 unfoldable pub placeIn : List ℕ → ℕ → ℕ → ℕ → Option ℕ
-placeIn map k v l = cond (leb (mapWordsNeeded k) (length map)) (mapO (λ x. x .1) (firstBelow k (placeAt map v l))) none
+placeIn map k v l = cond (leb (mapWordsNeeded k) (length map)) (mapO (λ x. x.1) (firstBelow k (placeAt map v l))) none
 
 abbrev pub placeAnswer : LebPlace → Option ℕ
 placeAnswer (leb-place.At p) = some p

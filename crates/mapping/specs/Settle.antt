@@ -48,14 +48,14 @@ pub record Settled (t : List ℕ) (n : ℕ) (pebs pebs′ map map′ : List ℕ)
 -- of the table taken
 pub record Marked (m : Medium) (t pebs map : List ℕ) : Type 0 where
   pub table-is : t ≡ records m
-  pub pebs-are : pebs ≡ markedWords (places m) (m .count) (m .views) ++ drop (pebWordsNeeded (m .count)) pebs
-  pub volumes : (i : ℕ) → i < m .count → volumeWord map i ≡ getD (keyWords i (m .views i .vid)) 0 0
-  pub lnums : (i : ℕ) → i < m .count → lnumWord map i ≡ getD (keyWords i (m .views i .vid)) 1 0
-  pub layout-small : (i : ℕ) (c : Copy) → copies (m .views) i ≡ some c → c .header .volume ≡ layoutVolume
-      → c .header .lnum < 2
+  pub pebs-are : pebs ≡ markedWords (places m) m.count m.views ++ drop (pebWordsNeeded m.count) pebs
+  pub volumes : (i : ℕ) → i < m.count → volumeWord map i ≡ getD (keyWords i (m.views i .vid)) 0 0
+  pub lnums : (i : ℕ) → i < m.count → lnumWord map i ≡ getD (keyWords i (m.views i .vid)) 1 0
+  pub layout-small : (i : ℕ) (c : Copy) → copies m.views i ≡ some c → c.header.volume ≡ layoutVolume
+      → c.header.lnum < 2
 
 -- the words of the report then: classes and counters, and the map with its number of entries
 pub record Mapped (m : Medium) (count : ℕ) (pebs pebs′ map map′ : List ℕ) : Type 0 where
-  pub pebs-are : pebs′ ≡ pebWords m ++ drop (pebWordsNeeded (m .count)) pebs
-  pub map-is : map′ ≡ mapWords (m .count) (entries m) ++ drop (mapWordsNeeded (m .count)) map
+  pub pebs-are : pebs′ ≡ pebWords m ++ drop (pebWordsNeeded m.count) pebs
+  pub map-is : map′ ≡ mapWords m.count (entries m) ++ drop (mapWordsNeeded m.count) map
   pub count-is : count ≡ length (entries m)

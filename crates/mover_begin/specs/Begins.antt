@@ -17,17 +17,17 @@ use Rattle.mover_checks.specs.Reported.{Reported}
 
 -- the image that a report is on
 abbrev pub mediumIn : List ℕ → Report → Medium
-mediumIn image r = mediumOf (r .geometry) (r .«peb_count») image
+mediumIn image r = mediumOf r.geometry r.«peb_count» image
 
 -- the image attached, with this report and these words
 pub record Told (image : List ℕ) (r : Report) (pebs : List ℕ) : Type 0 where
-  pub reported : Reported (r .geometry) (r .«peb_count») image pebs
+  pub reported : Reported r.geometry r.«peb_count» image pebs
   pub report-is : r ≡ reportOf (mediumIn image r)
 
 -- and the map's words find each LEB
 pub record Begins (image : List ℕ) (r : Report) (pebs map : List ℕ) : Type 0 where
   pub told : Told image r pebs
-  pub found : (v l : ℕ) → placeIn map (r .entries) v l ≡ mapO (λ (x : ℕ × Copy). x .0) (mapped (mediumIn image r) v l)
+  pub found : (v l : ℕ) → placeIn map r.entries v l ≡ mapO (λ (x : ℕ × Copy). x.0) (mapped (mediumIn image r) v l)
 
 -- PEB o, with the bytes p, has the copy with the header h
 pub record Moved (g : Geometry) (image p : List ℕ) (n o : ℕ) (h : VidHeader) : Type 0 where
@@ -38,9 +38,9 @@ pub record Moved (g : Geometry) (image p : List ℕ) (n o : ℕ) (h : VidHeader)
 -- the plan from PEB o to PEB t with these headers
 abbrev pub planWith : Geometry → ℕ → ℕ → VidHeader → EcHeader → Plan
 planWith g o t vid ec = record {
-  «peb_size» = g .«peb_size»;
-  unit = g .unit;
-  «sub_unit» = g .«sub_unit»;
+  «peb_size» = g.«peb_size»;
+  unit = g.unit;
+  «sub_unit» = g.«sub_unit»;
   old = o;
   target = t;
   vid = vid;

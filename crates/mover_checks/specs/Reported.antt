@@ -21,7 +21,7 @@ use Rattle.mover_checks.specs.declared.Examined.{Examined}
 pub record Reported (g : Geometry) (n : ℕ) (image pebs : List ℕ) : Type 0 where
   pub placed : Placed g
   pub bytes : Bytes image
-  pub whole : length image ≡ n * g .«peb_size»
+  pub whole : length image ≡ n * g.«peb_size»
   pub few : n ≤ 4096
   pub long : pebWordsNeeded n ≤ length pebs
   pub attached : refusal (mediumOf g n image) ≡ none
@@ -31,16 +31,16 @@ pub record Reported (g : Geometry) (n : ℕ) (image pebs : List ℕ) : Type 0 wh
 -- the bytes p of a PEB are whole, and hold the data of a copy with the header h
 pub record Fits (g : Geometry) (p : List ℕ) (h : VidHeader) : Type 0 where
   pub placed : Placed g
-  pub whole : length p ≡ g .«peb_size»
-  pub pad-fits : h .«data_pad» ≤ g .«leb_size»
-  pub data-fits : g .«data_start» + h .«data_size» ≤ length p
+  pub whole : length p ≡ g.«peb_size»
+  pub pad-fits : h .«data_pad» ≤ g.«leb_size»
+  pub data-fits : g .«data_start» + h.«data_size» ≤ length p
 
 -- refusal 15's test of a copy with this header, whose data CRC matches or not
 abbrev pub damagedAs : VidHeader → Bool → Bool
-damagedAs h m = not (eqb (h .«copy_flag») 0 || m) || (eqb (h .«vol_type») 2 && not m)
+damagedAs h m = not (eqb h.«copy_flag» 0 || m) || (eqb h.«vol_type» 2 && not m)
 
 abbrev pub isDamaged : Copy → Bool
-isDamaged c = damagedAs (c .header) (c .matches)
+isDamaged c = damagedAs c.header c.matches
 
 -- what is found of a copy
 abbrev pub examined : Geometry → Copy → Examined
@@ -48,21 +48,21 @@ examined g c = record { damaged = isDamaged c; flag = newFlag g c; size = newSiz
 
 -- refusal 16's test of a target
 abbrev pub isNoTarget : Medium → ℕ → Bool
-isNoTarget m t = not (ltb t (m .count)) || (not (eqb (classAt m t) 0) || not (m .views t .clean))
+isNoTarget m t = not (ltb t m.count) || (not (eqb (classAt m t) 0) || not (m.views t .clean))
 
 -- a header with another flag, data size, data CRC and sequence
 abbrev pub renewedAs : VidHeader → Examined → ℕ → VidHeader
 renewedAs h found sequence = record {
   version = 1;
-  «vol_type» = h .«vol_type»;
-  «copy_flag» = found .flag;
-  compat = h .compat;
-  volume = h .volume;
-  lnum = h .lnum;
-  «data_size» = found .size;
-  «used_lebs» = h .«used_lebs»;
-  «data_pad» = h .«data_pad»;
-  «data_crc» = found .crc;
+  «vol_type» = h.«vol_type»;
+  «copy_flag» = found.flag;
+  compat = h.compat;
+  volume = h.volume;
+  lnum = h.lnum;
+  «data_size» = found.size;
+  «used_lebs» = h.«used_lebs»;
+  «data_pad» = h.«data_pad»;
+  «data_crc» = found.crc;
   sequence = sequence;
 }
 
@@ -71,7 +71,7 @@ abbrev pub ecWith : Geometry → ℕ → ℕ → EcHeader
 ecWith g counter seq = record {
   version = 1;
   counter = counter + 1;
-  «vid_start» = g .«vid_start»;
-  «data_start» = g .«data_start»;
+  «vid_start» = g.«vid_start»;
+  «data_start» = g.«data_start»;
   «image_seq» = seq;
 }

@@ -25,12 +25,12 @@ pub record Call : Type 0 where
 -- is the new VID header whole? is the data run, that of the old PEB in the image that the move began on? "Bytes equal
 -- to the whole count as whole"
 unfoldable pub headerWhole : Plan → List ℕ → Bool
-headerWhole p stopped = eqs (vidAt (planGeometry p) stopped (p .target)) (vidBytes (p .vid))
+headerWhole p stopped = eqs (vidAt (planGeometry p) stopped p.target) (vidBytes p.vid)
 
 unfoldable pub runWhole : Plan → List ℕ → List ℕ → Bool
 runWhole p image stopped =
-    eqs (runAt (planGeometry p) (p .vid .«data_size») stopped (p .target))
-    (runAt (planGeometry p) (p .vid .«data_size») image (p .old))
+    eqs (runAt (planGeometry p) p.vid.«data_size» stopped p.target)
+    (runAt (planGeometry p) p.vid.«data_size» image p.old)
 
 -- "An accepted move writes its target for its LEB, a stopped one exactly if in its stopped image the new VID header and
 -- data run are whole"
@@ -47,21 +47,21 @@ pub record WithBook : Type 0 where
 unfoldable pub callLeft : WithBook → Call → Answer Plan → WithBook
 callLeft x c (refused k q) = x
 callLeft x c (given p) =
-    let last : List ℕ = imageLeft moverJob p (x .image) (c .course) in
+    let last : List ℕ = imageLeft moverJob p x.image c.course in
     record {
       image = last;
       book =
-          cond (isWritten p (x .image) (c .course) last) (placeWritten (c .volume) (c .lnum) (c .target) (x .book))
-          (x .book);
+          cond (isWritten p x.image c.course last) (placeWritten c.volume c.lnum c.target x.book)
+          x.book;
     }
 
 module _ (req : AttachRequest) where
   -- what the beginning of a call answers, with tables long enough
   unfoldable pub begun : List ℕ → Call → Answer Plan
-  begun image c = beginning req image (λ (n : ℕ). true) (c .volume) (c .lnum) (c .target)
+  begun image c = beginning req image (λ (n : ℕ). true) c.volume c.lnum c.target
 
   unfoldable pub afterCall : WithBook → Call → WithBook
-  afterCall x c = callLeft x c (begun (x .image) c)
+  afterCall x c = callLeft x c (begun x.image c)
 
   -- "The place book starts as the first map, beside the first image"
   unfoldable pub atFirst : List ℕ → WithBook
@@ -72,4 +72,4 @@ module _ (req : AttachRequest) where
 
   -- a statement on every call of a list, with the image that the calls before it left, and the one that it leaves
   abbrev pub Each : (List ℕ → Call → List ℕ → Type 0) → WithBook → List Call → Type 0
-  Each S = EachCall afterCall (λ (x : WithBook) (c : Call) (y : WithBook). S (x .image) c (y .image))
+  Each S = EachCall afterCall (λ (x : WithBook) (c : Call) (y : WithBook). S x.image c y.image)

@@ -20,19 +20,17 @@ use Rattle.mover_powercut.specs.Book.{Call, headerWhole, runWhole, begun
 
 -- of a plan, the image that its move began on, and the stopped image
 unfoldable pub premiseRules : Plan → List ℕ → List ℕ → List Bool
-premiseRules p image stopped =
-    let g : Geometry = planGeometry p in
+premiseRules p image stopped = let g : Geometry = planGeometry p in
     -- the new VID header
-    unlike (headerWhole p stopped) (vidAt g stopped (p .target))
+    unlike (headerWhole p stopped) (vidAt g stopped p.target)
     -- the new data run: its checksum field is the header's data CRC
-    ∷ implies (headerWhole p stopped)
-    (runWhole p image stopped
-    || not (eqb (crcOf (runAt g (p .vid .«data_size») stopped (p .target))) (p .vid .«data_crc»)))
+    ∷ implies (headerWhole p stopped) (runWhole p image stopped
+    || not (eqb (crcOf (runAt g p.vid.«data_size» stopped p.target)) p.vid.«data_crc»))
     -- the old PEB's EC header: whole is the one that there was, and the new one
-    ∷ unlike (eqs (ecAt g stopped (p .old)) (ecAt g image (p .old)) || eqs (ecAt g stopped (p .old)) (ecBytes (p .ec)))
-    (ecAt g stopped (p .old))
+    ∷ unlike (eqs (ecAt g stopped p.old) (ecAt g image p.old) || eqs (ecAt g stopped p.old) (ecBytes p.ec))
+    (ecAt g stopped p.old)
     -- the old PEB's VID header
-    ∷ unlike (eqs (vidAt g stopped (p .old)) (vidAt g image (p .old))) (vidAt g stopped (p .old)) ∷ []
+    ∷ unlike (eqs (vidAt g stopped p.old) (vidAt g image p.old)) (vidAt g stopped p.old) ∷ []
 
 -- of a stopped move; nothing is asked where nothing was stopped
 abbrev pub premiseOf : List ℕ → Course → List ℕ → Answer Plan → Bool
@@ -42,4 +40,4 @@ premiseOf image (toStop s) last (given p) = allOf (premiseRules p image last)
 
 -- of a call on an image, and the image that it leaves
 unfoldable pub Premise : AttachRequest → List ℕ → Call → List ℕ → Type 0
-Premise req image c last = premiseOf image (c .course) last (begun req image c) ≡ true
+Premise req image c last = premiseOf image c.course last (begun req image c) ≡ true

@@ -16,7 +16,7 @@ use Rattle.report.specs.Report.{counterOr, meanOf}
 
 -- a copy of a static volume
 abbrev pub isStatic : Copy → Bool
-isStatic c = eqb (c .header .«vol_type») 2
+isStatic c = eqb c.header.«vol_type» 2
 
 -- "the place after the last non-0xFF byte"
 unfoldable pub dataEnd : List ℕ → ℕ
@@ -28,36 +28,34 @@ dataEnd (b ∷ bs) = cond (allFF (b ∷ bs)) 0 (suc (dataEnd bs))
 -- These bytes are the LEB's content: "A LEB's content is its first (LEB size less pad) bytes, or data size bytes if
 -- static."
 unfoldable pub newSize : Geometry → Copy → ℕ
-newSize g c = cond (isStatic c) (c .header .«data_size») (roundUp (g .unit) (dataEnd (contentOf g c)))
+newSize g c = cond (isStatic c) c.header.«data_size» (roundUp g.unit (dataEnd (contentOf g c)))
 
 unfoldable pub newFlag : Geometry → Copy → ℕ
 newFlag g c = cond (isStatic c) 1 (cond (eqb (newSize g c) 0) 0 1)
 
 unfoldable pub newCrc : Geometry → Copy → ℕ
-newCrc g c =
-    cond (isStatic c) (c .header .«data_crc»)
-    (cond (eqb (newSize g c) 0) 0 (crcOf (take (newSize g c) (c .body))))
+newCrc g c = cond (isStatic c) c.header.«data_crc» (cond (eqb (newSize g c) 0) 0 (crcOf (take (newSize g c) c.body)))
 
 -- "The new VID header keeps volume, LEB, type, compatibility, used LEBs and pad; sequence is highest plus 1. Both new
 -- headers have version 1 and zero padding"
 unfoldable pub newVid : Geometry → ℕ → Copy → VidHeader
 newVid g highest c = record {
   version = 1;
-  «vol_type» = c .header .«vol_type»;
+  «vol_type» = c.header.«vol_type»;
   «copy_flag» = newFlag g c;
-  compat = c .header .compat;
-  volume = c .header .volume;
-  lnum = c .header .lnum;
+  compat = c.header.compat;
+  volume = c.header.volume;
+  lnum = c.header.lnum;
   «data_size» = newSize g c;
-  «used_lebs» = c .header .«used_lebs»;
-  «data_pad» = c .header .«data_pad»;
+  «used_lebs» = c.header.«used_lebs»;
+  «data_pad» = c.header.«data_pad»;
   «data_crc» = newCrc g c;
   sequence = highest + 1;
 }
 
 -- "the old PEB's counter (mean if lost)"
 unfoldable pub oldCounter : Medium → ℕ → ℕ
-oldCounter m old = counterOr (meanOf m) (ecs (m .views) old)
+oldCounter m old = counterOr (meanOf m) (ecs m.views old)
 
 -- "the EC header has the geometry's starts and the image sequence that refusal 7 compares with"; "with counter (mean if
 -- lost) plus 1". Where a move is accepted there is such a sequence: the target has a good EC header
@@ -65,7 +63,7 @@ unfoldable pub newEc : Medium → ℕ → EcHeader
 newEc m old = record {
   version = 1;
   counter = oldCounter m old + 1;
-  «vid_start» = m .geometry .«vid_start»;
-  «data_start» = m .geometry .«data_start»;
-  «image_seq» = orZero (imageSeq (m .count) (m .views));
+  «vid_start» = m.geometry.«vid_start»;
+  «data_start» = m.geometry.«data_start»;
+  «image_seq» = orZero (imageSeq m.count m.views);
 }

@@ -19,18 +19,18 @@ use Rattle.mover_rules.specs.declared.Plan.{Plan}
 -- the geometry is the plan's, and within the rules
 pub record Measured (g : Geometry) (p : Plan) : Type 0 where
   pub is : g ≡ planGeometry p
-  pub inside : allOf (geometryRules (p .«peb_size») (p .unit) (p .«sub_unit»)) ≡ true
+  pub inside : allOf (geometryRules p.«peb_size» p.unit p.«sub_unit») ≡ true
   pub placed : Placed g
-  pub same-unit : p .unit ≡ g .unit
+  pub same-unit : p .unit ≡ g.unit
   pub unit-most : g .unit < 8192
 
 pub record Running (g : Geometry) (p : Plan) (image : List ℕ) : Type 0 where
   pub measured : Measured g p
   pub old-below : p .old < 4096
   pub target-below : p .target < 4096
-  pub old-room : p .old * g .«peb_size» + g .«peb_size» ≤ length image
-  pub target-room : p .target * g .«peb_size» + g .«peb_size» ≤ length image
-  pub apart : p .old ≢ p .target
-  pub vid-good : isGood (judgeVid (g .«leb_size») (p .vid)) ≡ true
-  pub ec-good : isGood (judgeEc (p .ec)) ≡ true
-  pub size-fits : p .vid .«data_size» ≤ g .«leb_size»
+  pub old-room : p .old * g.«peb_size» + g.«peb_size» ≤ length image
+  pub target-room : p .target * g.«peb_size» + g.«peb_size» ≤ length image
+  pub apart : p .old ≢ p.target
+  pub vid-good : isGood (judgeVid g.«leb_size» p.vid) ≡ true
+  pub ec-good : isGood (judgeEc p.ec) ≡ true
+  pub size-fits : p .vid .«data_size» ≤ g.«leb_size»

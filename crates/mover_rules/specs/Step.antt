@@ -19,10 +19,9 @@ use Rattle.mover_rules.specs.declared.Stepped.the-variants.{On, Done, Re
 -- or 19 would refuse a header of the plan"
 unfoldable pub stepRules : Plan → List ℕ → List Bool
 stepRules p image =
-    allOf (geometryRules (p .«peb_size») (p .unit) (p .«sub_unit»)) ∷ allOf (imageRules (planGeometry p) image)
-    ∷ ltb (p .old) (pebCount (planGeometry p) image) ∷ ltb (p .target) (pebCount (planGeometry p) image)
-    ∷ not (eqb (p .old) (p .target))
-    ∷ isGood (judgeVid (planGeometry p .«leb_size») (p .vid)) ∷ isGood (judgeEc (p .ec)) ∷ []
+    allOf (geometryRules p.«peb_size» p.unit p.«sub_unit») ∷ allOf (imageRules (planGeometry p) image)
+    ∷ ltb p.old (pebCount (planGeometry p) image) ∷ ltb p.target (pebCount (planGeometry p) image)
+    ∷ not (eqb p.old p.target) ∷ isGood (judgeVid (planGeometry p .«leb_size») p.vid) ∷ isGood (judgeEc p.ec) ∷ []
 
 -- may the plan's steps run on the image? It is judged first, also of a finished plan
 unfoldable pub runnable : Plan → List ℕ → Bool
@@ -31,14 +30,14 @@ runnable p image = allOf (stepRules p image)
 -- a plan with one step more run
 unfoldable pub oneOn : Plan → Plan
 oneOn p = record {
-  «peb_size» = p .«peb_size»;
-  unit = p .unit;
-  «sub_unit» = p .«sub_unit»;
-  old = p .old;
-  target = p .target;
-  vid = p .vid;
-  ec = p .ec;
-  steps = p .steps + 1;
+  «peb_size» = p.«peb_size»;
+  unit = p.unit;
+  «sub_unit» = p.«sub_unit»;
+  old = p.old;
+  target = p.target;
+  vid = p.vid;
+  ec = p.ec;
+  steps = p.steps + 1;
 }
 
 -- the job whose steps are a move
@@ -46,7 +45,7 @@ abbrev pub moverJob : Job Plan
 moverJob = record {
   runnable = runnable;
   count = λ p image. stepCount p;
-  ran = λ p. p .steps;
+  ran = λ p. p.steps;
   next = oneOn;
   write = writeAfter;
 }

@@ -12,11 +12,11 @@ use Rattle.mover_rules.specs.declared.Plan.{Plan}
 
 -- the geometry of the plan's three numbers
 unfoldable pub planGeometry : Plan → Geometry
-planGeometry p = makeGeometry (p .«peb_size») (p .unit) (p .«sub_unit»)
+planGeometry p = makeGeometry p.«peb_size» p.unit p.«sub_unit»
 
 -- "data size over unit, rounded up": the steps that store data
 unfoldable pub dataSteps : Plan → ℕ
-dataSteps p = (p .vid .«data_size» + (p .unit - 1)) / p .unit
+dataSteps p = (p.vid.«data_size» + (p.unit - 1)) / p.unit
 
 -- "Steps: 3 plus data size over unit, rounded up."
 unfoldable pub stepCount : Plan → ℕ
@@ -26,16 +26,16 @@ stepCount p = 3 + dataSteps p
 unfoldable pub unitBytes : Plan → List ℕ → ℕ → List ℕ
 unitBytes p image j =
     let g : Geometry = planGeometry p in
-    part (pebStart g (p .old) + (g .«data_start» + j * g .unit))
-    (min (g .unit) (p .vid .«data_size» - j * g .unit)) image
+    part (pebStart g p.old + (g.«data_start» + j * g.unit))
+    (min g.unit (p.vid.«data_size» - j * g.unit)) image
 
 -- the LEB's new place, with the data as they stand in the image
 abbrev pub relocation : Plan → List ℕ → Relocation
 relocation p image = record {
-  old = p .old;
-  target = p .target;
-  vid = vidBytes (p .vid);
-  ec = ecBytes (p .ec);
+  old = p.old;
+  target = p.target;
+  vid = vidBytes p.vid;
+  ec = ecBytes p.ec;
   units = dataSteps p;
   unit = unitBytes p image;
 }

@@ -33,8 +33,8 @@ lent pebs map states = record { pebs = pebs; map = map; states = states }
 -- refusal 4: "a lent table .. is too short"
 unfoldable pub roomRules : Tables → ℕ → List Bool
 roomRules t n =
-    leb (pebWordsNeeded n) (length (t .pebs)) ∷ leb (mapWordsNeeded n) (length (t .map))
-    ∷ leb stateWordsNeeded (length (t .states)) ∷ []
+    leb (pebWordsNeeded n) (length t.pebs) ∷ leb (mapWordsNeeded n) (length t.map)
+    ∷ leb stateWordsNeeded (length t.states) ∷ []
 
 abbrev pub longEnough : Tables → ℕ → Bool
 longEnough t n = allOf (roomRules t n)
@@ -54,7 +54,7 @@ pub data Outcome : Type 0 where
   whole : Medium → Outcome
 
 abbrev pub byRefusal : Medium → Option Refusal → Outcome
-byRefusal m (some r) = late (m .count) r
+byRefusal m (some r) = late m.count r
 byRefusal m none = whole m
 
 -- an image of a geometry; `room` says of a PEB count whether the lent tables are long enough for it
@@ -62,15 +62,13 @@ module _ (image : List ℕ) (room : ℕ → Bool) where
   abbrev pub byGeometry : Answer Geometry → Outcome
   byGeometry (refused k p) = early k
   byGeometry (given g) =
-      cond (allOf (imageRules g image))
-      (cond (room (pebCount g image))
-      (byRefusal (mediumOf g (pebCount g image) image) (refusal (mediumOf g (pebCount g image) image)))
-      (early 4))
+      cond (allOf (imageRules g image)) (cond (room (pebCount g image))
+      (byRefusal (mediumOf g (pebCount g image) image) (refusal (mediumOf g (pebCount g image) image))) (early 4))
       (early 3)
 
 -- "in order of checking"
 unfoldable pub attaching : AttachRequest → List ℕ → (ℕ → Bool) → Outcome
-attaching r image room = byGeometry image room (slipGeometry (r .slip))
+attaching r image room = byGeometry image room (slipGeometry r.slip)
 
 -- into these lent tables
 abbrev pub attachingInto : AttachRequest → List ℕ → Tables → Outcome
@@ -84,13 +82,13 @@ answerOr x (refused k p) = x
 -- there is none
 unfoldable pub reportOf : Medium → Report
 reportOf m = record {
-  geometry = m .geometry;
-  «peb_count» = m .count;
+  geometry = m.geometry;
+  «peb_count» = m.count;
   entries = length (entries m);
   mean = meanOf m;
-  highest = highestOf (m .count) (copies (m .views));
-  «image_seq» = orZero (imageSeq (m .count) (m .views));
-  «read_only» = readOnlyOf (m .count) (copies (m .views));
+  highest = highestOf m.count (copies m.views);
+  «image_seq» = orZero (imageSeq m.count m.views);
+  «read_only» = readOnlyOf m.count (copies m.views);
   table = answerOr 0 (taken m);
   «copies_mark» = mark m;
   grade = gradeOf m;
@@ -99,7 +97,7 @@ reportOf m = record {
 -- the answer
 abbrev pub answerOf : Outcome → Answer Report
 answerOf (early k) = refused k 0
-answerOf (late n r) = refused (r .number) (r .place)
+answerOf (late n r) = refused r.number r.place
 answerOf (whole m) = given (reportOf m)
 
 -- what each case of the answer is in 01
@@ -113,12 +111,12 @@ over ws lent = ws ++ drop (length ws) lent
 
 -- "Per PEB two u32 words: class, and counter"
 unfoldable pub pebWords : Medium → List ℕ
-pebWords m = concatBelow (m .count) (λ (i : ℕ). classAt m i ∷ counterAt m i ∷ [])
+pebWords m = concatBelow m.count (λ (i : ℕ). classAt m i ∷ counterAt m i ∷ [])
 
 -- "three words per entry (volume, LEB, PEB)"
 abbrev pub entryWords : List Entry → List ℕ
 entryWords [] = []
-entryWords (e ∷ es) = e .volume ∷ e .lnum ∷ e .peb ∷ entryWords es
+entryWords (e ∷ es) = e.volume ∷ e.lnum ∷ e.peb ∷ entryWords es
 
 -- "Unused words up to 3 times PEB count in the map become 0xFFFFFFFF"
 unfoldable pub mapWords : ℕ → List Entry → List ℕ
@@ -132,8 +130,7 @@ stateWords m = table (stateAt m) 0 128
 abbrev pub tablesAfter : Outcome → Tables → Tables
 tablesAfter (early k) t = t
 tablesAfter (late n r) t =
-    lent (over (replicate (pebWordsNeeded n) noWord) (t .pebs)) (over (replicate (mapWordsNeeded n) noWord) (t .map))
-    (over (replicate stateWordsNeeded noWord) (t .states))
+    lent (over (replicate (pebWordsNeeded n) noWord) t.pebs) (over (replicate (mapWordsNeeded n) noWord) t.map)
+    (over (replicate stateWordsNeeded noWord) t.states)
 tablesAfter (whole m) t =
-    lent (over (pebWords m) (t .pebs)) (over (mapWords (m .count) (entries m)) (t .map))
-    (over (stateWords m) (t .states))
+    lent (over (pebWords m) t.pebs) (over (mapWords m.count (entries m)) t.map) (over (stateWords m) t.states)

@@ -10,21 +10,20 @@ use Rattle.report.specs.Scan.{Refusal, when, atPeb}
 
 -- "A copy is sound if its flag is 0, or its data CRC matches the CRC of its first data-size bytes."
 abbrev pub sound : Copy → Bool
-sound c = eqb (c .header .«copy_flag») 0 || c .matches
+sound c = eqb c.header.«copy_flag» 0 || c.matches
 
 -- the copy, if it is one of this volume and LEB
 abbrev pub ofKey : ℕ → ℕ → Option Copy → Option Copy
 ofKey v l none = none
-ofKey v l (some c) = cond (eqb (c .header .volume) v && eqb (c .header .lnum) l) (some c) none
+ofKey v l (some c) = cond (eqb c.header.volume v && eqb c.header.lnum l) (some c) none
 
 -- two good VID headers "of one user or layout LEB share a sequence"
 abbrev pub repeats : Option Copy → Option Copy → Bool
 repeats none d = false
 repeats (some c) none = false
 repeats (some c) (some d) =
-    isMappable (c .header .volume)
-    && (eqb (c .header .volume) (d .header .volume)
-    && (eqb (c .header .lnum) (d .header .lnum) && eqb (c .header .sequence) (d .header .sequence)))
+    isMappable c.header.volume && (eqb c.header.volume d.header.volume
+    && (eqb c.header.lnum d.header.lnum && eqb c.header.sequence d.header.sequence))
 
 -- refusal 9: "for 9 the lowest PEB that repeats a lower one"
 unfoldable pub refusal9 : ℕ → (ℕ → Option Copy) → Option Refusal
@@ -36,8 +35,8 @@ refusal9 n cs = mapO atPeb (firstBelow n (λ (i : ℕ). when (anyBelow i (λ (j 
 abbrev pub beats : Option Copy → Copy → Bool
 beats none c = false
 beats (some d) c =
-    cond (sound c) (sound d && ltb (c .header .sequence) (d .header .sequence))
-    (sound d || ltb (d .header .sequence) (c .header .sequence))
+    cond (sound c) (sound d && ltb c.header.sequence d.header.sequence)
+    (sound d || ltb d.header.sequence c.header.sequence)
 
 abbrev pub unless : Bool → Copy → Option Copy
 unless true c = none

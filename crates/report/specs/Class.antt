@@ -9,7 +9,7 @@ use Rattle.report.specs.View.{Copy, EcView, ecGood, ecNewer, ecBlank, ec
 -- compatibility 1, class 5; 2, class 6 ..; 4, class 6". f gives the class of a copy of a user or layout LEB, which
 -- depends on the other PEBs. A newer header, and compatibility 5 here, refuse the image
 abbrev pub classBy : (Copy → ℕ) → EcView → VidView → ℕ
-classBy f e (vidGood c) = cond (isMappable (c .header .volume)) (f c) (cond (eqb (c .header .compat) 1) 5 6)
+classBy f e (vidGood c) = cond (isMappable c.header.volume) (f c) (cond (eqb c.header.compat 1) 5 6)
 classBy f (ecGood h) vidBlank = 0
 classBy f ecBlank vidBlank = 3
 classBy f ecLost vidBlank = 4

@@ -42,8 +42,7 @@ staysIn t v l = eqb v layoutVolume || ltb l (reservedOf (recordFor t v))
 -- "1 chosen; 2 passed over", or class 5 if it was chosen and does not stay
 abbrev pub copyClass : List ℕ → Places → ℕ → Copy → ℕ
 copyClass t ps i c =
-    cond (isPlace (ps (c .header .volume) (c .header .lnum)) i)
-    (cond (staysIn t (c .header .volume) (c .header .lnum)) 1 5) 2
+    cond (isPlace (ps c.header.volume c.header.lnum) i) (cond (staysIn t c.header.volume c.header.lnum) 1 5) 2
 
 -- the class of PEB i, with that of a user or layout copy as above
 abbrev pub classOf : List ℕ → Places → ℕ → EcView → VidView → ℕ
@@ -52,7 +51,7 @@ classOf t ps i = classBy (copyClass t ps i)
 -- the counter of a good EC header, or m if it is lost
 abbrev pub counterOr : ℕ → Option EcHeader → ℕ
 counterOr m none = m
-counterOr m (some h) = h .counter
+counterOr m (some h) = h.counter
 
 abbrev pub hasCounter : Option EcHeader → Bool
 hasCounter none = false
@@ -66,12 +65,12 @@ mayBeLost class = eqb class 3
 -- good counter)": a division by 0 gives 0, and the rest is proofs/Mean.antt
 unfoldable pub meanOf : Medium → ℕ
 meanOf m =
-    sumBelow (m .count) (λ (i : ℕ). counterOr 0 (ecs (m .views) i))
-    / countBelow (m .count) (λ (i : ℕ). hasCounter (ecs (m .views) i))
+    sumBelow m.count (λ (i : ℕ). counterOr 0 (ecs m.views i))
+    / countBelow m.count (λ (i : ℕ). hasCounter (ecs m.views i))
 
 abbrev pub sequenceOr0 : Option Copy → ℕ
 sequenceOr0 none = 0
-sequenceOr0 (some c) = c .header .sequence
+sequenceOr0 (some c) = c.header.sequence
 
 -- "highest sequence of all good VID headers"
 unfoldable pub highestOf : ℕ → (ℕ → Option Copy) → ℕ
@@ -80,7 +79,7 @@ highestOf n cs = maxBelow n (λ (i : ℕ). sequenceOr0 (cs i))
 -- a copy of one of the "Other internal volumes" with this compatibility
 abbrev pub isInternal : ℕ → Option Copy → Bool
 isInternal k none = false
-isInternal k (some c) = not (isMappable (c .header .volume)) && eqb (c .header .compat) k
+isInternal k (some c) = not (isMappable c.header.volume) && eqb c.header.compat k
 
 -- "2, class 6 and the read-only mark"
 unfoldable pub readOnlyOf : ℕ → (ℕ → Option Copy) → Bool
@@ -88,10 +87,10 @@ readOnlyOf n cs = anyBelow n (λ (i : ℕ). isInternal 2 (cs i))
 
 module _ (m : Medium) where
   abbrev pub faces : Faces
-  faces = facesOf (m .geometry) (m .count) (copies (m .views))
+  faces = facesOf m.geometry m.count (copies m.views)
 
   abbrev pub places : Places
-  places = placesOf (m .count) (copies (m .views))
+  places = placesOf m.count (copies m.views)
 
   -- the table: the LEB whose table is taken, its records, and the copies mark
   abbrev pub taken : Answer ℕ
@@ -105,11 +104,11 @@ module _ (m : Medium) where
 
   -- the class of a PEB
   unfoldable pub classAt : ℕ → ℕ
-  classAt i = classOf records places i (m .views i .ec) (m .views i .vid)
+  classAt i = classOf records places i (m.views i .ec) (m.views i .vid)
 
   -- "counter (0xFFFFFFFF if lost)"
   unfoldable pub counterAt : ℕ → ℕ
-  counterAt i = counterOr noWord (ecs (m .views) i)
+  counterAt i = counterOr noWord (ecs m.views i)
 
   unfoldable pub entries : List Entry
   entries = mapOf records places
@@ -121,14 +120,12 @@ module _ (m : Medium) where
   -- else 1."
   unfoldable pub gradeOf : ℕ
   gradeOf =
-      cond
-      (allBelow (m .count) (λ (i : ℕ). not (eqb (classAt i) 4))
-      && (allBelow (m .count) (λ (i : ℕ). mayBeLost (classAt i) || hasCounter (ecs (m .views) i))
-      && (eqb mark 0 && allBelow 128 (λ (v : ℕ). not (eqb (stateAt v) 2 || eqb (stateAt v) 3)))))
-      0 1
+      cond (allBelow m.count (λ (i : ℕ). not (eqb (classAt i) 4))
+      && (allBelow m.count (λ (i : ℕ). mayBeLost (classAt i) || hasCounter (ecs m.views i))
+      && (eqb mark 0 && allBelow 128 (λ (v : ℕ). not (eqb (stateAt v) 2 || eqb (stateAt v) 3))))) 0 1
 
   -- refusals 5 to 12, "in order of checking"
   unfoldable pub refusal : Option Refusal
   refusal =
       orElse (refusal5678 m)
-      (orElse (refusal9 (m .count) (copies (m .views))) (orElse (refusal10 m) (refusal1112 taken records faces places)))
+      (orElse (refusal9 m.count (copies m.views)) (orElse (refusal10 m) (refusal1112 taken records faces places)))

@@ -27,39 +27,38 @@ differs (some y) x = not (eqb x y)
 
 -- the image sequence that refusal 7 compares with: "that of the lowest PEB with a good EC"
 unfoldable pub imageSeq : ℕ → Views → Option ℕ
-imageSeq n vs = mapO (λ (x : ℕ × EcHeader). x .1 .«image_seq») (firstBelow n (ecs vs))
+imageSeq n vs = mapO (λ (x : ℕ × EcHeader). x.1.«image_seq») (firstBelow n (ecs vs))
 
 -- 5 "header version above 1"; 6 "good EC names other VID or data starts"; 7 "image sequence differs"
 abbrev pub ecRefusal : Geometry → Option ℕ → EcView → Option ℕ
 ecRefusal g seq ecNewer = some 5
 ecRefusal g seq (ecGood h) =
-    orElse (when (not (eqb (h .«vid_start») (g .«vid_start») && eqb (h .«data_start») (g .«data_start»))) 6)
-    (when (differs seq (h .«image_seq»)) 7)
+    orElse (when (not (eqb h.«vid_start» g.«vid_start» && eqb h.«data_start» g.«data_start»)) 6)
+    (when (differs seq h.«image_seq») 7)
 ecRefusal g seq ecBlank = none
 ecRefusal g seq ecLost = none
 
 -- 5, of the VID header; 8 "unknown internal volume with compatibility 5"
 abbrev pub vidRefusal : VidView → Option ℕ
 vidRefusal vidNewer = some 5
-vidRefusal (vidGood c) = when (not (isMappable (c .header .volume)) && eqb (c .header .compat) 5) 8
+vidRefusal (vidGood c) = when (not (isMappable c.header.volume) && eqb c.header.compat 5) 8
 vidRefusal vidBlank = none
 vidRefusal vidBad = none
 
 -- "within one: EC version, 6, 7, VID version, 8"
 unfoldable pub viewRefusal : Geometry → Option ℕ → View → Option ℕ
-viewRefusal g seq v = orElse (ecRefusal g seq (v .ec)) (vidRefusal (v .vid))
+viewRefusal g seq v = orElse (ecRefusal g seq v.ec) (vidRefusal v.vid)
 
 abbrev pub atPeb : ℕ × ℕ → Refusal
-atPeb x = record { number = x .1; place = x .0 }
+atPeb x = record { number = x.1; place = x.0 }
 
 -- "5 to 8 go PEB by PEB"; the place is the PEB
 unfoldable pub refusal5678 : Medium → Option Refusal
 refusal5678 m =
-    mapO atPeb
-    (firstBelow (m .count) (λ (i : ℕ). viewRefusal (m .geometry) (imageSeq (m .count) (m .views)) (m .views i)))
+    mapO atPeb (firstBelow m.count (λ (i : ℕ). viewRefusal m.geometry (imageSeq m.count m.views) (m.views i)))
 
 -- 10 "every PEB is class 0 or 3"
 unfoldable pub refusal10 : Medium → Option Refusal
 refusal10 m =
     mapO (λ (k : ℕ). record { number = k; place = 0 })
-    (when (allBelow (m .count) (λ (i : ℕ). isUnused (m .views i .ec) (m .views i .vid))) 10)
+    (when (allBelow m.count (λ (i : ℕ). isUnused (m.views i .ec) (m.views i .vid))) 10)

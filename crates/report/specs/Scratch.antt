@@ -13,10 +13,10 @@ use Rattle.words.specs.Words.{noWord}
 
 -- volume, LEB and PEB of a copy of a user or layout LEB; else no words
 abbrev pub copyWords : ℕ → VidHeader → List ℕ
-copyWords i h = cond (isMappable (h .volume)) (h .volume ∷ h .lnum ∷ i ∷ []) (noWord ∷ noWord ∷ noWord ∷ [])
+copyWords i h = cond (isMappable h.volume) (h.volume ∷ h.lnum ∷ i ∷ []) (noWord ∷ noWord ∷ noWord ∷ [])
 
 abbrev pub keyWords : ℕ → VidView → List ℕ
-keyWords i (vidGood c) = copyWords i (c .header)
+keyWords i (vidGood c) = copyWords i c.header
 keyWords i vidNewer = noWord ∷ noWord ∷ noWord ∷ []
 keyWords i vidBlank = noWord ∷ noWord ∷ noWord ∷ []
 keyWords i vidBad = noWord ∷ noWord ∷ noWord ∷ []
@@ -27,7 +27,7 @@ keysOf n vs = concatBelow n (λ (i : ℕ). keyWords i (vs i .vid))
 
 -- the class of a PEB once the copies are chosen: 1 for a chosen copy, whether or not it stays in the map
 abbrev pub markedClass : Places → ℕ → EcView → VidView → ℕ
-markedClass ps i = classBy (λ (c : Copy). cond (isPlace (ps (c .header .volume) (c .header .lnum)) i) 1 2)
+markedClass ps i = classBy (λ (c : Copy). cond (isPlace (ps c.header.volume c.header.lnum) i) 1 2)
 
 -- class and counter of each PEB then
 abbrev pub markedWords : Places → ℕ → Views → List ℕ

@@ -51,8 +51,8 @@ ecOf newer = ecNewer
 unfoldable pub copyOf : Geometry → List ℕ → VidHeader → Copy
 copyOf g p h = record {
   header = h;
-  matches = eqb (crcOf (part (g .«data_start») (h .«data_size») p)) (h .«data_crc»);
-  body = drop (g .«data_start») p;
+  matches = eqb (crcOf (part g.«data_start» h.«data_size» p)) h.«data_crc»;
+  body = drop g.«data_start» p;
 }
 
 abbrev pub vidOf : Geometry → List ℕ → Verdict VidHeader → VidView
@@ -62,19 +62,19 @@ vidOf g p newer = vidNewer
 
 -- the bytes in the place of the VID header
 abbrev pub vidPart : Geometry → List ℕ → List ℕ
-vidPart g p = part (g .«vid_start») 64 p
+vidPart g p = part g.«vid_start» 64 p
 
 -- the view of a PEB's bytes
 unfoldable pub viewOf : Geometry → List ℕ → View
 viewOf g p = record {
   ec = cond (allFF (take 64 p)) ecBlank (ecOf (readEc (take 64 p)));
-  vid = cond (allFF (vidPart g p)) vidBlank (vidOf g p (readVid (g .«leb_size») (vidPart g p)));
+  vid = cond (allFF (vidPart g p)) vidBlank (vidOf g p (readVid g.«leb_size» (vidPart g p)));
   clean = allFF (drop 64 p);
 }
 
 -- "An image is 2 to 4,096 whole PEBs": PEB i of an image
 abbrev pub pebAt : Geometry → List ℕ → ℕ → List ℕ
-pebAt g image i = part (i * g .«peb_size») (g .«peb_size») image
+pebAt g image i = part (i * g.«peb_size») g.«peb_size» image
 
 -- the views of an image's PEBs, by PEB number
 abbrev pub Views : Type 0

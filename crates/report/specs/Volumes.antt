@@ -30,17 +30,15 @@ pub record Face : Type 0 where
 
 -- 01 'The mover's steps': "A LEB's content is its first (LEB size less pad) bytes, or data size bytes if static."
 abbrev pub contentOf : Geometry → Copy → List ℕ
-contentOf g c =
-    take (cond (eqb (c .header .«vol_type») 2) (c .header .«data_size») (g .«leb_size» - c .header .«data_pad»))
-    (c .body)
+contentOf g c = take (cond (eqb c.header.«vol_type» 2) c.header.«data_size» (g.«leb_size» - c.header.«data_pad»)) c.body
 
 unfoldable pub faceOf : Geometry → Copy → Face
 faceOf g c = record {
-  vol-type = c .header .«vol_type»;
-  pad = c .header .«data_pad»;
-  used = c .header .«used_lebs»;
+  vol-type = c.header.«vol_type»;
+  pad = c.header.«data_pad»;
+  used = c.header.«used_lebs»;
   sound = sound c;
-  right = not (eqb (c .header .«vol_type») 2) || c .matches;
+  right = not (eqb c.header.«vol_type» 2) || c.matches;
   content = contentOf g c;
 }
 
@@ -52,20 +50,20 @@ abbrev pub Places : Type 0
 Places = ℕ → ℕ → Option ℕ
 
 unfoldable pub facesOf : Geometry → ℕ → (ℕ → Option Copy) → Faces
-facesOf g n cs v l = mapO (λ (x : ℕ × Copy). faceOf g (x .1)) (chosen n cs v l)
+facesOf g n cs v l = mapO (λ (x : ℕ × Copy). faceOf g x.1) (chosen n cs v l)
 
 unfoldable pub placesOf : ℕ → (ℕ → Option Copy) → Places
-placesOf n cs v l = mapO (λ (x : ℕ × Copy). x .0) (chosen n cs v l)
+placesOf n cs v l = mapO (λ (x : ℕ × Copy). x.0) (chosen n cs v l)
 
 -- the content of a layout LEB; no bytes where it is not mapped
 abbrev pub layoutContent : Option Face → List ℕ
 layoutContent none = []
-layoutContent (some f) = f .content
+layoutContent (some f) = f.content
 
 -- a question about both layout copies, asked with the LEB size, the unit and the PEB count
 abbrev pub ofLayout : {A : Type 0} → (ℕ → ℕ → ℕ → List ℕ → List ℕ → A) → Medium → Faces → A
 ofLayout f m fs =
-    f (m .geometry .«leb_size») (m .geometry .unit) (m .count)
+    f m.geometry.«leb_size» m.geometry.unit m.count
     (layoutContent (fs layoutVolume 0)) (layoutContent (fs layoutVolume 1))
 
 -- "LEB 0's table is taken if mapped and good, else LEB 1's"; the records of the table taken; "Copies mark"
@@ -85,7 +83,7 @@ recordFor t v = cond (ltb 0 (recordOf (recordAt t v) .reserved)) (some (recordOf
 
 abbrev pub reservedOf : Option VolumeRecord → ℕ
 reservedOf none = 0
-reservedOf (some r) = r .reserved
+reservedOf (some r) = r.reserved
 
 -- 01 'The report': "Map: three words per entry (volume, LEB, PEB), by volume then LEB."
 pub record Entry : Type 0 where
@@ -112,14 +110,14 @@ abbrev pub placeWritten : ℕ → ℕ → ℕ → List Entry → List Entry
 placeWritten v l p =
     map
     (λ (e : Entry). record {
-      volume = e .volume;
-      lnum = e .lnum;
-      peb = cond (eqb v (e .volume) && eqb l (e .lnum)) p (e .peb);
+      volume = e.volume;
+      lnum = e.lnum;
+      peb = cond (eqb v e.volume && eqb l e.lnum) p e.peb;
     })
 
 -- used LEBs of the "volume's first entry"
 unfoldable pub usedOf : List ℕ → Faces → ℕ → Option ℕ
-usedOf t fs v = mapO (λ (x : ℕ × Face). x .1 .used) (firstBelow (reservedOf (recordFor t v)) (fs v))
+usedOf t fs v = mapO (λ (x : ℕ × Face). x.1.used) (firstBelow (reservedOf (recordFor t v)) (fs v))
 
 -- 12: "a user map entry's type or pad differs from its record; or, static, its used LEBs differ from its volume's first
 -- entry or exceed reserved"
@@ -127,14 +125,13 @@ abbrev pub misfit : Option VolumeRecord → Option ℕ → Option Face → Optio
 misfit none u f = none
 misfit (some r) u none = none
 misfit (some r) u (some f) =
-    when
-    (not (eqb (f .vol-type) (r .«vol_type») && eqb (f .pad) (r .«data_pad»))
-    || (eqb (f .vol-type) 2 && (differs u (f .used) || ltb (r .reserved) (f .used)))) 12
+    when (not (eqb f.vol-type r.«vol_type» && eqb f.pad r.«data_pad»)
+    || (eqb f.vol-type 2 && (differs u f.used || ltb r.reserved f.used))) 12
 
 -- the first LEB of a volume whose entry is a misfit
 unfoldable pub misfitIn : List ℕ → Faces → ℕ → Option ℕ
 misfitIn t fs v =
-    mapO (λ (x : ℕ × ℕ). x .0)
+    mapO (λ (x : ℕ × ℕ). x.0)
     (firstBelow (reservedOf (recordFor t v)) (λ (l : ℕ). misfit (recordFor t v) (usedOf t fs v) (fs v l)))
 
 -- volume and LEB of the first misfit in the map
@@ -149,20 +146,20 @@ orZero (some x) = x
 abbrev pub refusal1112 : Answer ℕ → List ℕ → Faces → Places → Option Refusal
 refusal1112 (refused k p) t fs ps = some (record { number = k; place = p })
 refusal1112 (given k) t fs ps =
-    mapO (λ (x : ℕ × ℕ). record { number = 12; place = orZero (ps (x .0) (x .1)) }) (misfitAt t fs)
+    mapO (λ (x : ℕ × ℕ). record { number = 12; place = orZero (ps x.0 x.1) }) (misfitAt t fs)
 
 -- "skip flag" of a record
 abbrev pub skipsCrc : VolumeRecord → Bool
-skipsCrc r = eqb (bitAnd (r .flags) 2) 2
+skipsCrc r = eqb (bitAnd r.flags 2) 2
 
 -- is a data CRC of this volume asked: "(static, skip flag clear)"?
 abbrev pub asksCrc : VolumeRecord → Bool
-asksCrc r = eqb (r .«vol_type») 2 && not (skipsCrc r)
+asksCrc r = eqb r.«vol_type» 2 && not (skipsCrc r)
 
 -- is this entry of a volume at fault: "a mapped copy is unsound, or .. a data CRC is wrong"?
 abbrev pub faulty : VolumeRecord → Option Face → Bool
 faulty r none = false
-faulty r (some f) = not (f .sound) || (asksCrc r && not (f .right))
+faulty r (some f) = not f.sound || (asksCrc r && not f.right)
 
 abbrev pub isMissing : Option Face → Bool
 isMissing none = true
@@ -171,14 +168,13 @@ isMissing (some f) = false
 -- "(static, something mapped) a LEB below used LEBs is missing"
 abbrev pub lacks : VolumeRecord → Option ℕ → (ℕ → Option Face) → Bool
 lacks r none fs = false
-lacks r (some u) fs = eqb (r .«vol_type») 2 && anyBelow u (λ (l : ℕ). isMissing (fs l))
+lacks r (some u) fs = eqb r.«vol_type» 2 && anyBelow u (λ (l : ℕ). isMissing (fs l))
 
 -- "Volume state: 0 no record; 2 marker set; else 3 if ..; else 1."
 abbrev pub stateWith : Option VolumeRecord → Option ℕ → (ℕ → Option Face) → ℕ
 stateWith none u fs = 0
 stateWith (some r) u fs =
-    cond (eqb (r .«update_marker») 1) 2
-    (cond (anyBelow (r .reserved) (λ (l : ℕ). faulty r (fs l)) || lacks r u fs) 3 1)
+    cond (eqb r.«update_marker» 1) 2 (cond (anyBelow r.reserved (λ (l : ℕ). faulty r (fs l)) || lacks r u fs) 3 1)
 
 unfoldable pub stateOf : List ℕ → Faces → ℕ → ℕ
 stateOf t fs v = stateWith (recordFor t v) (usedOf t fs v) (fs v)

@@ -26,15 +26,15 @@ use Rattle.scan.specs.declared.ImagePass.{ImagePass}
 
 -- the image sequence compared with, if there is one yet
 abbrev pub seqIn : EcTotals → Option ℕ
-seqIn s = cond (s .«has_seq») (some (s .«image_seq»)) none
+seqIn s = cond s.«has_seq» (some s.«image_seq») none
 
 -- the totals with an EC header more
 abbrev pub withEc : EcTotals → EcView → EcTotals
 withEc s (ecGood h) = record {
   «has_seq» = true;
-  «image_seq» = cond (s .«has_seq») (s .«image_seq») (h .«image_seq»);
-  counters = s .counters + h .counter;
-  good = s .good + 1;
+  «image_seq» = cond s.«has_seq» s.«image_seq» h.«image_seq»;
+  counters = s.counters + h.counter;
+  good = s.good + 1;
 }
 withEc s ecNewer = s
 withEc s ecBlank = s
@@ -43,9 +43,9 @@ withEc s ecLost = s
 -- the totals with a PEB more: whether it is free or blank, its sequence (0 if none), whether it asks for read-only
 abbrev pub withSequence : VidTotals → Bool → ℕ → Bool → VidTotals
 withSequence s idle sequence asks = record {
-  highest = max (s .highest) sequence;
-  «read_only» = s .«read_only» || asks;
-  unused = s .unused && idle;
+  highest = max s.highest sequence;
+  «read_only» = s.«read_only» || asks;
+  unused = s.unused && idle;
 }
 
 -- the totals with a VID header more
@@ -63,28 +63,28 @@ pub record SmallTotals (s : EcTotals) : Type 0 where
 
 -- the totals of the first n PEBs
 pub record TotalsOf (n : ℕ) (vs : Views) (s : ScanTotals) : Type 0 where
-  pub seq : seqIn (s .ec) ≡ imageSeq n vs
+  pub seq : seqIn s.ec ≡ imageSeq n vs
   pub image-seq : s .ec .«image_seq» ≡ orZero (imageSeq n vs)
   pub counters : s .ec .counters ≡ sumBelow n (λ (i : ℕ). counterOr 0 (ecs vs i))
   pub good : s .ec .good ≡ countBelow n (λ (i : ℕ). hasCounter (ecs vs i))
   pub highest : s .vid .highest ≡ highestOf n (copies vs)
   pub read-only : s .vid .«read_only» ≡ readOnlyOf n (copies vs)
   pub unused : s .vid .unused ≡ allBelow n (λ (i : ℕ). isUnused (vs i .ec) (vs i .vid))
-  pub counters-small : s .ec .counters ≤ s .ec .good * 0x7FFFFFFF
+  pub counters-small : s .ec .counters ≤ s.ec.good * 0x7FFFFFFF
   pub good-few : s .ec .good ≤ n
 
 -- PEB i with the bytes p can be passed: it is whole, and has its words in the lent tables
 pub record PebReady (g : Geometry) (p : List ℕ) (i : ℕ) (s : ScanTotals) (pebs map : List ℕ) : Type 0 where
   pub placed : Placed g
-  pub whole : length p ≡ g .«peb_size»
+  pub whole : length p ≡ g.«peb_size»
   pub few : i < mostPebs
   pub has-peb : HasPeb pebs i
   pub has-entry : HasEntry map i
-  pub small : SmallTotals (s .ec)
+  pub small : SmallTotals s.ec
 
 -- the words of PEB i before any copy is chosen
 abbrev pub firstRow : View → List ℕ
-firstRow v = firstClass (v .ec) (v .vid) ∷ counterOr noWord (goodEc (v .ec)) ∷ []
+firstRow v = firstClass v.ec v.vid ∷ counterOr noWord (goodEc v.ec) ∷ []
 
 abbrev pub firstWords : ℕ → Views → List ℕ
 firstWords n vs = concatBelow n (λ (i : ℕ). firstRow (vs i))
@@ -93,11 +93,11 @@ firstWords n vs = concatBelow n (λ (i : ℕ). firstRow (vs i))
 -- and its words stored
 pub record PebPassed (g : Geometry) (i : ℕ) (v : View) (s : ScanTotals) (t : PebPass)
     (pebs pebs′ map map′ : List ℕ) : Type 0 where
-  pub refusal : t .refusal ≡ orZero (viewRefusal g (seqIn (withEc (s .ec) (v .ec))) v)
-  pub ec : t .refusal ≡ 0 → t .totals .ec ≡ withEc (s .ec) (v .ec)
-  pub vid : t .refusal ≡ 0 → t .totals .vid ≡ withVid (s .vid) (isUnused (v .ec) (v .vid)) (v .vid)
-  pub pebs-are : pebs′ ≡ cond (eqb (t .refusal) 0) (put (i * pebStride) (firstRow v) pebs) pebs
-  pub map-is : map′ ≡ cond (eqb (t .refusal) 0) (put (i * entryStride) (keyWords i (v .vid)) map) map
+  pub refusal : t .refusal ≡ orZero (viewRefusal g (seqIn (withEc s.ec v.ec)) v)
+  pub ec : t .refusal ≡ 0 → t.totals.ec ≡ withEc s.ec v.ec
+  pub vid : t .refusal ≡ 0 → t.totals.vid ≡ withVid s.vid (isUnused v.ec v.vid) v.vid
+  pub pebs-are : pebs′ ≡ cond (eqb t.refusal 0) (put (i * pebStride) (firstRow v) pebs) pebs
+  pub map-is : map′ ≡ cond (eqb t.refusal 0) (put (i * entryStride) (keyWords i v.vid) map) map
 
 -- a refusal's number and place, if the number is not 0
 abbrev pub refusedAt : ℕ → ℕ → Option Refusal
@@ -107,16 +107,16 @@ refusedAt (suc k) place = some (record { number = suc k; place = place })
 -- an image of n PEBs can be passed: they are whole, and have their words in the lent tables
 pub record ImageReady (g : Geometry) (n : ℕ) (image pebs map : List ℕ) : Type 0 where
   pub placed : Placed g
-  pub whole : length image ≡ n * g .«peb_size»
+  pub whole : length image ≡ n * g.«peb_size»
   pub few : n ≤ mostPebs
   pub long-pebs : pebWordsNeeded n ≤ length pebs
   pub long-map : mapWordsNeeded n ≤ length map
 
 -- the pass over all PEBs: refusals 5 to 8; where there is none the totals and words of all. Words beyond stay
 pub record Passed (m : Medium) (r : ImagePass) (pebs pebs′ map map′ : List ℕ) : Type 0 where
-  pub refusal : refusedAt (r .refusal) (r .place) ≡ refusal5678 m
-  pub totals : r .refusal ≡ 0 → TotalsOf (m .count) (m .views) (r .totals)
-  pub pebs-are : r .refusal ≡ 0 → pebs′ ≡ firstWords (m .count) (m .views) ++ drop (pebWordsNeeded (m .count)) pebs
-  pub map-is : r .refusal ≡ 0 → map′ ≡ keysOf (m .count) (m .views) ++ drop (mapWordsNeeded (m .count)) map
-  pub pebs-tail : drop (pebWordsNeeded (m .count)) pebs′ ≡ drop (pebWordsNeeded (m .count)) pebs
-  pub map-tail : drop (mapWordsNeeded (m .count)) map′ ≡ drop (mapWordsNeeded (m .count)) map
+  pub refusal : refusedAt r.refusal r.place ≡ refusal5678 m
+  pub totals : r .refusal ≡ 0 → TotalsOf m.count m.views r.totals
+  pub pebs-are : r .refusal ≡ 0 → pebs′ ≡ firstWords m.count m.views ++ drop (pebWordsNeeded m.count) pebs
+  pub map-is : r .refusal ≡ 0 → map′ ≡ keysOf m.count m.views ++ drop (mapWordsNeeded m.count) map
+  pub pebs-tail : drop (pebWordsNeeded m.count) pebs′ ≡ drop (pebWordsNeeded m.count) pebs
+  pub map-tail : drop (mapWordsNeeded m.count) map′ ≡ drop (mapWordsNeeded m.count) map

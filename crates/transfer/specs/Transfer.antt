@@ -15,13 +15,13 @@ begun = record { moved = 0; tries = 1000000 }
 -- n bytes more. None: that is the end. As many as there is room for: full; more than that: no call answers so
 unfoldable pub afterBytes : ℕ → Progress → ℕ → Transfer
 afterBytes room p n =
-    cond (eqb n 0) (Ended (p .moved))
-    (cond (ltb (p .moved + n) room) (On (record { moved = p .moved + n; tries = p .tries }))
-    (cond (eqb (p .moved + n) room) Full Failed))
+    cond (eqb n 0) (Ended p.moved)
+    (cond (ltb (p.moved + n) room) (On (record { moved = p.moved + n; tries = p.tries }))
+    (cond (eqb (p.moved + n) room) Full Failed))
 
 -- nothing was moved and nothing is wrong: the call is made again, but not for ever
 unfoldable pub afterInterruption : Progress → Transfer
-afterInterruption p = cond (eqb (p .tries) 0) Failed (On (record { moved = p .moved; tries = p .tries - 1 }))
+afterInterruption p = cond (eqb p.tries 0) Failed (On (record { moved = p.moved; tries = p.tries - 1 }))
 
 abbrev pub afterError : Progress → Bool → Transfer
 afterError p interrupted = cond interrupted (afterInterruption p) Failed
@@ -33,7 +33,7 @@ afterCall room p (negsuc n) interrupted = afterError p interrupted
 
 -- how many more calls there can be
 abbrev pub callsLeft : ℕ → Progress → ℕ
-callsLeft room p = (room - p .moved) + p .tries
+callsLeft room p = (room - p.moved) + p.tries
 
 -- a call: what it answered, and whether it was interrupted
 pub record Call : Type 0 where
@@ -42,7 +42,7 @@ pub record Call : Type 0 where
 
 -- no call is made once one has ended the row
 abbrev pub nextCall : ℕ → Transfer → Call → Transfer
-nextCall room (On p) c = afterCall room p (c .got) (c .interrupted)
+nextCall room (On p) c = afterCall room p c.got c.interrupted
 nextCall room Full c = Full
 nextCall room (Ended n) c = Ended n
 nextCall room Failed c = Failed
@@ -59,4 +59,4 @@ bytesOf (negsuc n) = 0
 -- the bytes that a row of calls moved
 unfoldable pub total : List Call → ℕ
 total [] = 0
-total (c ∷ cs) = bytesOf (c .got) + total cs
+total (c ∷ cs) = bytesOf c.got + total cs

@@ -51,17 +51,17 @@ nameEnds name n = allBelow n (λ (i : ℕ). not (eqb (getD name i 0) 0)) && eqb 
 unfoldable pub recordRules : ℕ → ℕ → VolumeRecord → List Bool
 recordRules size unit v =
     -- "reserved is above 0"
-    ltb 0 (v .reserved)
+    ltb 0 v.reserved
     -- "alignment is 1 to LEB size and 1 or a multiple of the unit"
-    ∷ leb 1 (v .alignment) ∷ leb (v .alignment) size ∷ (eqb (v .alignment) 1 || eqb (v .alignment % unit) 0)
+    ∷ leb 1 v.alignment ∷ leb v.alignment size ∷ (eqb v.alignment 1 || eqb (v.alignment % unit) 0)
     -- "pad is LEB size modulo alignment"
-    ∷ eqb (v .«data_pad») (size % v .alignment)
+    ∷ eqb v.«data_pad» (size % v.alignment)
     -- "type is 1 or 2, marker is 0 or 1"
-    ∷ (eqb (v .«vol_type») 1 || eqb (v .«vol_type») 2) ∷ leb (v .«update_marker») 1
+    ∷ (eqb v.«vol_type» 1 || eqb v.«vol_type» 2) ∷ leb v.«update_marker» 1
     -- "name length is 1 to 127, that many name bytes are nonzero and the next is zero"
-    ∷ leb 1 (v .«name_length») ∷ leb (v .«name_length») 127 ∷ nameEnds (v .name) (v .«name_length»)
+    ∷ leb 1 v.«name_length» ∷ leb v.«name_length» 127 ∷ nameEnds v.name v.«name_length»
     -- "no flag beyond 1 (autoresize) and 2 (skip CRC) is set"
-    ∷ eqb (bitAnd (v .flags) 0xFC) 0 ∷ []
+    ∷ eqb (bitAnd v.flags 0xFC) 0 ∷ []
 
 -- "Any other is good if the CRC matches, .."
 unfoldable pub recordGood : ℕ → ℕ → List ℕ → Bool
@@ -94,9 +94,9 @@ shownRecord s = cond (ltb (length s) 172) (recordOf (replicate 172 0)) (recordOf
 -- name length 14-15, name 16-143, flags 144, zero 145-167"
 unfoldable pub recordHead : VolumeRecord → List ℕ
 recordHead v =
-    toBe 4 (v .reserved) ++ toBe 4 (v .alignment) ++ toBe 4 (v .«data_pad»)
-    ++ toBe 1 (v .«vol_type») ++ toBe 1 (v .«update_marker») ++ toBe 2 (v .«name_length»)
-    ++ (v .name ++ (toBe 1 (v .flags) ++ replicate 23 0))
+    toBe 4 v.reserved ++ toBe 4 v.alignment ++ toBe 4 v.«data_pad»
+    ++ toBe 1 v.«vol_type» ++ toBe 1 v.«update_marker» ++ toBe 2 v.«name_length»
+    ++ (v.name ++ (toBe 1 v.flags ++ replicate 23 0))
 
 -- "CRC of 0-167 at 168-171"
 unfoldable pub recordBytes : VolumeRecord → List ℕ

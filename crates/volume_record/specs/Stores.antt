@@ -12,16 +12,15 @@ use Rattle.volume_record.specs.declared.VolumeRecord.{VolumeRecord}
 
 unfoldable pub sizesStored : VolumeRecord → List ℕ → List ℕ
 sizesStored v s =
-    storedAll ((recordReserved, v .reserved) ∷ (recordAlignment, v .alignment) ∷ (recordDataPad, v .«data_pad») ∷ []) s
+    storedAll ((recordReserved, v.reserved) ∷ (recordAlignment, v.alignment) ∷ (recordDataPad, v.«data_pad») ∷ []) s
 
 unfoldable pub kindStored : VolumeRecord → List ℕ → List ℕ
 kindStored v s =
-    storedAll
-    ((recordType, v .«vol_type») ∷ (recordMarker, v .«update_marker») ∷ (recordNameLength, v .«name_length»)
-    ∷ (recordFlags, v .flags) ∷ []) s
+    storedAll ((recordType, v.«vol_type») ∷ (recordMarker, v.«update_marker») ∷ (recordNameLength, v.«name_length»)
+    ∷ (recordFlags, v.flags) ∷ []) s
 
 unfoldable pub nameStored : List ℕ → List ℕ → List ℕ
-nameStored name s = put (recordName .at) name s
+nameStored name s = put recordName.at name s
 
 unfoldable pub crcStored : List ℕ → List ℕ
 crcStored s = stored recordCrc (crcOf (take 168 s)) s

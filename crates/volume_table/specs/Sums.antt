@@ -13,12 +13,12 @@ use Rattle.volume_table.specs.declared.Tally.{Tally}
 unfoldable pub tallied : ℕ → ℕ → Tally → List ℕ → Tally
 tallied size unit s r = record {
   good = emptyOrGood size unit r;
-  reserved = s .reserved + recordOf r .reserved;
-  autoresize = s .autoresize + bitAnd (recordOf r .flags) 1;
+  reserved = s.reserved + recordOf r .reserved;
+  autoresize = s.autoresize + bitAnd (recordOf r .flags) 1;
 }
 
 -- the sums over the first n records; they count only where all records are empty or good
 pub record TallyOf (n size unit : ℕ) (t : List ℕ) (s : Tally) : Type 0 where
   pub good : s .good ≡ allBelow n (λ (i : ℕ). emptyOrGood size unit (recordAt t i))
-  pub reserved : s .good ≡ true → s .reserved ≡ sumBelow n (λ (i : ℕ). recordOf (recordAt t i) .reserved)
-  pub autoresize : s .good ≡ true → s .autoresize ≡ countBelow n (λ (i : ℕ). autoresizes (recordAt t i))
+  pub reserved : s .good ≡ true → s.reserved ≡ sumBelow n (λ (i : ℕ). recordOf (recordAt t i) .reserved)
+  pub autoresize : s .good ≡ true → s.autoresize ≡ countBelow n (λ (i : ℕ). autoresizes (recordAt t i))

@@ -25,21 +25,21 @@ use Rattle.volumes.specs.declared.RecordNumbers.{RecordNumbers}
 
 -- is an entry at fault, in a volume whose data CRCs are asked or not?
 abbrev pub faultyBy : Bool → Face → Bool
-faultyBy asks f = not (f .sound) || (asks && not (f .right))
+faultyBy asks f = not f.sound || (asks && not f.right)
 
 -- the numbers of a record that are compared with the entries of its volume
 unfoldable pub numbersOf : VolumeRecord → RecordNumbers
 numbersOf r = record {
-  reserved = r .reserved;
-  «data_pad» = r .«data_pad»;
-  «vol_type» = r .«vol_type»;
-  marker = r .«update_marker»;
-  flags = r .flags;
+  reserved = r.reserved;
+  «data_pad» = r.«data_pad»;
+  «vol_type» = r.«vol_type»;
+  marker = r.«update_marker»;
+  flags = r.flags;
 }
 
 -- is a data CRC of this volume asked?
 abbrev pub asksBy : RecordNumbers → Bool
-asksBy r = eqb (r .«vol_type») 2 && not (eqb (bitAnd (r .flags) 2) 2)
+asksBy r = eqb r.«vol_type» 2 && not (eqb (bitAnd r.flags 2) 2)
 
 -- the words of each entry are there, and each names a PEB with a copy
 pub record Entries (g : Geometry) (image map : List ℕ) (count : ℕ) : Type 0 where
@@ -70,8 +70,8 @@ pub record LacksLeb (g : Geometry) (image map : List ℕ) (count v : ℕ) (b : B
 -- does refusal 12 name a copy with the header h, where its volume's record is r and its first entry has `used` LEBs?
 unfoldable pub misfitBy : RecordNumbers → ℕ → VidHeader → Bool
 misfitBy r used h =
-    not (eqb (h .«vol_type») (r .«vol_type») && eqb (h .«data_pad») (r .«data_pad»))
-    || (eqb (h .«vol_type») 2 && (not (eqb (h .«used_lebs») used) || ltb (r .reserved) (h .«used_lebs»)))
+    not (eqb h.«vol_type» r.«vol_type» && eqb h.«data_pad» r.«data_pad»)
+    || (eqb h.«vol_type» 2 && (not (eqb h.«used_lebs» used) || ltb r.reserved h.«used_lebs»))
 
 -- is entry k one of volume v, and named by refusal 12, where `first` is the volume's first entry?
 abbrev pub misfitEntry : Geometry → List ℕ → List ℕ → ℕ → RecordNumbers → ℕ → ℕ → Bool
@@ -103,7 +103,7 @@ misfitRefusal map count k = cond (ltb k count) (some (record { number = 12; plac
 -- an image of n PEBs, the words of its map, the number of its entries, and the records of the table taken
 pub record SortedMap (g : Geometry) (n : ℕ) (image map table : List ℕ) (count : ℕ) : Type 0 where
   pub placed : Placed g
-  pub whole : length image ≡ n * g .«peb_size»
+  pub whole : length image ≡ n * g.«peb_size»
   pub words : take (mapWordsNeeded n) map ≡ mapWords n (entries (mediumOf g n image))
   pub count-is : count ≡ length (entries (mediumOf g n image))
   pub table-is : table ≡ records (mediumOf g n image)
