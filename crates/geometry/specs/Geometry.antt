@@ -11,7 +11,7 @@ use Rattle.geometry.specs.declared.GeometryRead.the-variants.{Good, Malf
 
 -- "powers of two, 1 to 4,096"
 unfoldable pub goodUnit : ℕ → Bool
-goodUnit n = anyBelow 13 (λ (k : ℕ). eqb n (2 ^ k))
+goodUnit n = anyBelow 13 (λ k. eqb n (2 ^ k))
 
 -- the smallest multiple of m (above 0) that is at least x: `round-at-least`, `round-multiple`, `round-least` of proofs
 unfoldable pub roundUp : ℕ → ℕ → ℕ

@@ -15,7 +15,7 @@ use Rattle.header.specs.declared.EcHeader.{EcHeader}
 use Rattle.words.specs.Words.{noWord, pebWordsNeeded, stateWordsNeeded}
 use Rattle.words.proofs.Laws.{class-at, counter-at}
 use Rattle.report.specs.View.{Medium, ecs}
-use Rattle.report.specs.Report.{counterOr, hasCounter, mayBeLost, classAt, counterAt, stateAt, mark, gradeOf}
+use Rattle.report.specs.Report.{counterOr, hasCounter, classAt, counterAt, stateAt, mark, gradeOf}
 use Rattle.report.specs.Attach.{pebWords, stateWords}
 use Rattle.grade.specs.Words.{soundPeb, soundState, Read}
 
@@ -53,7 +53,7 @@ module _ {m : Medium} {pebs states : List ℕ} {marked : ℕ} (o : Read m pebs s
   readable i = not (eqb (classAt m i) 4)
 
   abbrev counted : ℕ → Bool
-  counted i = mayBeLost (classAt m i) || hasCounter (ecs (m .views) i)
+  counted i = eqb (classAt m i) 3 || hasCounter (ecs (m .views) i)
 
   abbrev healthy : ℕ → Bool
   healthy v = not (eqb (stateAt m v) 2 || eqb (stateAt m v) 3)

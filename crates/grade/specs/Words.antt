@@ -7,13 +7,13 @@ use lib.Dec.{eqb}
 use lib.ListN.{take, getD}
 use Rattle.words.specs.Words.{noWord, pebWordsNeeded, stateWordsNeeded, classWord, counterWord}
 use Rattle.report.specs.View.{Medium, ecs}
-use Rattle.report.specs.Report.{mayBeLost, hasCounter, counterAt, mark}
+use Rattle.report.specs.Report.{hasCounter, counterAt, mark}
 use Rattle.report.specs.Attach.{pebWords, stateWords}
 
 -- do the words of PEB i say that it is readable, and has its counter if it must?
 abbrev pub soundPeb : List ℕ → ℕ → Bool
 soundPeb pebs i =
-    not (eqb (classWord pebs i) 4) && (mayBeLost (classWord pebs i) || not (eqb (counterWord pebs i) noWord))
+    not (eqb (classWord pebs i) 4) && (eqb (classWord pebs i) 3 || not (eqb (counterWord pebs i) noWord))
 
 -- is the state of volume v neither 2 nor 3?
 abbrev pub soundState : List ℕ → ℕ → Bool

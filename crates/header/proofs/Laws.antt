@@ -16,7 +16,8 @@ use Rattle.field.specs.Fields.{row, numberIn}
 use Rattle.field.proofs.Laws.{rows-fit}
 use Rattle.header.specs.declared.EcHeader.{EcHeader}
 use Rattle.header.specs.declared.VidHeader.{VidHeader}
-use Rattle.header.specs.Fields.{fields, crcMatches, Verdict, good, bad, newer, byVersion, judged, isGood}
+use Rattle.header.specs.Table.{fields}
+use Rattle.header.specs.Fields.{crcMatches, Verdict, good, bad, newer, judged, isGood}
 use Rattle.header.specs.Ec.{ecMagic, ecFields, ecRules, judgeEc, readEc}
 use Rattle.header.specs.Vid.{vidMagic, vidFields, IsVidField, vidField, vidRules, judgeVid, readVid}
 
@@ -47,6 +48,10 @@ vid-field-at i s h =
     sym (table-from f 0 5 11 (i - 5) (omega arith) ∙ ap f e)
 
 -- ---- versions
+
+-- what is judged past the version, as `judged` has it
+abbrev pub byVersion : {A : Type 0} → ℕ → Verdict A → Verdict A
+byVersion version rest = cond (eqb version 1) rest (cond (eqb version 0) bad newer)
 
 module _ {A : Type 0} (rest : Verdict A) where
   pub version-zero : (v : ℕ) → v ≡ 0 → byVersion v rest ≡ bad

@@ -8,9 +8,8 @@ use lib.ListN.{replicate}
 use Rattle.base.specs.Answers.{Answer, given, refused}
 use Rattle.base.specs.Lists.{part}
 use Rattle.field.specs.Be.{toBe}
-use Rattle.field.specs.Fields.{numberIn}
-use Rattle.header.specs.Fields.{ecVersion, ecCounter, ecVidStart, ecDataStart, ecImageSeq, Verdict, good, bad}
-use Rattle.header.specs.Fields.{judged, readHeader, lentHeader, headerBytes, headerWritten, headerOut}
+use Rattle.field.specs.Fields.{field, numberIn}
+use Rattle.header.specs.Fields.{Verdict, good, bad, judged, readHeader, lentHeader, headerBytes, headerWritten, headerOut}
 use Rattle.header.specs.declared.EcHeader.{EcHeader}
 use Rattle.header.specs.declared.EcRead.{EcRead}
 use Rattle.header.specs.declared.EcRead.the-variants.{Good, Lost, Newer, Short}
@@ -19,14 +18,14 @@ use Rattle.header.specs.declared.EcRead.the-variants.{Good, Lost, Newer,
 abbrev pub ecMagic : List ℕ
 ecMagic = 0x55 ∷ 0x42 ∷ 0x49 ∷ 0x23 ∷ []
 
--- the fields in a header's bytes
+-- the fields in a header's bytes: "version 4, .. counter 8-15, VID start 16-19, data start 20-23, image sequence 24-27"
 unfoldable pub ecFields : List ℕ → EcHeader
 ecFields s = record {
-  version = numberIn ecVersion s;
-  counter = numberIn ecCounter s;
-  «vid_start» = numberIn ecVidStart s;
-  «data_start» = numberIn ecDataStart s;
-  «image_seq» = numberIn ecImageSeq s;
+  version = numberIn (field 4 1) s;
+  counter = numberIn (field 8 8) s;
+  «vid_start» = numberIn (field 16 4) s;
+  «data_start» = numberIn (field 20 4) s;
+  «image_seq» = numberIn (field 24 4) s;
 }
 
 -- "lost if .. the counter exceeds 0x7FFFFFFF"

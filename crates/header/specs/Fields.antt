@@ -1,4 +1,4 @@
--- 01 'Header bytes': where the fields of both headers stand, and what judging a header can say. Assumes nothing.
+-- 01 'Header bytes': what judging a header can say, and what both headers have in common. Assumes nothing.
 use Prim.Native.Nat.{ℕ}
 use mathlib.Core.Bool.{Bool, true, false, _&&_, cond}
 use mathlib.Core.List.{List, [], _∷_, _++_}
@@ -8,76 +8,13 @@ use Rattle.base.specs.Answers.{Answer, given, refused, allOf}
 use Rattle.base.specs.Lists.{part, eqs}
 use Rattle.field.specs.Be.{toBe}
 use Rattle.field.specs.Fields.{field, numberIn}
-use Rattle.field.specs.declared.Field.{Field}
 use Rattle.crc32.specs.Crc.{crcOf}
 use Rattle.header.specs.declared.Written.{Written}
 use Rattle.header.specs.declared.Written.the-variants.{Done, Short, NotGood}
 
--- EC header: "version 4, .. counter 8-15, VID start 16-19, data start 20-23, image sequence 24-27"
-abbrev pub ecVersion : Field
-ecVersion = field 4 1
-
-abbrev pub ecCounter : Field
-ecCounter = field 8 8
-
-abbrev pub ecVidStart : Field
-ecVidStart = field 16 4
-
-abbrev pub ecDataStart : Field
-ecDataStart = field 20 4
-
-abbrev pub ecImageSeq : Field
-ecImageSeq = field 24 4
-
--- VID header: "version 4, type 5, copy flag 6, compatibility 7, volume 8-11, LEB 12-15, .. data size 20-23,
--- used LEBs 24-27, data pad 28-31, data CRC 32-35, .. sequence 40-47"
-abbrev pub vidVersion : Field
-vidVersion = field 4 1
-
-abbrev pub vidType : Field
-vidType = field 5 1
-
-abbrev pub vidCopyFlag : Field
-vidCopyFlag = field 6 1
-
-abbrev pub vidCompat : Field
-vidCompat = field 7 1
-
-abbrev pub vidVolume : Field
-vidVolume = field 8 4
-
-abbrev pub vidLnum : Field
-vidLnum = field 12 4
-
-abbrev pub vidDataSize : Field
-vidDataSize = field 20 4
-
-abbrev pub vidUsedLebs : Field
-vidUsedLebs = field 24 4
-
-abbrev pub vidDataPad : Field
-vidDataPad = field 28 4
-
-abbrev pub vidDataCrc : Field
-vidDataCrc = field 32 4
-
-abbrev pub vidSequence : Field
-vidSequence = field 40 8
-
--- both: "CRC of .. 0-59 at 60-63"
-abbrev pub headerCrc : Field
-headerCrc = field 60 4
-
--- "One constant table of field offsets and widths serves reader and writer."
-abbrev pub fields : List Field
-fields =
-    ecVersion ∷ ecCounter ∷ ecVidStart ∷ ecDataStart ∷ ecImageSeq
-    ∷ vidVersion ∷ vidType ∷ vidCopyFlag ∷ vidCompat ∷ vidVolume ∷ vidLnum
-    ∷ vidDataSize ∷ vidUsedLebs ∷ vidDataPad ∷ vidDataCrc ∷ vidSequence ∷ headerCrc ∷ []
-
 -- "CRC of bytes 0-59 at 60-63": does it match?
 unfoldable pub crcMatches : List ℕ → Bool
-crcMatches s = eqb (crcOf (take 60 s)) (numberIn headerCrc s)
+crcMatches s = eqb (crcOf (take 60 s)) (numberIn (field 60 4) s)
 
 -- what a header is: good with its fields; bad, 01's "lost" of an EC header and "bad" of a VID header; newer, with magic
 -- and CRC right and "a version above 1"
@@ -87,13 +24,10 @@ pub data Verdict (A : Type 0) : Type 0 where
   newer : Verdict A
 
 module _ {A : Type 0} where
-  -- "With magic and CRC right, a version above 1 refuses the image before any other field is judged"; version 0 is bad
-  abbrev pub byVersion : ℕ → Verdict A → Verdict A
-  byVersion version rest = cond (eqb version 1) rest (cond (eqb version 0) bad newer)
-
-  -- a header with magic and CRC right, by its version and then by the rules of its other fields
+  -- a header with magic and CRC right: "a version above 1 refuses the image before any other field is judged"; version 0
+  -- is bad; then the rules of its other fields
   abbrev pub judged : ℕ → List Bool → A → Verdict A
-  judged version rules h = byVersion version (cond (allOf rules) (good h) bad)
+  judged version rules h = cond (eqb version 1) (cond (allOf rules) (good h) bad) (cond (eqb version 0) bad newer)
 
   abbrev pub isGood : Verdict A → Bool
   isGood (good h) = true

@@ -1,4 +1,5 @@
 pub mod Fields
+pub mod Table
 pub mod Ec
 pub mod Vid
 pub mod Stores

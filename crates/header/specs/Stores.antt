@@ -5,9 +5,9 @@ use lib.ListN.{take, drop, replicate}
 use Rattle.base.specs.Lists.{put}
 use Rattle.field.specs.Fields.{stored, storedAll}
 use Rattle.crc32.specs.Crc.{crcOf}
-use Rattle.header.specs.Fields.{headerCrc, ecVersion, ecCounter, ecVidStart, ecDataStart, ecImageSeq, vidVersion}
-use Rattle.header.specs.Fields.{vidType, vidCopyFlag, vidCompat, vidVolume, vidLnum, vidDataSize, vidUsedLebs}
-use Rattle.header.specs.Fields.{vidDataPad, vidDataCrc, vidSequence}
+use Rattle.header.specs.Table.{headerCrc, ecVersion, ecCounter, ecVidStart, ecDataStart, ecImageSeq, vidVersion}
+use Rattle.header.specs.Table.{vidType, vidCopyFlag, vidCompat, vidVolume, vidLnum, vidDataSize, vidUsedLebs}
+use Rattle.header.specs.Table.{vidDataPad, vidDataCrc, vidSequence}
 use Rattle.header.specs.declared.EcHeader.{EcHeader}
 use Rattle.header.specs.declared.VidHeader.{VidHeader}
 

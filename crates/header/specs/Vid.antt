@@ -8,9 +8,8 @@ use lib.ListN.{getD, replicate}
 use Rattle.base.specs.Answers.{Answer, given, refused}
 use Rattle.base.specs.Lists.{part}
 use Rattle.field.specs.Be.{toBe}
-use Rattle.field.specs.Fields.{numberIn}
-use Rattle.header.specs.Fields.{vidVersion, vidType, vidCopyFlag, vidCompat, vidVolume, vidLnum, vidDataSize}
-use Rattle.header.specs.Fields.{vidUsedLebs, vidDataPad, vidDataCrc, vidSequence, Verdict, good, bad, judged}
+use Rattle.field.specs.Fields.{field, numberIn}
+use Rattle.header.specs.Fields.{Verdict, good, bad, judged}
 use Rattle.header.specs.Fields.{readHeader, lentHeader, headerBytes, headerWritten, headerOut}
 use Rattle.header.specs.declared.VidHeader.{VidHeader}
 use Rattle.header.specs.declared.VidRead.{VidRead}
@@ -20,20 +19,21 @@ use Rattle.header.specs.declared.VidRead.the-variants.{Good, Bad, Newer,
 abbrev pub vidMagic : List ℕ
 vidMagic = 0x55 ∷ 0x42 ∷ 0x49 ∷ 0x21 ∷ []
 
--- the fields in a header's bytes
+-- the fields in a header's bytes: "version 4, type 5, copy flag 6, compatibility 7, volume 8-11, LEB 12-15, ..
+-- data size 20-23, used LEBs 24-27, data pad 28-31, data CRC 32-35, .. sequence 40-47"
 unfoldable pub vidFields : List ℕ → VidHeader
 vidFields s = record {
-  version = numberIn vidVersion s;
-  «vol_type» = numberIn vidType s;
-  «copy_flag» = numberIn vidCopyFlag s;
-  compat = numberIn vidCompat s;
-  volume = numberIn vidVolume s;
-  lnum = numberIn vidLnum s;
-  «data_size» = numberIn vidDataSize s;
-  «used_lebs» = numberIn vidUsedLebs s;
-  «data_pad» = numberIn vidDataPad s;
-  «data_crc» = numberIn vidDataCrc s;
-  sequence = numberIn vidSequence s;
+  version = numberIn (field 4 1) s;
+  «vol_type» = numberIn (field 5 1) s;
+  «copy_flag» = numberIn (field 6 1) s;
+  compat = numberIn (field 7 1) s;
+  volume = numberIn (field 8 4) s;
+  lnum = numberIn (field 12 4) s;
+  «data_size» = numberIn (field 20 4) s;
+  «used_lebs» = numberIn (field 24 4) s;
+  «data_pad» = numberIn (field 28 4) s;
+  «data_crc» = numberIn (field 32 4) s;
+  sequence = numberIn (field 40 8) s;
 }
 
 -- i is the number of a VID field in the table: they are its rows 5 to 15

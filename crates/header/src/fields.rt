@@ -5,7 +5,8 @@ ghost use Prim.Native.Nat.{_+_, _^_, _≤_, _<_};
 ghost use lib.ListN.{length};
 ghost use Rattle.base.specs.Lists.{part, eqs};
 ghost use Rattle.field.specs.Fields.{row, numberIn, stored};
-ghost use Rattle.header.specs.Fields.{fields, crcMatches};
+ghost use Rattle.header.specs.Fields.{crcMatches};
+ghost use Rattle.header.specs.Table.{fields};
 ghost use Rattle.header.specs.Stores.{headerBegun, crcStored};
 use field::Field;
 

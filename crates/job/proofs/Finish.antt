@@ -10,8 +10,8 @@ use lib.Dec.{ltb}
 use borrow.Author.Tests.{ltb-true, ltb-false}
 use Rattle.base.specs.Answers.{Answer, given, refused}
 use Rattle.job.specs.Write.{appliedWhole}
-use Rattle.job.specs.Job.{Job, Progress, on, done, stepWrite, stepAnswer, Stepping, stepping, followed, runFor, finishing}
-use Rattle.job.specs.Course.{toEnd, planLeft, nextStep, oneStep, afterSteps, imageLeft}
+use Rattle.job.specs.Job.{Job, Progress, on, done, stepWrite, stepAnswer, Stepping, stepping}
+use Rattle.job.specs.Course.{toEnd, planLeft, nextStep, oneStep, afterSteps, finishing, imageLeft}
 use Rattle.job.proofs.Writes.{whole-length}
 use Rattle.job.proofs.Runs.{Lawful}
 
@@ -52,6 +52,29 @@ module _ {P : Type 0} (J : Job P) (L : Lawful J) where
   over-not-on (inl d) e = absurd (let z : _≡_ {A = ℕ} 0 1 = cc in omega arith)
   over-not-on (inr d) e = absurd (let z : _≡_ {A = ℕ} 0 1 = cc in omega arith)
 
+  -- the first step, then the others
+  first-step : (p : P) (image : List ℕ) (k : ℕ)
+      → afterSteps J p image (suc k) ≡ afterSteps J (planLeft J p (stepping J p image .answer)) (stepping J p image .image) k
+  unfolding afterSteps oneStep nextStep
+  first-step p image zero = refl
+  first-step p image (suc k) = ap (oneStep J) (first-step p image k)
+
+  goes-first : (p q : P) (image : List ℕ) → stepping J p image .answer ≡ given (on q) → (k : ℕ)
+      → afterSteps J p image (suc k) ≡ afterSteps J q (stepping J p image .image) k
+  goes-first p q image e k =
+      first-step p image k ∙ ap (λ b. afterSteps J (planLeft J p b) (stepping J p image .image) k) e
+
+  -- where a step does not go on, no further one does
+  plan-stays : (p : P) {a : Answer (Progress P)} → Over a → planLeft J p a ≡ p
+  plan-stays p (inl d) = rw d
+  plan-stays p (inr d) = rw d
+
+  none-more : (p : P) (image : List ℕ) → Over (stepping J p image .answer) → stepping J p image .image ≡ image
+      → (k : ℕ) → afterSteps J p image k ≡ record { plan = p; image = image }
+  unfolding afterSteps oneStep nextStep
+  none-more p image o i zero = refl
+  none-more p image o i (suc k) = ap (oneStep J) (none-more p image o i k) ∙ (λ j. record { plan = plan-stays p o j; image = i j })
+
   -- ---- for a loop that runs the steps
 
   module _ (p q : P) (image : List ℕ) {y : List ℕ} (e : given (on q) ≡ stepping J p image .answer) (i : y ≡ stepping J p image .image) where
@@ -69,74 +92,56 @@ module _ {P : Type 0} (J : Job P) (L : Lawful J) where
     fewer = let l = one-less in omega arith
 
     pub finish-on : finishing J q y ≡ finishing J p image
-    unfolding finishing runFor
-    finish-on = rw (one-less, ← e, ← i)
+    unfolding finishing
+    finish-on = ap (nextStep J) (rw (one-less, goes-first p q image (sym e) (J.count q y - J.ran q), ← i))
 
   -- the last step
   module _ (p : P) (image : List ℕ) {a : Answer (Progress P)} {y : List ℕ} (e : a ≡ stepping J p image .answer)
       (i : y ≡ stepping J p image .image) where
-    ended : Over a → finishing J p image ≡ record { answer = a; image = y }
-    unfolding finishing runFor
-    ended (inl d) = rw (← e, d, i)
-    ended (inr d) = rw (← e, d, i)
-
-    pub finish-last : {s : Stepping P} → Over a → finishing J p image ≡ s → (a ≡ s .answer) × (y ≡ s .image)
-    finish-last o f =
-        let z = sym (ended o) ∙ f in
-        (ap (λ (x : Stepping P). x .answer) z, ap (λ (x : Stepping P). x .image) z)
+    pub finish-last : {s : Stepping P} → Over a → finishing J p image ≡ s → (a ≡ s.answer) × (y ≡ s.image)
+    unfolding finishing nextStep
+    finish-last {s} o f = go (next-step p image)
+      where
+        go : Next p image → (a ≡ s.answer) × (y ≡ s.image)
+        go (goes q b l) = over-not-on o (sym b ∙ sym e)
+        go (ends b t) =
+            let z = sym (ap (nextStep J) (none-more p image b t (J.count p image - J.ran p))) ∙ f in
+            (e ∙ ap (λ (x : Stepping P). x.answer) z, i ∙ ap (λ (x : Stepping P). x.image) z)
 
   -- ---- the course to the end
 
-  -- the first step, then the others
-  first-step : (p : P) (image : List ℕ) (k : ℕ)
-      → afterSteps J p image (suc k) ≡ afterSteps J (planLeft J p (stepping J p image .answer)) (stepping J p image .image) k
-  unfolding afterSteps oneStep nextStep
-  first-step p image zero = refl
-  first-step p image (suc k) = ap (oneStep J) (first-step p image k)
+  -- after k steps no more go on, as many as are left at most: what the next one answers and leaves does not change
+  record Ended (p : P) (image : List ℕ) (k : ℕ) : Type 0 where
+    same : afterSteps J p image k ≡ afterSteps J p image (J.count p image - J.ran p)
+    stands : finishing J p image .image ≡ afterSteps J p image k .image
+    over : Over (finishing J p image .answer)
 
-  -- where a step does not go on, no further one does
-  plan-stays : (p : P) {a : Answer (Progress P)} → Over a → planLeft J p a ≡ p
-  plan-stays p (inl d) = rw d
-  plan-stays p (inr d) = rw d
-
-  none-more : (p : P) (image : List ℕ) → Over (stepping J p image .answer) → stepping J p image .image ≡ image
-      → (k : ℕ) → afterSteps J p image k ≡ record { plan = p; image = image }
-  unfolding afterSteps oneStep nextStep
-  none-more p image o i zero = refl
-  none-more p image o i (suc k) = ap (oneStep J) (none-more p image o i k) ∙ (λ j. record { plan = plan-stays p o j; image = i j })
-
-  -- after k steps no more go on: the next step's answer and image are what running at most n steps gives, and it
-  -- changes nothing
-  record Ended (n : ℕ) (p : P) (image : List ℕ) (k : ℕ) : Type 0 where
-    runs : runFor J n p image ≡ nextStep J (afterSteps J p image k)
-    stands : nextStep J (afterSteps J p image k) .image ≡ afterSteps J p image k .image
-    over : Over (runFor J n p image .answer)
-
-  none-follows : (more : P → List ℕ → Stepping P) (p : P) (image : List ℕ) → Over (stepping J p image .answer)
-      → followed J more (stepping J p image .image) (stepping J p image .answer) ≡ stepping J p image
-  unfolding stepping
-  none-follows more p image (inl d) = rw d
-  none-follows more p image (inr d) = rw d
-
-  by-next : (n : ℕ) (p : P) (image : List ℕ) (k : ℕ) → J .count p image - J .ran p ≤ k → Next p image
-      → ((q : P) (j : ℕ) → k ≡ suc j → J .count p image - J .ran p ≡ suc (J .count q (stepping J p image .image) - J .ran q)
-      → Ended n q (stepping J p image .image) j) → Ended (suc n) p image k
-  unfolding runFor nextStep
-  by-next n p image zero h (goes q e l) more = absurd (omega arith)
-  by-next n p image (suc k) h (goes q e l) more =
-      let z = first-step p image k ∙ ap (λ (b : Answer (Progress P)). afterSteps J (planLeft J p b) (stepping J p image .image) k) e in
+  by-next : (p : P) (image : List ℕ) (k : ℕ) → J.count p image - J.ran p ≤ k → Next p image
+      → ((q : P) (j : ℕ) → k ≡ suc j → J.count p image - J.ran p ≡ suc (J.count q (stepping J p image .image) - J.ran q)
+      → Ended q (stepping J p image .image) j) → Ended p image k
+  unfolding finishing nextStep
+  by-next p image zero h (goes q e l) more = absurd (omega arith)
+  by-next p image (suc k) h (goes q e l) more =
+      let y : List ℕ = stepping J p image .image in
+      let f = finish-on p q image {y = y} (sym e) refl in
+      let z = goes-first p q image e in
       let r = more q k refl l in
-      record { runs = rw (e, z) (r .runs); stands = rw z (r .stands); over = rw e (r .over) }
-  by-next n p image k h (ends o i) more =
-      let z = none-more p image o i k in
-      let f = none-follows (runFor J n) p image o in
-      record { runs = f ∙ ap (nextStep J) (sym z); stands = rw z i; over = rw f o }
+      record {
+        same = z k ∙ (r.same ∙ (sym (z (J.count q y - J.ran q)) ∙ ap (afterSteps J p image) (sym l)));
+        stands = rw (← f, z k) r.stands;
+        over = rw (← f) r.over;
+      }
+  by-next p image k h (ends o i) more =
+      let z = none-more p image o i in
+      let f = z (J.count p image - J.ran p) in
+      record { same = z k ∙ sym f; stands = rw (f, z k) i; over = rw f o }
 
-  -- with as many steps as are left
-  enough-steps : (n : ℕ) (p : P) (image : List ℕ) (k : ℕ) → J .count p image - J .ran p < n → J .count p image - J .ran p ≤ k → Ended n p image k
-  enough-steps zero p image k h l = absurd (omega arith)
-  enough-steps (suc n) p image k h l =
-      by-next n p image k l (next-step p image) (λ q j s e. enough-steps n q (stepping J p image .image) j (omega arith) (omega arith))
+  -- as many steps as are left
+  all-ended : (n : ℕ) (p : P) (image : List ℕ) (k : ℕ) → J.count p image - J.ran p < n → J.count p image - J.ran p ≤ k
+      → Ended p image k
+  all-ended zero p image k h l = absurd (omega arith)
+  all-ended (suc n) p image k h l =
+      by-next p image k l (next-step p image) (λ q j s e. all-ended n q (stepping J p image .image) j (omega arith) (omega arith))
 
   -- of every plan and image, whatever number of further steps the course has: the image is the one that the course to
   -- the end leaves, and the answer that of a further step: done or refused
@@ -148,13 +153,9 @@ module _ {P : Type 0} (J : Job P) (L : Lawful J) where
   pub finish-is-to-end : (p : P) (image : List ℕ) (further : ℕ) → ToEnd p image further
   unfolding finishing imageLeft
   finish-is-to-end p image further =
-      let n : ℕ = J .count p image in
-      let x = enough-steps (suc (n - J .ran p)) p image (n + further) (omega arith) (omega arith) in
-      record {
-        image-is = ap (λ (s : Stepping P). s .image) (x .runs) ∙ x .stands;
-        answer-is = ap (λ (s : Stepping P). s .answer) (x .runs);
-        over = x .over;
-      }
+      let n : ℕ = J.count p image in
+      let x = all-ended (suc (n - J.ran p)) p image (n + further) (omega arith) (omega arith) in
+      record { image-is = x.stands; answer-is = ap (λ y. nextStep J y .answer) (sym x.same); over = x.over }
 
   -- and it is the same after any number of steps
   finish-next : (p : P) (image : List ℕ) → Next p image

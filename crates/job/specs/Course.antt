@@ -1,6 +1,6 @@
 -- 01 'The mover's steps': how the steps of a job go on, and the image they leave; a list of calls. Assumes nothing.
 use mathlib.Core.Path.{_≡_}
-use Prim.Native.Nat.{ℕ, zero, suc, _+_, _≤_, _<_}
+use Prim.Native.Nat.{ℕ, zero, suc, _+_, _-_, _≤_, _<_}
 use mathlib.Core.Bool.{Bool}
 use mathlib.Core.List.{List, [], _∷_}
 use Rattle.base.specs.Answers.{Answer, given, refused}
@@ -40,6 +40,10 @@ module _ {P : Type 0} (J : Job P) where
   unfoldable pub afterSteps : P → List ℕ → ℕ → Left P
   afterSteps p image zero = record { plan = p; image = image }
   afterSteps p image (suc k) = oneStep (afterSteps p image k)
+
+  -- all steps that are left, and one that answers done
+  unfoldable pub finishing : P → List ℕ → Stepping P
+  finishing p image = nextStep (afterSteps p image (J.count p image - J.ran p))
 
   -- the image that a job leaves which began on `image`: "to the last and any further ones", or stopped
   unfoldable pub imageLeft : P → List ℕ → Course → List ℕ

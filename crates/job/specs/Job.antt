@@ -1,5 +1,5 @@
 -- A job that writes an image step by step: 01 'The mover's steps' and refusal 18, of any plan. Assumes nothing.
-use Prim.Native.Nat.{ℕ, zero, suc, _-_}
+use Prim.Native.Nat.{ℕ}
 use mathlib.Core.Bool.{Bool, cond}
 use mathlib.Core.List.{List}
 use lib.Dec.{ltb}
@@ -44,18 +44,3 @@ module _ {P : Type 0} (J : Job P) where
   -- the image after a step that was cut
   unfoldable pub stepCut : ℕ → (ℕ → Bool) → P → List ℕ → List ℕ
   stepCut stored erased p image = appliedCut stored erased (stepWrite p image) image
-
-  -- where a step goes on, more follows, with the plan and the image that it left; done or refused, it is the last
-  abbrev pub followed : (P → List ℕ → Stepping P) → List ℕ → Answer (Progress P) → Stepping P
-  followed more image (given (on q)) = more q image
-  followed more image (given done) = record { answer = given done; image = image }
-  followed more image (refused k q) = record { answer = refused k q; image = image }
-
-  -- at most n steps
-  unfoldable pub runFor : ℕ → P → List ℕ → Stepping P
-  runFor zero p image = record { answer = given (on p); image = image }
-  runFor (suc n) p image = followed (runFor n) (stepping p image .image) (stepping p image .answer)
-
-  -- all steps that are left, and one that answers done
-  unfoldable pub finishing : P → List ℕ → Stepping P
-  finishing p image = runFor (suc (J.count p image - J.ran p)) p image

@@ -21,7 +21,7 @@ appliedWhole nothing image = image
 -- bytes of which those in the set, by their place in the list, are erased
 abbrev pub erasedIn : (ℕ → Bool) → List ℕ → List ℕ
 erasedIn set [] = []
-erasedIn set (b ∷ bs) = cond (set 0) 0xFF b ∷ erasedIn (λ (i : ℕ). set (suc i)) bs
+erasedIn set (b ∷ bs) = cond (set 0) 0xFF b ∷ erasedIn (λ i. set (suc i)) bs
 
 -- the image after a write that was cut: "A cut leaves a prefix of the bytes of a store; of an erase, any bytes old or
 -- 0xFF": the number of bytes that were stored, or the set of those that were erased

@@ -20,9 +20,10 @@ use Rattle.report.specs.View.{Medium, mediumOf}
 use Rattle.report.specs.Scan.{Refusal}
 use Rattle.report.specs.Report.{entries, refusal}
 use Rattle.report.specs.Attach.{Outcome, early, late, whole, roomRules, longEnough, byRefusal, byGeometry}
-use Rattle.report.specs.Attach.{attaching, reportOf}
+use Rattle.report.specs.Attach.{attaching, reportOf, answerOf, tablesAfter}
+use Rattle.listing_text.specs.Text.{textOf}
 use Rattle.report.proofs.Tables.{entries-fit}
-use Rattle.listing.specs.Listing.{slipPart, imagePart, tooMuch, afterSlip, programTables, textFor, judging}
+use Rattle.listing.specs.Listing.{slipPart, imagePart, tooMuch, afterSlip, programTables, judging}
 use Rattle.listing.specs.Listing.{listingOf}
 use Rattle.listing_text.proofs.Lengths.{report-short, refused-short}
 
@@ -34,7 +35,7 @@ earlyNumber (late n r) = 0
 earlyNumber (whole m) = 0
 
 record Fine (o : Outcome) : Type 0 where
-  pub short : length (textFor o) ≤ 16384
+  pub short : length (textOf (answerOf o) (tablesAfter o programTables)) ≤ 16384
   pub tables-suffice : earlyNumber o ≢ 4
 
 fine-early : (k : ℕ) → k ≢ 4 → Fine (early k)

@@ -37,12 +37,9 @@ judging input more =
     cond (tooMuch input more) (afterSlip (slipGeometry (slipPart input)))
     (attachingInto (request (slipPart input)) (imagePart input) programTables)
 
-abbrev pub textFor : Outcome → List ℕ
-textFor o = textOf (answerOf o) (tablesAfter o programTables)
-
 -- what is printed
 unfoldable pub listingOf : List ℕ → Bool → List ℕ
-listingOf input more = textFor (judging input more)
+listingOf input more = textOf (answerOf (judging input more)) (tablesAfter (judging input more) programTables)
 
 -- the text's length, or refusal 4, here for the text's buffer
 unfoldable pub listed : List ℕ → Bool → List ℕ → Answer ℕ

@@ -11,7 +11,8 @@ use Rattle.words.specs.Words.{noWord}
 use Rattle.report.specs.declared.Report.{Report}
 use Rattle.report.specs.Attach.{Tables}
 use Rattle.listing_text.specs.Text.{ascii, labelled, pair, numbersPart, marksPart, counterText, pebLine, mapLine}
-use Rattle.listing_text.specs.Text.{volLine, pebLineAt, mapLineAt, volLineAt, pebLines, mapLines, volLines}
+use Rattle.listing_text.specs.Text.{volLine, pebLines, mapLines, volLines}
+use Rattle.listing_text.specs.Written.{pebLineAt, mapLineAt, volLineAt}
 use Rattle.listing_text.specs.Text.{reportText, refusedText}
 use Rattle.listing_text.proofs.Laws.{decimal-short}
 

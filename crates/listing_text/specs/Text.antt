@@ -65,23 +65,14 @@ unfoldable pub volLine : ℕ → ℕ → List ℕ
 volLine v s = cond (eqb s 0) [] (pair "vol " v " " s ++ lineEnd)
 
 -- the lines of each table
-abbrev pub pebLineAt : List ℕ → ℕ → List ℕ
-pebLineAt pebs i = pebLine i (classWord pebs i) (counterWord pebs i)
-
 unfoldable pub pebLines : ℕ → List ℕ → List ℕ
-pebLines n pebs = concatBelow n (pebLineAt pebs)
-
-abbrev pub mapLineAt : List ℕ → ℕ → List ℕ
-mapLineAt map i = mapLine (volumeWord map i) (lnumWord map i) (pebWord map i)
+pebLines n pebs = concatBelow n (λ i. pebLine i (classWord pebs i) (counterWord pebs i))
 
 unfoldable pub mapLines : ℕ → List ℕ → List ℕ
-mapLines k map = concatBelow k (mapLineAt map)
-
-abbrev pub volLineAt : List ℕ → ℕ → List ℕ
-volLineAt states v = volLine v (getD states v 0)
+mapLines k map = concatBelow k (λ i. mapLine (volumeWord map i) (lnumWord map i) (pebWord map i))
 
 unfoldable pub volLines : ℕ → List ℕ → List ℕ
-volLines k states = concatBelow k (volLineAt states)
+volLines k states = concatBelow k (λ v. volLine v (getD states v 0))
 
 -- "prints in full"
 unfoldable pub reportText : Report → Tables → List ℕ

@@ -7,7 +7,7 @@ use lib.Dec.{eqb, ltb, leb}
 use lib.ListN.{length}
 use Rattle.base.specs.Answers.{mapO}
 use Rattle.base.specs.Below.{firstBelow}
-use Rattle.words.specs.Words.{pebStride, mapWordsNeeded, classWord, counterWord, volumeWord, lnumWord, pebWord}
+use Rattle.words.specs.Words.{pebStride, entryStride, classWord, counterWord, volumeWord, lnumWord, pebWord}
 use Rattle.lookup.specs.declared.PebReport.{PebReport}
 use Rattle.lookup.specs.declared.PebReport.the-variants.{Given, Absent}
 use Rattle.lookup.specs.declared.LebPlace.{LebPlace}
@@ -32,7 +32,7 @@ placeAt map v l i = cond (isEntry map v l i) (some (pebWord map i)) none
 
 -- the PEB of the first of so many entries that is of the volume's LEB
 unfoldable pub placeIn : List ℕ → ℕ → ℕ → ℕ → Option ℕ
-placeIn map k v l = cond (leb (mapWordsNeeded k) (length map)) (mapO (λ x. x.1) (firstBelow k (placeAt map v l))) none
+placeIn map k v l = cond (leb (k * entryStride) (length map)) (mapO (λ x. x.1) (firstBelow k (placeAt map v l))) none
 
 abbrev pub placeAnswer : LebPlace → Option ℕ
 placeAnswer (leb-place.At p) = some p

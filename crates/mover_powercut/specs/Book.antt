@@ -43,22 +43,20 @@ pub record WithBook : Type 0 where
   pub image : List ℕ
   pub book : List Entry
 
+abbrev pub written : Call → List Entry → List Entry
+written c book = placeWritten c.volume c.lnum c.target book
+
 -- what a call leaves, by the answer of its beginning; "a refused one writes nothing".
 unfoldable pub callLeft : WithBook → Call → Answer Plan → WithBook
 callLeft x c (refused k q) = x
 callLeft x c (given p) =
     let last : List ℕ = imageLeft moverJob p x.image c.course in
-    record {
-      image = last;
-      book =
-          cond (isWritten p x.image c.course last) (placeWritten c.volume c.lnum c.target x.book)
-          x.book;
-    }
+    record { image = last; book = cond (isWritten p x.image c.course last) (written c x.book) x.book }
 
 module _ (req : AttachRequest) where
   -- what the beginning of a call answers, with tables long enough
   unfoldable pub begun : List ℕ → Call → Answer Plan
-  begun image c = beginning req image (λ (n : ℕ). true) c.volume c.lnum c.target
+  begun image c = beginning req image (λ n. true) c.volume c.lnum c.target
 
   unfoldable pub afterCall : WithBook → Call → WithBook
   afterCall x c = callLeft x c (begun x.image c)

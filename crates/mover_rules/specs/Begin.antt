@@ -34,8 +34,7 @@ refusal15 c = when (not (sound c) || (isStatic c && not c.matches)) 15
 module _ (m : Medium) where
   -- 13 "read-only mark, or a compatibility 1 block stands"
   unfoldable pub refusal13 : Option ℕ
-  refusal13 =
-      when (readOnlyOf m.count (copies m.views) || anyBelow m.count (λ (i : ℕ). isInternal 1 (copies m.views i))) 13
+  refusal13 = when (readOnlyOf m.count (copies m.views) || anyBelow m.count (λ i. isInternal 1 (copies m.views i))) 13
 
   -- PEB and copy of a LEB that is in the map
   unfoldable pub mapped : ℕ → ℕ → Option (ℕ × Copy)

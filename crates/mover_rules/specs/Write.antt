@@ -26,8 +26,7 @@ stepCount p = 3 + dataSteps p
 unfoldable pub unitBytes : Plan → List ℕ → ℕ → List ℕ
 unitBytes p image j =
     let g : Geometry = planGeometry p in
-    part (pebStart g p.old + (g.«data_start» + j * g.unit))
-    (min g.unit (p.vid.«data_size» - j * g.unit)) image
+    part (pebStart g p.old + (g.«data_start» + j * g.unit)) (min g.unit (p.vid.«data_size» - j * g.unit)) image
 
 -- the LEB's new place, with the data as they stand in the image
 abbrev pub relocation : Plan → List ℕ → Relocation

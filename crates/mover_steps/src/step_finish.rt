@@ -1,6 +1,6 @@
 // The rest of a move at once.
 ghost use mathlib.Core.Path.{_≡_};
-ghost use Rattle.job.specs.Job.{finishing};
+ghost use Rattle.job.specs.Course.{finishing};
 ghost use Rattle.mover_rules.specs.Step.{moverJob, steppedAnswer};
 use crate::steps::step;
 use mover_rules::Plan;

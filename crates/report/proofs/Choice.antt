@@ -11,7 +11,7 @@ use Rattle.base.specs.Below.{anyBelow}
 use Rattle.base.proofs.Answers.{and-left, and-right, clash, not-so, none-some}
 use Rattle.base.proofs.Below.{eq-or-ne, none-at, none-intro, any-intro, any-cong, first-none-at, first-cong, first-only, first-hit}
 use Rattle.report.specs.View.{Copy}
-use Rattle.report.specs.Choice.{sound, ofKey, beats, unless, unbeaten, pick, chosen}
+use Rattle.report.specs.Choice.{sound, ofKey, beats, unbeaten, pick, chosen}
 use Rattle.report.proofs.First.{First, first}
 
 -- ---- `beats` is a strict order
@@ -141,7 +141,7 @@ unbeaten-is : (n : ℕ) (f : ℕ → Option Copy) (x : Option Copy) (c : Copy) �
 unbeaten-is n f none c e = none-some e
 unbeaten-is n f (some d) c e = go (anyBelow n (λ j. beats (f j) d)) refl e
   where
-    go : (b : Bool) → anyBelow n (λ j. beats (f j) d) ≡ b → unless b d ≡ some c → (some d ≡ some c) × (anyBelow n (λ j. beats (f j) c) ≡ false)
+    go : (b : Bool) → anyBelow n (λ j. beats (f j) d) ≡ b → cond b none (some d) ≡ some c → (some d ≡ some c) × (anyBelow n (λ j. beats (f j) c) ≡ false)
     go true q e = none-some e
     go false q e = let r : d ≡ c = cc in (e, subst (λ y. anyBelow n (λ j. beats (f j) y) ≡ false) r q)
 

@@ -1,6 +1,6 @@
 -- 01 'The report' and 'Refusal numbers': what attaching answers, and what the lent tables hold afterwards. Assumes
 -- nothing.
-use Prim.Native.Nat.{ℕ, _-_}
+use Prim.Native.Nat.{ℕ, _-_, _*_}
 use mathlib.Core.Bool.{Bool, cond}
 use mathlib.Core.Option.{Option, none, some}
 use mathlib.Core.List.{List, [], _∷_, _++_}
@@ -8,7 +8,7 @@ use lib.Dec.{leb}
 use lib.ListN.{length, drop, replicate}
 use Rattle.base.specs.Answers.{Answer, given, refused, allOf}
 use Rattle.base.specs.Lists.{table}
-use Rattle.words.specs.Words.{pebWordsNeeded, mapWordsNeeded, stateWordsNeeded, noWord}
+use Rattle.words.specs.Words.{pebStride, entryStride, noWord}
 use Rattle.base.specs.Below.{concatBelow}
 use Rattle.geometry.specs.Image.{pebCount, imageRules}
 use Rattle.geometry.specs.Slip.{slipGeometry}
@@ -32,9 +32,7 @@ lent pebs map states = record { pebs = pebs; map = map; states = states }
 
 -- refusal 4: "a lent table .. is too short"
 unfoldable pub roomRules : Tables → ℕ → List Bool
-roomRules t n =
-    leb (pebWordsNeeded n) (length t.pebs) ∷ leb (mapWordsNeeded n) (length t.map)
-    ∷ leb stateWordsNeeded (length t.states) ∷ []
+roomRules t n = leb (n * pebStride) (length t.pebs) ∷ leb (n * entryStride) (length t.map) ∷ leb 128 (length t.states) ∷ []
 
 abbrev pub longEnough : Tables → ℕ → Bool
 longEnough t n = allOf (roomRules t n)
@@ -111,7 +109,7 @@ over ws lent = ws ++ drop (length ws) lent
 
 -- "Per PEB two u32 words: class, and counter"
 unfoldable pub pebWords : Medium → List ℕ
-pebWords m = concatBelow m.count (λ (i : ℕ). classAt m i ∷ counterAt m i ∷ [])
+pebWords m = concatBelow m.count (λ i. classAt m i ∷ counterAt m i ∷ [])
 
 -- "three words per entry (volume, LEB, PEB)"
 abbrev pub entryWords : List Entry → List ℕ
@@ -120,7 +118,7 @@ entryWords (e ∷ es) = e.volume ∷ e.lnum ∷ e.peb ∷ entryWords es
 
 -- "Unused words up to 3 times PEB count in the map become 0xFFFFFFFF"
 unfoldable pub mapWords : ℕ → List Entry → List ℕ
-mapWords n es = entryWords es ++ replicate (mapWordsNeeded n - length (entryWords es)) noWord
+mapWords n es = entryWords es ++ replicate (n * entryStride - length (entryWords es)) noWord
 
 -- "Volume states: 128 words."
 unfoldable pub stateWords : Medium → List ℕ
@@ -130,7 +128,7 @@ stateWords m = table (stateAt m) 0 128
 abbrev pub tablesAfter : Outcome → Tables → Tables
 tablesAfter (early k) t = t
 tablesAfter (late n r) t =
-    lent (over (replicate (pebWordsNeeded n) noWord) t.pebs) (over (replicate (mapWordsNeeded n) noWord) t.map)
-    (over (replicate stateWordsNeeded noWord) t.states)
+    lent (over (replicate (n * pebStride) noWord) t.pebs) (over (replicate (n * entryStride) noWord) t.map)
+    (over (replicate 128 noWord) t.states)
 tablesAfter (whole m) t =
     lent (over (pebWords m) t.pebs) (over (mapWords m.count (entries m)) t.map) (over (stateWords m) t.states)

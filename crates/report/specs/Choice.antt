@@ -27,7 +27,7 @@ repeats (some c) (some d) =
 
 -- refusal 9: "for 9 the lowest PEB that repeats a lower one"
 unfoldable pub refusal9 : ℕ → (ℕ → Option Copy) → Option Refusal
-refusal9 n cs = mapO atPeb (firstBelow n (λ (i : ℕ). when (anyBelow i (λ (j : ℕ). repeats (cs i) (cs j))) 9))
+refusal9 n cs = mapO atPeb (firstBelow n (λ i. when (anyBelow i (λ j. repeats (cs i) (cs j))) 9))
 
 -- does the first copy count before the second? "choose the highest sequence that is sound; if none is sound, the lowest
 -- sequence" (proofs/Choice.antt: a copy is chosen wherever there is one, `pick-some`, and it is the one of this
@@ -38,19 +38,15 @@ beats (some d) c =
     cond (sound c) (sound d && ltb c.header.sequence d.header.sequence)
     (sound d || ltb d.header.sequence c.header.sequence)
 
-abbrev pub unless : Bool → Copy → Option Copy
-unless true c = none
-unless false c = some c
-
 -- a copy, if none of the copies f below n beats it
 abbrev pub unbeaten : ℕ → (ℕ → Option Copy) → Option Copy → Option Copy
 unbeaten n f none = none
-unbeaten n f (some c) = unless (anyBelow n (λ (j : ℕ). beats (f j) c)) c
+unbeaten n f (some c) = cond (anyBelow n (λ j. beats (f j) c)) none (some c)
 
 -- the chosen one of the copies f below n, with its PEB
 unfoldable pub pick : ℕ → (ℕ → Option Copy) → Option (ℕ × Copy)
-pick n f = firstBelow n (λ (i : ℕ). unbeaten n f (f i))
+pick n f = firstBelow n (λ i. unbeaten n f (f i))
 
 -- "Of the good VID headers for one user or layout LEB, choose .."
 unfoldable pub chosen : ℕ → (ℕ → Option Copy) → ℕ → ℕ → Option (ℕ × Copy)
-chosen n cs v l = pick n (λ (i : ℕ). ofKey v l (cs i))
+chosen n cs v l = pick n (λ i. ofKey v l (cs i))

@@ -57,16 +57,10 @@ abbrev pub hasCounter : Option EcHeader → Bool
 hasCounter none = false
 hasCounter (some h) = true
 
--- "only class 3 has lost counters"
-abbrev pub mayBeLost : ℕ → Bool
-mayBeLost class = eqb class 3
-
 -- "mean (floor of good counters' sum over their number, 0 if none; otherwise it lies between the lowest and the highest
 -- good counter)": a division by 0 gives 0, and the rest is proofs/Mean.antt
 unfoldable pub meanOf : Medium → ℕ
-meanOf m =
-    sumBelow m.count (λ (i : ℕ). counterOr 0 (ecs m.views i))
-    / countBelow m.count (λ (i : ℕ). hasCounter (ecs m.views i))
+meanOf m = sumBelow m.count (λ i. counterOr 0 (ecs m.views i)) / countBelow m.count (λ i. hasCounter (ecs m.views i))
 
 abbrev pub sequenceOr0 : Option Copy → ℕ
 sequenceOr0 none = 0
@@ -74,7 +68,7 @@ sequenceOr0 (some c) = c.header.sequence
 
 -- "highest sequence of all good VID headers"
 unfoldable pub highestOf : ℕ → (ℕ → Option Copy) → ℕ
-highestOf n cs = maxBelow n (λ (i : ℕ). sequenceOr0 (cs i))
+highestOf n cs = maxBelow n (λ i. sequenceOr0 (cs i))
 
 -- a copy of one of the "Other internal volumes" with this compatibility
 abbrev pub isInternal : ℕ → Option Copy → Bool
@@ -83,7 +77,7 @@ isInternal k (some c) = not (isMappable c.header.volume) && eqb c.header.compat 
 
 -- "2, class 6 and the read-only mark"
 unfoldable pub readOnlyOf : ℕ → (ℕ → Option Copy) → Bool
-readOnlyOf n cs = anyBelow n (λ (i : ℕ). isInternal 2 (cs i))
+readOnlyOf n cs = anyBelow n (λ i. isInternal 2 (cs i))
 
 module _ (m : Medium) where
   abbrev pub faces : Faces
@@ -120,9 +114,9 @@ module _ (m : Medium) where
   -- else 1."
   unfoldable pub gradeOf : ℕ
   gradeOf =
-      cond (allBelow m.count (λ (i : ℕ). not (eqb (classAt i) 4))
-      && (allBelow m.count (λ (i : ℕ). mayBeLost (classAt i) || hasCounter (ecs m.views i))
-      && (eqb mark 0 && allBelow 128 (λ (v : ℕ). not (eqb (stateAt v) 2 || eqb (stateAt v) 3))))) 0 1
+      cond (allBelow m.count (λ i. not (eqb (classAt i) 4))
+      && (allBelow m.count (λ i. eqb (classAt i) 3 || hasCounter (ecs m.views i))
+      && (eqb mark 0 && allBelow 128 (λ v. not (eqb (stateAt v) 2 || eqb (stateAt v) 3))))) 0 1
 
   -- refusals 5 to 12, "in order of checking"
   unfoldable pub refusal : Option Refusal

@@ -54,11 +54,10 @@ atPeb x = record { number = x.1; place = x.0 }
 
 -- "5 to 8 go PEB by PEB"; the place is the PEB
 unfoldable pub refusal5678 : Medium → Option Refusal
-refusal5678 m =
-    mapO atPeb (firstBelow m.count (λ (i : ℕ). viewRefusal m.geometry (imageSeq m.count m.views) (m.views i)))
+refusal5678 m = mapO atPeb (firstBelow m.count (λ i. viewRefusal m.geometry (imageSeq m.count m.views) (m.views i)))
 
 -- 10 "every PEB is class 0 or 3"
 unfoldable pub refusal10 : Medium → Option Refusal
 refusal10 m =
-    mapO (λ (k : ℕ). record { number = k; place = 0 })
-    (when (allBelow m.count (λ (i : ℕ). isUnused (m.views i .ec) (m.views i .vid))) 10)
+    mapO (λ k. record { number = k; place = 0 })
+    (when (allBelow m.count (λ i. isUnused (m.views i .ec) (m.views i .vid))) 10)

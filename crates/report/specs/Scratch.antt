@@ -23,7 +23,7 @@ keyWords i vidBad = noWord ∷ noWord ∷ noWord ∷ []
 
 -- the map's words after the first pass: three for each PEB
 abbrev pub keysOf : ℕ → Views → List ℕ
-keysOf n vs = concatBelow n (λ (i : ℕ). keyWords i (vs i .vid))
+keysOf n vs = concatBelow n (λ i. keyWords i (vs i .vid))
 
 -- the class of a PEB once the copies are chosen: 1 for a chosen copy, whether or not it stays in the map
 abbrev pub markedClass : Places → ℕ → EcView → VidView → ℕ
@@ -31,5 +31,4 @@ markedClass ps i = classBy (λ (c : Copy). cond (isPlace (ps c.header.volume c.h
 
 -- class and counter of each PEB then
 abbrev pub markedWords : Places → ℕ → Views → List ℕ
-markedWords ps n vs =
-    concatBelow n (λ (i : ℕ). markedClass ps i (vs i .ec) (vs i .vid) ∷ counterOr noWord (ecs vs i) ∷ [])
+markedWords ps n vs = concatBelow n (λ i. markedClass ps i (vs i .ec) (vs i .vid) ∷ counterOr noWord (ecs vs i) ∷ [])

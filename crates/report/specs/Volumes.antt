@@ -99,8 +99,8 @@ entryAt v l (some p) = record { volume = v; lnum = l; peb = p } ∷ []
 -- record is empty or absent, or whose LEB is not below reserved .. leaves the map"
 unfoldable pub mapUpTo : ℕ → ℕ → List ℕ → Places → List Entry
 mapUpTo k m t ps =
-    concatBelow k (λ (v : ℕ). concatBelow (reservedOf (recordFor t v)) (λ (l : ℕ). entryAt v l (ps v l)))
-    ++ concatBelow m (λ (l : ℕ). entryAt layoutVolume l (ps layoutVolume l))
+    concatBelow k (λ v. concatBelow (reservedOf (recordFor t v)) (λ l. entryAt v l (ps v l)))
+    ++ concatBelow m (λ l. entryAt layoutVolume l (ps layoutVolume l))
 
 unfoldable pub mapOf : List ℕ → Places → List Entry
 mapOf t ps = mapUpTo 128 2 t ps
@@ -108,12 +108,7 @@ mapOf t ps = mapUpTo 128 2 t ps
 -- 01 'The mover's steps': the place book, a map, in which a move "writes its target for its LEB"
 abbrev pub placeWritten : ℕ → ℕ → ℕ → List Entry → List Entry
 placeWritten v l p =
-    map
-    (λ (e : Entry). record {
-      volume = e.volume;
-      lnum = e.lnum;
-      peb = cond (eqb v e.volume && eqb l e.lnum) p e.peb;
-    })
+    map (λ e. record { volume = e.volume; lnum = e.lnum; peb = cond (eqb v e.volume && eqb l e.lnum) p e.peb })
 
 -- used LEBs of the "volume's first entry"
 unfoldable pub usedOf : List ℕ → Faces → ℕ → Option ℕ
@@ -132,7 +127,7 @@ misfit (some r) u (some f) =
 unfoldable pub misfitIn : List ℕ → Faces → ℕ → Option ℕ
 misfitIn t fs v =
     mapO (λ (x : ℕ × ℕ). x.0)
-    (firstBelow (reservedOf (recordFor t v)) (λ (l : ℕ). misfit (recordFor t v) (usedOf t fs v) (fs v l)))
+    (firstBelow (reservedOf (recordFor t v)) (λ l. misfit (recordFor t v) (usedOf t fs v) (fs v l)))
 
 -- volume and LEB of the first misfit in the map
 unfoldable pub misfitAt : List ℕ → Faces → Option (ℕ × ℕ)
@@ -168,13 +163,13 @@ isMissing (some f) = false
 -- "(static, something mapped) a LEB below used LEBs is missing"
 abbrev pub lacks : VolumeRecord → Option ℕ → (ℕ → Option Face) → Bool
 lacks r none fs = false
-lacks r (some u) fs = eqb r.«vol_type» 2 && anyBelow u (λ (l : ℕ). isMissing (fs l))
+lacks r (some u) fs = eqb r.«vol_type» 2 && anyBelow u (λ l. isMissing (fs l))
 
 -- "Volume state: 0 no record; 2 marker set; else 3 if ..; else 1."
 abbrev pub stateWith : Option VolumeRecord → Option ℕ → (ℕ → Option Face) → ℕ
 stateWith none u fs = 0
 stateWith (some r) u fs =
-    cond (eqb r.«update_marker» 1) 2 (cond (anyBelow r.reserved (λ (l : ℕ). faulty r (fs l)) || lacks r u fs) 3 1)
+    cond (eqb r.«update_marker» 1) 2 (cond (anyBelow r.reserved (λ l. faulty r (fs l)) || lacks r u fs) 3 1)
 
 unfoldable pub stateOf : List ℕ → Faces → ℕ → ℕ
 stateOf t fs v = stateWith (recordFor t v) (usedOf t fs v) (fs v)

@@ -12,7 +12,8 @@ use Rattle.base.specs.Answers.{orElse}
 use Rattle.base.specs.Lists.{put, eqs, part}
 use Rattle.base.proofs.Answers.{and-left, either-way}
 use Rattle.geometry.specs.declared.Geometry.{Geometry}
-use Rattle.header.specs.Fields.{good, bad, newer, byVersion, crcMatches}
+use Rattle.header.specs.Fields.{good, bad, newer, crcMatches}
+use Rattle.header.proofs.Laws.{byVersion}
 use Rattle.header.specs.Ec.{ecMagic, ecRules, ecFields, judgeEc, readEc}
 use Rattle.header.specs.declared.EcHeader.{EcHeader}
 use Rattle.words.specs.Words.{noWord, pebStride, entryStride}

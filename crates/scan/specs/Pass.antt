@@ -65,11 +65,11 @@ pub record SmallTotals (s : EcTotals) : Type 0 where
 pub record TotalsOf (n : ℕ) (vs : Views) (s : ScanTotals) : Type 0 where
   pub seq : seqIn s.ec ≡ imageSeq n vs
   pub image-seq : s .ec .«image_seq» ≡ orZero (imageSeq n vs)
-  pub counters : s .ec .counters ≡ sumBelow n (λ (i : ℕ). counterOr 0 (ecs vs i))
-  pub good : s .ec .good ≡ countBelow n (λ (i : ℕ). hasCounter (ecs vs i))
+  pub counters : s .ec .counters ≡ sumBelow n (λ i. counterOr 0 (ecs vs i))
+  pub good : s .ec .good ≡ countBelow n (λ i. hasCounter (ecs vs i))
   pub highest : s .vid .highest ≡ highestOf n (copies vs)
   pub read-only : s .vid .«read_only» ≡ readOnlyOf n (copies vs)
-  pub unused : s .vid .unused ≡ allBelow n (λ (i : ℕ). isUnused (vs i .ec) (vs i .vid))
+  pub unused : s .vid .unused ≡ allBelow n (λ i. isUnused (vs i .ec) (vs i .vid))
   pub counters-small : s .ec .counters ≤ s.ec.good * 0x7FFFFFFF
   pub good-few : s .ec .good ≤ n
 
@@ -87,7 +87,7 @@ abbrev pub firstRow : View → List ℕ
 firstRow v = firstClass v.ec v.vid ∷ counterOr noWord (goodEc v.ec) ∷ []
 
 abbrev pub firstWords : ℕ → Views → List ℕ
-firstWords n vs = concatBelow n (λ (i : ℕ). firstRow (vs i))
+firstWords n vs = concatBelow n (λ i. firstRow (vs i))
 
 -- PEB i of the view v, passed after the totals s: the refusal's number or 0; where there is none the totals with it,
 -- and its words stored

@@ -1,4 +1,5 @@
--- 01 'The volume table': where the fields of a volume record stand. Assumes nothing.
+-- The fields of a volume record by name, as the code goes by them. Only contracts of inner functions cite it; `recordOf`
+-- says the same places. Assumes nothing.
 use mathlib.Core.List.{List, [], _∷_}
 use Rattle.field.specs.Fields.{field}
 use Rattle.field.specs.declared.Field.{Field}

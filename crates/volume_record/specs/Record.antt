@@ -9,32 +9,31 @@ use Rattle.base.specs.Answers.{Answer, given, refused, allOf}
 use Rattle.base.specs.Below.{allBelow}
 use Rattle.base.specs.Lists.{eqs}
 use Rattle.field.specs.Be.{toBe}
-use Rattle.field.specs.Fields.{bytesIn, numberIn}
+use Rattle.field.specs.Fields.{field, bytesIn, numberIn}
 use Rattle.crc32.specs.Crc.{crcOf}
-use Rattle.volume_record.specs.Fields.{recordReserved, recordAlignment, recordDataPad, recordType, recordMarker}
-use Rattle.volume_record.specs.Fields.{recordNameLength, recordName, recordFlags, recordCrc}
 use Rattle.volume_record.specs.declared.VolumeRecord.{VolumeRecord}
 use Rattle.volume_record.specs.declared.RecordWritten.{RecordWritten}
 use Rattle.volume_record.specs.declared.RecordWritten.the-variants as written
 use Rattle.volume_record.specs.declared.RecordKind.{RecordKind}
 use Rattle.volume_record.specs.declared.RecordKind.the-variants.{Empty, Good, Bad, Short}
 
--- the numbers and the name in a record's fields
+-- the numbers and the name in a record's fields: "reserved PEBs 0-3, alignment 4-7, data pad 8-11, type 12,
+-- update marker 13, name length 14-15, name 16-143, flags 144"
 unfoldable pub recordOf : List ℕ → VolumeRecord
 recordOf r = record {
-  reserved = numberIn recordReserved r;
-  alignment = numberIn recordAlignment r;
-  «data_pad» = numberIn recordDataPad r;
-  «vol_type» = numberIn recordType r;
-  «update_marker» = numberIn recordMarker r;
-  «name_length» = numberIn recordNameLength r;
-  name = bytesIn recordName r;
-  flags = numberIn recordFlags r;
+  reserved = numberIn (field 0 4) r;
+  alignment = numberIn (field 4 4) r;
+  «data_pad» = numberIn (field 8 4) r;
+  «vol_type» = numberIn (field 12 1) r;
+  «update_marker» = numberIn (field 13 1) r;
+  «name_length» = numberIn (field 14 2) r;
+  name = bytesIn (field 16 128) r;
+  flags = numberIn (field 144 1) r;
 }
 
 -- "CRC of 0-167 at 168-171"
 unfoldable pub recordCrcMatches : List ℕ → Bool
-recordCrcMatches r = eqb (crcOf (take 168 r)) (numberIn recordCrc r)
+recordCrcMatches r = eqb (crcOf (take 168 r)) (numberIn (field 168 4) r)
 
 -- "An empty record has reserved 0 and is 168 zeroes with their CRC."
 unfoldable pub emptyRecord : List ℕ
@@ -45,7 +44,7 @@ isEmpty r = eqs r emptyRecord
 
 -- "that many name bytes are nonzero and the next is zero"
 unfoldable pub nameEnds : List ℕ → ℕ → Bool
-nameEnds name n = allBelow n (λ (i : ℕ). not (eqb (getD name i 0) 0)) && eqb (getD name n 0) 0
+nameEnds name n = allBelow n (λ i. not (eqb (getD name i 0) 0)) && eqb (getD name n 0) 0
 
 -- what a record other than the empty one must satisfy, beside its CRC, in 01's order
 unfoldable pub recordRules : ℕ → ℕ → VolumeRecord → List Bool

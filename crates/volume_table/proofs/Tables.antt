@@ -230,8 +230,5 @@ module _ (size unit pebs : ℕ) (copy0 copy1 : List ℕ) where
   -- a choice that names the LEB whose table is taken shows its records
   pub taken-records : {k : Answer ℕ} → k ≡ takenLeb size unit pebs copy0 copy1
       → recordsTaken size k copy0 copy1 ≡ takenRecords size unit pebs copy0 copy1
-  unfolding takenLeb takenRecords
-  taken-records e =
-      rw e
-      (by-test (tableGood size unit pebs copy0) (λ p. rw p)
-      (λ p. by-test (tableGood size unit pebs copy1) (λ q. rw (p, q)) (λ q. rw (p, q))))
+  unfolding takenRecords
+  taken-records e = rw e

@@ -19,6 +19,6 @@ tallied size unit s r = record {
 
 -- the sums over the first n records; they count only where all records are empty or good
 pub record TallyOf (n size unit : ℕ) (t : List ℕ) (s : Tally) : Type 0 where
-  pub good : s .good ≡ allBelow n (λ (i : ℕ). emptyOrGood size unit (recordAt t i))
-  pub reserved : s .good ≡ true → s.reserved ≡ sumBelow n (λ (i : ℕ). recordOf (recordAt t i) .reserved)
-  pub autoresize : s .good ≡ true → s.autoresize ≡ countBelow n (λ (i : ℕ). autoresizes (recordAt t i))
+  pub good : s .good ≡ allBelow n (λ i. emptyOrGood size unit (recordAt t i))
+  pub reserved : s .good ≡ true → s.reserved ≡ sumBelow n (λ i. recordOf (recordAt t i) .reserved)
+  pub autoresize : s .good ≡ true → s.autoresize ≡ countBelow n (λ i. autoresizes (recordAt t i))

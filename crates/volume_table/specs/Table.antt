@@ -48,13 +48,13 @@ reservedLimit pebs = pebs - 2
 unfoldable pub tableRules : ℕ → ℕ → ℕ → ℕ → List ℕ → List Bool
 tableRules n size unit pebs t =
     -- "all records are"
-    allBelow n (λ (i : ℕ). emptyOrGood size unit (recordAt t i))
+    allBelow n (λ i. emptyOrGood size unit (recordAt t i))
     -- "no two nonempty ones have the same name bytes"
-    ∷ not (anyBelow n (λ (j : ℕ). anyBelow j (λ (i : ℕ). sameNames (recordAt t i) (recordAt t j))))
+    ∷ not (anyBelow n (λ j. anyBelow j (λ i. sameNames (recordAt t i) (recordAt t j))))
     -- "at most one autoresizes"
-    ∷ leb (countBelow n (λ (i : ℕ). autoresizes (recordAt t i))) 1
+    ∷ leb (countBelow n (λ i. autoresizes (recordAt t i))) 1
     -- "reserved PEBs sum to at most PEB count less 2"
-    ∷ leb (sumBelow n (λ (i : ℕ). recordOf (recordAt t i) .reserved)) (reservedLimit pebs) ∷ []
+    ∷ leb (sumBelow n (λ i. recordOf (recordAt t i) .reserved)) (reservedLimit pebs) ∷ []
 
 -- ours, before them: a LEB that is too small for a record (none of 01's geometry is) has no good table, and neither has
 -- a copy that is too short for its records
@@ -65,6 +65,11 @@ tableTests n size unit pebs t = ltb 0 n ∷ leb (172 * n) (length t) ∷ tableRu
 unfoldable pub tableGood : ℕ → ℕ → ℕ → List ℕ → Bool
 tableGood size unit pebs content = allOf (tableTests (recordCount size) size unit pebs (recordsPart size content))
 
+-- the records' part of the copy that the answer names: LEB 0's, "else LEB 1's"; no bytes at a refusal
+abbrev pub recordsTaken : ℕ → Answer ℕ → List ℕ → List ℕ → List ℕ
+recordsTaken size (given k) copy0 copy1 = recordsPart size (cond (eqb k 0) copy0 copy1)
+recordsTaken size (refused _ _) copy0 copy1 = []
+
 module _ (size unit pebs : ℕ) (copy0 copy1 : List ℕ) where
   -- "LEB 0's table is taken if mapped and good, else LEB 1's": the LEB; refusal 11 "no good table"
   unfoldable pub takenLeb : Answer ℕ
@@ -73,9 +78,7 @@ module _ (size unit pebs : ℕ) (copy0 copy1 : List ℕ) where
 
   -- the records of the table taken; no bytes where neither copy is good
   unfoldable pub takenRecords : List ℕ
-  takenRecords =
-      cond (tableGood size unit pebs copy0) (recordsPart size copy0)
-      (cond (tableGood size unit pebs copy1) (recordsPart size copy1) [])
+  takenRecords = recordsTaken size takenLeb copy0 copy1
 
   -- "Copies mark: 0 both good with all record bytes equal, 1 one absent or not good, 2 both good and unequal"
   unfoldable pub copiesMark : ℕ
@@ -87,8 +90,3 @@ module _ (size unit pebs : ℕ) (copy0 copy1 : List ℕ) where
 abbrev pub takenNumber : Taken → Answer ℕ
 takenNumber (Leb k) = given k
 takenNumber Neither = refused 11 0
-
--- the records' part of the copy that the answer names: LEB 0's, "else LEB 1's"; no bytes at a refusal
-abbrev pub recordsTaken : ℕ → Answer ℕ → List ℕ → List ℕ → List ℕ
-recordsTaken size (given k) copy0 copy1 = recordsPart size (cond (eqb k 0) copy0 copy1)
-recordsTaken size (refused _ _) copy0 copy1 = []

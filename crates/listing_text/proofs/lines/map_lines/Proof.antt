@@ -3,8 +3,8 @@ use mathlib.Core.Path.{_≡_}
 use Prim.Native.Nat.{_≤_, _-_, _+_, _*_}
 use native.Mathlib.Omega.{arith}
 use borrow.Author.Needs.{needs}
-use Rattle.listing_text.specs.Written.{Written}
-use Rattle.listing_text.specs.Text.{mapLineAt, mapLines}
+use Rattle.listing_text.specs.Written.{Written, mapLineAt}
+use Rattle.listing_text.specs.Text.{mapLines}
 use Rattle.listing_text.proofs.Laws.{written-none, next-written, written-length}
 use Rattle.listing_text.proofs.lines.map_lines.Statement.{statement}
 use Rattle.listing_text.proofs.lines.map_lines.Tie as tie

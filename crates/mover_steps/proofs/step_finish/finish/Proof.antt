@@ -3,7 +3,7 @@ use mathlib.Core.Path.{_≡_, refl, sym, ap, _∙_}
 use Prim.Native.Nat.{_-_}
 use borrow.Author.Needs.{needs}
 use lib.ListN.{length}
-use Rattle.job.specs.Job.{finishing}
+use Rattle.job.specs.Course.{finishing}
 use Rattle.job.proofs.Finish.{fewer, finish-on, finish-last}
 use Rattle.mover_rules.specs.Write.{stepCount}
 use Rattle.mover_rules.specs.Step.{moverJob, steppedAnswer}
