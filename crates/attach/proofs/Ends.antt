@@ -67,11 +67,11 @@ lent-same a b c = rw (a, b, c)
 -- ---- counters
 
 -- a good counter has 31 bits
-pub counter-small : (g : Geometry) (image : List ℕ) (i : ℕ) (h : EcHeader) → ecs (viewsOf g image) i ≡ some h → h .counter ≤ 0x7FFFFFFF
+pub counter-small : (g : Geometry) (image : List ℕ) (i : ℕ) (h : EcHeader) → ecs (viewsOf g image) i ≡ some h → h.counter ≤ 0x7FFFFFFF
 unfolding viewOf
 counter-small g image i h e = go (allFF (take 64 (pebAt g image i))) (readEc (take 64 (pebAt g image i))) refl e
   where
-    go : (t : Bool) (v : Verdict EcHeader) → readEc (take 64 (pebAt g image i)) ≡ v → goodEc (cond t ecBlank (ecOf v)) ≡ some h → h .counter ≤ 0x7FFFFFFF
+    go : (t : Bool) (v : Verdict EcHeader) → readEc (take 64 (pebAt g image i)) ≡ v → goodEc (cond t ecBlank (ecOf v)) ≡ some h → h.counter ≤ 0x7FFFFFFF
     go true v q e = absurd (let z : _≡_ {A = ℕ} 0 1 = cc in omega arith)
     go false bad q e = absurd (let z : _≡_ {A = ℕ} 0 1 = cc in omega arith)
     go false newer q e = absurd (let z : _≡_ {A = ℕ} 0 1 = cc in omega arith)
@@ -92,7 +92,7 @@ lost-word g n image i l e = go (ecs (viewsOf g image) i) refl e
 pub late-refusal : {g : Geometry} {n : ℕ} {image : List ℕ} {s : ScanTotals} {t : Tables} → Past10 g n image s t
     → refusal (mediumOf g n image) ≡ tableRefusal (mediumOf g n image)
 unfolding refusal
-late-refusal p = rw (p .no5678, p .no9, p .no10)
+late-refusal p = rw (p.no5678, p.no9, p.no10)
 
 -- ---- the lent tables after an end
 
@@ -101,31 +101,31 @@ unfolding stateWords
 state-words-long m = table-length (stateAt m) 0 128
 
 module _ (m : Medium) where
-  map-words-long : 2 ≤ m .count → refusal m ≡ none → length (mapWords (m .count) (entries m)) ≡ mapWordsNeeded (m .count)
+  map-words-long : 2 ≤ m.count → refusal m ≡ none → length (mapWords m.count (entries m)) ≡ mapWordsNeeded m.count
   unfolding mapWords
   map-words-long h e =
-      let rest = mapWordsNeeded (m .count) - length (entryWords (entries m)) in
+      let rest = mapWordsNeeded m.count - length (entryWords (entries m)) in
       length-append (entryWords (entries m)) (replicate rest noWord)
       ∙ omega (arith, entries-fit m e h, entry-words-length (entries m), length-replicate rest noWord)
 
   -- they depend on the words beyond those needed alone
-  tables-from : {t t₁ : Tables} → 2 ≤ m .count → SameBeyond (m .count) t t₁
+  tables-from : {t t₁ : Tables} → 2 ≤ m.count → SameBeyond m.count t t₁
       → tablesAfter (byRefusal m (refusal m)) t₁ ≡ tablesAfter (byRefusal m (refusal m)) t
   tables-from {t} {t₁} h s =
       by-option (refusal m)
-      (λ q. rw q (lent-same (over-same (pebWords m) _ _ _ (peb-words-length m) (s .pebs-tail))
-      (over-same (mapWords (m .count) (entries m)) _ _ _ (map-words-long h q) (s .map-tail))
-      (over-same (stateWords m) _ _ _ (state-words-long m) (s .states-tail))))
-      (λ r q. rw q (lent-same (over-same (replicate (pebWordsNeeded (m .count)) noWord) _ _ _ (length-replicate (pebWordsNeeded (m .count)) noWord) (s .pebs-tail))
-      (over-same (replicate (mapWordsNeeded (m .count)) noWord) _ _ _ (length-replicate (mapWordsNeeded (m .count)) noWord) (s .map-tail))
-      (over-same (replicate stateWordsNeeded noWord) (t₁ .states) (t .states) stateWordsNeeded (length-replicate stateWordsNeeded noWord) (s .states-tail))))
+      (λ q. rw q (lent-same (over-same (pebWords m) _ _ _ (peb-words-length m) s.pebs-tail)
+      (over-same (mapWords m.count (entries m)) _ _ _ (map-words-long h q) s.map-tail)
+      (over-same (stateWords m) _ _ _ (state-words-long m) s.states-tail)))
+      (λ r q. rw q (lent-same (over-same (replicate (pebWordsNeeded m.count) noWord) _ _ _ (length-replicate (pebWordsNeeded m.count) noWord) s.pebs-tail)
+      (over-same (replicate (mapWordsNeeded m.count) noWord) _ _ _ (length-replicate (mapWordsNeeded m.count) noWord) s.map-tail)
+      (over-same (replicate stateWordsNeeded noWord) t₁.states t.states stateWordsNeeded (length-replicate stateWordsNeeded noWord) s.states-tail)))
 
   -- what ends so from later words ends so from earlier ones
-  pub ended-from : {t t₁ t′ : Tables} {r : Attached} → 2 ≤ m .count → SameBeyond (m .count) t t₁
+  pub ended-from : {t t₁ t′ : Tables} {r : Attached} → 2 ≤ m.count → SameBeyond m.count t t₁
       → Ended (byRefusal m (refusal m)) r t₁ t′ → Ended (byRefusal m (refusal m)) r t t′
-  ended-from h s o = record { answer = o .answer; tables-are = o .tables-are ∙ tables-from h s }
+  ended-from h s o = record { answer = o.answer; tables-are = o.tables-are ∙ tables-from h s }
 
   -- a refusal 5 to 12
   pub ended-refused : {t t′ : Tables} {r : Attached} {x : Refusal} → refusal m ≡ some x
-      → Ended (late (m .count) x) r t t′ → Ended (byRefusal m (refusal m)) r t t′
+      → Ended (late m.count x) r t t′ → Ended (byRefusal m (refusal m)) r t t′
   ended-refused q o = rw q o

@@ -74,7 +74,7 @@ pub any-hit : (n : ℕ) (p : ℕ → Bool) → anyBelow n p ≡ true → (i : �
 any-hit zero p e = clash refl e
 any-hit (suc n) p e =
     ⊎-elim
-    (λ q. let r = any-hit n p q in (r .0, omega (arith, r .1), r .2))
+    (λ q. let r = any-hit n p q in (r.0, omega (arith, r.1), r.2))
     (λ q. (n, omega arith, q))
     (or-true-cases (anyBelow n p) (p n) e)
 
@@ -95,7 +95,7 @@ module _ {A : Type 0} where
   first-none-at zero f e i h = absurd (omega arith)
   first-none-at (suc n) f e i h =
       let b : (firstBelow n f ≡ none) × (numbered n (f n) ≡ none) = orElse-none (firstBelow n f) (numbered n (f n)) e in
-      step-below (λ i. f i ≡ none) n (first-none-at n f (b .0)) (un-numbered n (f n) (b .1)) i h
+      step-below (λ i. f i ≡ none) n (first-none-at n f b.0) (un-numbered n (f n) b.1) i h
 
   pub first-none : (n : ℕ) (f : ℕ → Option A) → ((i : ℕ) → i < n → f i ≡ none) → firstBelow n f ≡ none
   first-none zero f h = refl
@@ -119,14 +119,14 @@ module _ {A : Type 0} where
   numbered-some n none i a e = (cc, cc)
   numbered-some n (some b) i a e =
       let p : _≡_ {A = ℕ × A} (n, b) (i, a) = cc in
-      (ap (λ x. x .0) p, ap (λ x. some (x .1)) p)
+      (ap (λ x. x.0) p, ap (λ x. some x.1) p)
 
   pub first-hit : (n : ℕ) (f : ℕ → Option A) (i : ℕ) (a : A) → firstBelow n f ≡ some (i, a) → (i < n) × (f i ≡ some a)
   first-hit zero f i a e = absurd (let z : _≡_ {A = ℕ} 0 1 = cc in omega arith)
   first-hit (suc n) f i a e =
       ⊎-elim
-      (λ p. let h = first-hit n f i a p in (omega (arith, h .0), h .1))
-      (λ p. let q = numbered-some n (f n) i a p in (omega (arith, q .0), rw (← (q .0)) (q .1)))
+      (λ p. let h = first-hit n f i a p in (omega (arith, h.0), h.1))
+      (λ p. let q = numbered-some n (f n) i a p in (omega (arith, q.0), rw (← q.0) q.1))
       (orElse-some (firstBelow n f) (numbered n (f n)) (i, a) e)
 
   -- what is found stays found

@@ -72,7 +72,7 @@ module _ {A : Type 0} (d : A) where
   mem-getD (y ∷ l) x m =
       ⊎-elim
       (λ (q : x ≡ y). (0, omega arith, sym q))
-      (λ (q : List·Memᴰ x l). let r = mem-getD l x q in (suc (r .0), omega (arith, r .1), r .2))
+      (λ (q : List·Memᴰ x l). let r = mem-getD l x q in (suc r.0, omega (arith, r.1), r.2))
       (List·Memᴰ·cases-cons m)
 
 -- ---- bytes
@@ -96,7 +96,7 @@ EachByte (x ∷ xs) = (x < 256) × EachByte xs
 
 pub each-append : (a b : List ℕ) → EachByte a → EachByte b → EachByte (a ++ b)
 each-append [] b p q = q
-each-append (x ∷ a) b p q = (p .0, each-append a b (p .1) q)
+each-append (x ∷ a) b p q = (p.0, each-append a b p.1 q)
 
 pub each-zero : (n : ℕ) → EachByte (replicate n 0)
 each-zero zero = tt
@@ -104,8 +104,8 @@ each-zero (suc n) = (lit< tt, each-zero n)
 
 pub bytes-each : (l : List ℕ) → EachByte l → Bytes l
 bytes-each [] e k = lit< tt
-bytes-each (x ∷ l) e zero = e .0
-bytes-each (x ∷ l) e (suc k) = bytes-each l (e .1) k
+bytes-each (x ∷ l) e zero = e.0
+bytes-each (x ∷ l) e (suc k) = bytes-each l e.1 k
 
 -- ---- comparison
 

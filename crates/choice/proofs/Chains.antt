@@ -37,7 +37,7 @@ module _ (map : List ℕ) (i k : ℕ) (h : Holds map i) where
   pub same-bucket : sameLeb map i k ≡ true → bucketAt map k ≡ bucketAt map i
   same-bucket s =
       let e = same-true map i k s in
-      in-bucket map k (λ (z : volumeWord map k ≡ noWord). h (e .0 ∙ z)) ∙ ap₂ bucketOf (sym (e .0)) (sym (e .1))
+      in-bucket map k (λ (z : volumeWord map k ≡ noWord). h (e.0 ∙ z)) ∙ ap₂ bucketOf (sym e.0) (sym e.1)
       ∙ sym (in-bucket map i h)
 
   bucket-holds : bucketAt map k ≡ bucketAt map i → Holds map k
@@ -55,15 +55,15 @@ along-from o i h = record { range = omega arith; near = o i h }
 
 pub head-near : {n w : ℕ} {map heads : List ℕ} → Chained n n map heads → (i : ℕ) → (Holds map i)
     → w ≡ getD heads (bucketAt map i) 0 → Nearest map (bucketAt map i) n w
-head-near {n} {w} {map} o i h e = rw e (o .tops (bucketAt map i) (bucket-small map i h))
+head-near {n} {w} {map} o i h e = rw e (o.tops (bucketAt map i) (bucket-small map i h))
 
 module _ {map : List ℕ} {i m at w : ℕ} (o : Along map i m at w) where
   pub along-next : {n : ℕ} → Linked n map → m ≤ n → w < at → Along map i m w (pebWord map w)
   along-next l k h =
-      let r = o .range in
+      let r = o.range in
       record {
         range = omega arith;
-        near = λ c. let e = o .near c .is h in rw e at (l w (omega arith) (bucket-holds map i w c e));
+        near = λ c. let e = o.near c .is h in rw e at (l w (omega arith) (bucket-holds map i w c e));
       }
 
   -- what holds of the PEBs behind, and of all outside the bucket
@@ -74,14 +74,14 @@ module _ {map : List ℕ} {i m at w : ℕ} (o : Along map i m at w) where
     walk-on p x h k =
         ⊎-elim (λ (q : x ≡ w). rw q p)
         (λ (q : x ≢ w). ⊎-elim
-        (λ (l : x < at). outside x k (λ c y. q (let z = o .near c .skips x l y in omega arith)))
+        (λ (l : x < at). outside x k (λ c y. q (let z = o.near c .skips x l y in omega arith)))
         (λ (l : at ≤ x). behind x l k) (lt-or-le x at))
         (eq-or-ne x w)
 
     -- holds of all, if the chain ends
     pub walk-end : at ≤ w → (x : ℕ) → x < m → P x
     walk-end h x k =
-        ⊎-elim (λ (l : x < at). outside x k (λ c y. let z = o .near c .skips x l y in absurd (omega arith)))
+        ⊎-elim (λ (l : x < at). outside x k (λ c y. let z = o.near c .skips x l y in absurd (omega arith)))
         (λ (l : at ≤ x). behind x l k) (lt-or-le x at)
 
 -- PEBs of other buckets have other LEBs, and no repeats
@@ -93,28 +93,28 @@ module _ (map : List ℕ) (i x : ℕ) (f : Holds map i → bucketAt map x ≡ bu
       → repeats (copies (viewsOf g image) i) (copies (viewsOf g image) x) ≡ false
   other-copy {g} {image} d h k =
       not-so (repeats (copies (viewsOf g image) i) (copies (viewsOf g image) x))
-      (λ e. let w = repeat-words d i x h k e in f (w .0) (same-bucket map i x (w .0) (w .1)))
+      (λ e. let w = repeat-words d i x h k e in f w.0 (same-bucket map i x w.0 w.1))
 
 -- ---- links are stored
 
 module _ {n : ℕ} {map map′ : List ℕ} (o : Relinked n map map′) where
   same-buckets : (i : ℕ) → bucketAt map′ i ≡ bucketAt map i
   unfolding bucketAt
-  same-buckets i = rw (o .volumes i, o .lnums i)
+  same-buckets i = rw (o.volumes i, o.lnums i)
 
   nearest-same : {b m w : ℕ} → Nearest map b m w → Nearest map′ b m w
   nearest-same {b} {m} {w} t = record {
     is = λ h. same-buckets w ∙ t .is h;
-    none = t .none;
-    skips = λ k h e. t .skips k h (sym (same-buckets k) ∙ e);
+    none = t.none;
+    skips = λ k h e. t.skips k h (sym (same-buckets k) ∙ e);
   }
 
   relinked-on : {map″ : List ℕ} → Relinked n map′ map″ → Relinked n map map″
   relinked-on p = record {
-    size = p .size ∙ o .size;
-    volumes = λ i. p .volumes i ∙ o .volumes i;
-    lnums = λ i. p .lnums i ∙ o .lnums i;
-    tail = p .tail ∙ o .tail;
+    size = p.size ∙ o .size;
+    volumes = λ i. p.volumes i ∙ o .volumes i;
+    lnums = λ i. p.lnums i ∙ o .lnums i;
+    tail = p.tail ∙ o .tail;
   }
 
 pub relinked-none : (n : ℕ) (map : List ℕ) → Relinked n map map
@@ -132,13 +132,13 @@ relinked-one n i v map h = record {
 nearest-past : {map : List ℕ} {b m w : ℕ} → m < noWord → (bucketAt map m ≡ b → ⊥) → Nearest map b m w
     → Nearest map b (m + 1) w
 nearest-past {map} {b} {m} {w} l h t = record {
-  is = λ k. t .is (below k);
-  none = λ k. t .none (omega arith);
-  skips = λ k q e. let z = t .skips k (within k q e) e in (omega arith, z .1);
+  is = λ k. t.is (below k);
+  none = λ k. t.none (omega arith);
+  skips = λ k q e. let z = t.skips k (within k q e) e in (omega arith, z.1);
 }
   where
     below : w < m + 1 → w < m
-    below k = ⊎-elim (λ (h : w < m). h) (λ (h : m ≤ w). absurd (let z = t .none h in omega arith)) (lt-or-le w m)
+    below k = ⊎-elim (λ (h : w < m). h) (λ (h : m ≤ w). absurd (let z = t.none h in omega arith)) (lt-or-le w m)
 
     within : (k : ℕ) → k < m + 1 → bucketAt map k ≡ b → k < m
     within k q e = let z : k ≢ m = λ (y : k ≡ m). h (rw y at e) in omega (arith, z)
@@ -156,13 +156,13 @@ module _ {n i : ℕ} {map heads : List ℕ} (h : i < n) (o : Chained n i map hea
   pub chain-other : volumeWord map i ≡ noWord → Chains n (i + 1) map map heads heads
   chain-other e = record {
     chained = record {
-      few = o .few;
-      long-map = o .long-map;
-      long-heads = o .long-heads;
-      links = one-more (Link map) i (o .links) (λ z. absurd (z e));
+      few = o.few;
+      long-map = o.long-map;
+      long-heads = o.long-heads;
+      links = one-more (Link map) i o.links (λ z. absurd (z e));
       tops =
-          λ b l. nearest-past (let f = o .few in omega arith)
-          (λ (z : bucketAt map i ≡ b). let y = no-bucket map i e in omega arith) (o .tops b l);
+          λ b l. nearest-past (let f = o.few in omega arith)
+          (λ (z : bucketAt map i ≡ b). let y = no-bucket map i e in omega arith) (o.tops b l);
     };
     relinked = relinked-none n map;
     heads-size = refl;
@@ -187,36 +187,36 @@ module _ {n i : ℕ} {map heads : List ℕ} (h : i < n) (o : Chained n i map hea
     linked : Linked i map₁
     linked k l z =
         rw (same-buckets r₁ k, peb-set-other map i (getD heads b₀ 0) k (λ e. omega arith))
-        (nearest-same r₁ (o .links k l (λ (y : volumeWord map k ≡ noWord). z (r₁ .volumes k ∙ y))))
+        (nearest-same r₁ (o.links k l (λ (y : volumeWord map k ≡ noWord). z (r₁.volumes k ∙ y))))
 
     linked-one : Nearest map₁ (bucketAt map₁ i) i (pebWord map₁ i)
     linked-one =
         rw (
           same-buckets r₁ i,
           in-bucket map i c,
-          peb-set-same map i (getD heads b₀ 0) (let l = o .long-map in omega arith),
+          peb-set-same map i (getD heads b₀ 0) (let l = o.long-map in omega arith),
         )
-        (nearest-same r₁ (o .tops b₀ b-small))
+        (nearest-same r₁ (o.tops b₀ b-small))
 
     topped : (b : ℕ) → b < buckets → (b ≡ b₀) ⊎ (b ≢ b₀) → Nearest map b (i + 1) (getD heads₁ b 0)
     topped b l (inl e) =
         rw (
           e,
-          getD-set-same heads b₀ i 0 (let y = o .long-heads in let x = b-small in omega arith),
+          getD-set-same heads b₀ i 0 (let y = o.long-heads in let x = b-small in omega arith),
           ← (in-bucket map i c),
         ) (nearest-self map i)
     topped b l (inr e) =
         rw (getD-set-other heads b₀ b i 0 e)
-        (nearest-past (let f = o .few in omega arith) (λ (z : bucketAt map i ≡ b). e (sym z ∙ in-bucket map i c))
-        (o .tops b l))
+        (nearest-past (let f = o.few in omega arith) (λ (z : bucketAt map i ≡ b). e (sym z ∙ in-bucket map i c))
+        (o.tops b l))
 
     -- a PEB with a LEB becomes its bucket's head
     pub chain-copy : Chains n (i + 1) map map₁ heads heads₁
     chain-copy = record {
       chained = record {
-        few = o .few;
-        long-map = let l = o .long-map in let e = r₁ .size in omega arith;
-        long-heads = let l = o .long-heads in let e = length-set heads b₀ i in omega arith;
+        few = o.few;
+        long-map = let l = o.long-map in let e = r₁.size in omega arith;
+        long-heads = let l = o.long-heads in let e = length-set heads b₀ i in omega arith;
         links = one-more (Link map₁) i linked (λ z. linked-one);
         tops = λ b l. nearest-same r₁ (topped b l (eq-or-ne b b₀));
       };
@@ -227,9 +227,9 @@ module _ {n i : ℕ} {map heads : List ℕ} (h : i < n) (o : Chained n i map hea
 pub chains-on : {n m k : ℕ} {map map′ map″ heads heads′ heads″ : List ℕ} → Chains n m map map′ heads heads′
     → Chains n k map′ map″ heads′ heads″ → Chains n k map map″ heads heads″
 chains-on o p = record {
-  chained = p .chained;
-  relinked = relinked-on (o .relinked) (p .relinked);
-  heads-size = p .heads-size ∙ o .heads-size;
+  chained = p.chained;
+  relinked = relinked-on o.relinked p.relinked;
+  heads-size = p.heads-size ∙ o .heads-size;
 }
 
 -- ---- no heads before copies are linked

@@ -26,12 +26,12 @@ use Rattle.choice.proofs.Chains.{Along, same-bucket, walk-on, walk-end}
 -- ---- a copy that beats all others is picked
 
 -- the first beats the second: no sound one is higher, and the first is sound or lower
-beats-by : (c d : Copy) → (c .header .sequence < d .header .sequence → sound d ≡ false)
-    → (d .header .sequence ≡ c .header .sequence → ⊥)
-    → (sound c ≡ true) ⊎ (c .header .sequence ≤ d .header .sequence) → beats (some c) d ≡ true
+beats-by : (c d : Copy) → (c.header.sequence < d.header.sequence → sound d ≡ false)
+    → (d.header.sequence ≡ c.header.sequence → ⊥)
+    → (sound c ≡ true) ⊎ (c.header.sequence ≤ d.header.sequence) → beats (some c) d ≡ true
 beats-by c d up ne low =
-    let x = c .header .sequence in
-    let y = d .header .sequence in
+    let x = c.header.sequence in
+    let y = d.header.sequence in
     by-test (sound d)
     (λ q. ⊎-elim (λ (l : x < y). clash (up l) q)
     (λ (l : y ≤ x). by-test (sound c)
@@ -79,24 +79,24 @@ module _ {g : Geometry} {image : List ℕ} {n : ℕ} {map : List ℕ} {i most : 
     pub highest-all : at ≤ k → Highest g image n map i most 0 best
     highest-all h =
         record {
-          range = b .range;
-          is = b .is;
-          leads = λ j _ l. walk-end o (Leads best) (b .leads) (apart-leads best) h j l;
+          range = b.range;
+          is = b.is;
+          leads = λ j _ l. walk-end o (Leads best) b.leads (apart-leads best) h j l;
         }
 
     module _ (h : k < at) where
       stays : Leads best k → Highest g image n map i most k best
-      stays l = record { range = b .range; is = b .is; leads = walk-on o (Leads best) (b .leads) (apart-leads best) l }
+      stays l = record { range = b.range; is = b.is; leads = walk-on o (Leads best) b.leads (apart-leads best) l }
 
       takes : sameLeb map i k ≡ true → sequenceAt g image k ≤ most
           → (best < n → sequenceAt g image best ≤ sequenceAt g image k) → Highest g image n map i most k k
       takes s l up =
-          let q : k < n = let r = o .range in omega arith in
+          let q : k < n = let r = o.range in omega arith in
           record {
             range = omega arith;
             is = λ _. (s, l);
             leads =
-                walk-on o (Leads k) (λ j p r t m. let y = b .leads j p r t m in (q, let z = up (y .0) in omega arith))
+                walk-on o (Leads k) (λ j p r t m. let y = b.leads j p r t m in (q, let z = up y.0 in omega arith))
                 (apart-leads k) (λ _ _. (q, omega arith));
           }
 
@@ -111,7 +111,7 @@ module _ {g : Geometry} {image : List ℕ} {n : ℕ} {map : List ℕ} {i most : 
           (λ u. rw (p, q, u) (takes p (leb-true sk most q) (λ z. absurd (let y = eqb-true best n u in omega arith))))
           (λ u. by-test (ltb sb sk)
           (λ w. rw (p, q, u, w) (takes p (leb-true sk most q) (λ z. let y = ltb-true sb sk w in omega arith)))
-          (λ w. let y = b .range in let z = eqb-false best n u in
+          (λ w. let y = b.range in let z = eqb-false best n u in
           rw (p, q, u, w) (stays (λ _ _. (omega (arith, z), ltb-false sb sk w))))))
           (λ q. rw (p, q) (stays (λ _ m. absurd (let z = leb-false sk most q in omega arith)))))
           (λ p. rw p (stays (λ s _. clash p s)))
@@ -130,7 +130,7 @@ module _ {g : Geometry} {image : List ℕ} {n : ℕ} {map : List ℕ} {i : ℕ} 
   of-leb j = ofKey (volumeWord map i) (lnumWord map i) (copies (viewsOf g image) j)
 
   same-held : (j : ℕ) → j < n → sameLeb map i j ≡ true → Held g image map j
-  same-held j k s = held (v .keyed) j k (λ (y : volumeWord map j ≡ noWord). v .holds (same-true map i j s .0 ∙ y))
+  same-held j k s = held v.keyed j k (λ (y : volumeWord map j ≡ noWord). v.holds (same-true map i j s .0 ∙ y))
 
   pub has-copy : (j : ℕ) → j < n → sameLeb map i j ≡ true → copies (viewsOf g image) j ≡ some (copyAt g image j)
   has-copy j k s = same-held j k s .is
@@ -139,15 +139,15 @@ module _ {g : Geometry} {image : List ℕ} {n : ℕ} {map : List ℕ} {i : ℕ} 
   hit j k s =
       let a = same-held j k s in
       let e = same-true map i j s in
-      rw (a .is) (ofKey-hit (volumeWord map i) (lnumWord map i) (copyAt g image j) (a .volume ∙ sym (e .0))
-      (a .leb ∙ sym (e .1)))
+      rw a.is (ofKey-hit (volumeWord map i) (lnumWord map i) (copyAt g image j) (a.volume ∙ sym e.0)
+      (a.leb ∙ sym e.1))
 
   is-same : (j : ℕ) → j < n → (c : Copy) → of-leb j ≡ some c → (sameLeb map i j ≡ true) × (c ≡ copyAt g image j)
   is-same j k c e =
       let o = ofKey-some (volumeWord map i) (lnumWord map i) (copies (viewsOf g image) j) c e in
-      let a = held (v .keyed) i (v .below) (v .holds) in
-      let w = has-words (v .keyed) j k c (o .0) (rw (a .volume, ← (o .1)) at (a .mappable)) in
-      (true-same map i j (sym (o .1) ∙ sym (w .0)) (sym (o .2) ∙ sym (w .1)), copy-is g image j c (o .0))
+      let a = held v.keyed i v.below v.holds in
+      let w = has-words v.keyed j k c o.0 (rw (a.volume, ← o.1) at a.mappable) in
+      (true-same map i j (sym o.1 ∙ sym w.0) (sym o.2 ∙ sym w.1), copy-is g image j c o.0)
 
   -- no two copies share a sequence
   apart : (j k : ℕ) → j < n → k < j → sameLeb map i j ≡ true → sameLeb map i k ≡ true
@@ -156,9 +156,9 @@ module _ {g : Geometry} {image : List ℕ} {n : ℕ} {map : List ℕ} {i : ℕ} 
       let a = same-true map i j s in
       let b = same-true map i k t in
       eqb-false (sequenceAt g image j) (sequenceAt g image k)
-      (sym (repeat-sequence (v .keyed) j k p (omega arith) (λ (y : volumeWord map j ≡ noWord). v .holds (a .0 ∙ y))
-      (true-same map j k (sym (a .0) ∙ b .0) (sym (a .1) ∙ b .1)))
-      ∙ none9-at n (copies (viewsOf g image)) (v .no-repeat) j k p q)
+      (sym (repeat-sequence v.keyed j k p (omega arith) (λ (y : volumeWord map j ≡ noWord). v.holds (a.0 ∙ y))
+      (true-same map j k (sym a.0 ∙ b .0) (sym a.1 ∙ b .1)))
+      ∙ none9-at n (copies (viewsOf g image)) v.no-repeat j k p q)
 
   distinct : (j k : ℕ) → j < n → k < n → j ≢ k → sameLeb map i j ≡ true → sameLeb map i k ≡ true
       → sequenceAt g image j ≡ sequenceAt g image k → ⊥
@@ -172,22 +172,22 @@ module _ {g : Geometry} {image : List ℕ} {n : ℕ} {map : List ℕ} {i : ℕ} 
       → chosen n (copies (viewsOf g image)) (volumeWord map i) (lnumWord map i) ≡ some (at, copyAt g image at)
   unfolding chosen copyOf
   is-chosen {at} w low =
-      pick-best n of-leb at (copyAt g image at) (w .below) (hit at (w .below) (w .same))
+      pick-best n of-leb at (copyAt g image at) w.below (hit at w.below w.same)
       (λ j k ne c e. let m = is-same j k c e in
-      rw (m .1)
-      (beats-by (copyAt g image at) (copyAt g image j) (w .above j k (m .0))
-      (distinct j at k (w .below) ne (m .0) (w .same))
-      (⊎-elim (λ s. inl s) (λ l. inr (l j k (m .0))) low)))
+      rw m.1
+      (beats-by (copyAt g image at) (copyAt g image j) (w.above j k m.0)
+      (distinct j at k w.below ne m.0 w.same)
+      (⊎-elim (λ s. inl s) (λ l. inr (l j k m.0)) low)))
 
   -- the first copy met is the highest
   pub highest-met : {most at : ℕ} → Highest g image n map i most 0 at → ((j : ℕ) → j < n → sequenceAt g image j ≤ most)
       → NoneAbove g image n map i at
   highest-met t fits =
-      let y = t .leads i (omega arith) (v .below) (true-same map i i refl refl) (fits i (v .below)) in
+      let y = t.leads i (omega arith) v.below (true-same map i i refl refl) (fits i v.below) in
       record {
-        below = y .0;
-        same = t .is (y .0) .0;
-        above = λ k l s o. absurd (let x = t .leads k (omega arith) l s (fits k l) in omega arith);
+        below = y.0;
+        same = t.is y.0 .0;
+        above = λ k l s o. absurd (let x = t.leads k (omega arith) l s (fits k l) in omega arith);
       }
 
   -- and then the next lower one
@@ -195,20 +195,20 @@ module _ {g : Geometry} {image : List ℕ} {n : ℕ} {map : List ℕ} {i : ℕ} 
       → sound (copyAt g image at) ≡ false
       → Highest g image n map i (s - 1) 0 next → (next ≡ n → ⊥) → NoneAbove g image n map i next
   next-met {at} {next} {s} w e p u t q =
-      let l : next < n = let y = t .range in omega (arith, q) in
+      let l : next < n = let y = t.range in omega (arith, q) in
       record {
         below = l;
-        same = t .is l .0;
+        same = t.is l .0;
         above =
-            λ k o m x. ⊎-elim (λ (y : k ≡ at). rw y u) (λ (ne : k ≢ at). w .above k o m (over k o m x ne))
+            λ k o m x. ⊎-elim (λ (y : k ≡ at). rw y u) (λ (ne : k ≢ at). w.above k o m (over k o m x ne))
             (eq-or-ne k at);
       }
     where
       over : (k : ℕ) → k < n → sameLeb map i k ≡ true → sequenceAt g image next < sequenceAt g image k → k ≢ at
           → sequenceAt g image at < sequenceAt g image k
       over k o m x ne =
-          ⊎-elim (λ (y : s - 1 < sequenceAt g image k). omega (arith, distinct k at o (w .below) ne m (w .same), p))
-          (λ (y : sequenceAt g image k ≤ s - 1). absurd (let z = t .leads k (omega arith) o m y in omega arith))
+          ⊎-elim (λ (y : s - 1 < sequenceAt g image k). omega (arith, distinct k at o w.below ne m w.same, p))
+          (λ (y : sequenceAt g image k ≤ s - 1). absurd (let z = t.leads k (omega arith) o m y in omega arith))
           (lt-or-le (s - 1) (sequenceAt g image k))
 
   -- a copy with no next lower one is the lowest
@@ -216,5 +216,5 @@ module _ {g : Geometry} {image : List ℕ} {n : ℕ} {map : List ℕ} {i : ℕ} 
       → next ≡ n → (k : ℕ) → k < n → sameLeb map i k ≡ true → sequenceAt g image at ≤ sequenceAt g image k
   lowest at {next} {s} e p t q k l m =
       ⊎-elim (λ (y : s - 1 < sequenceAt g image k). omega (arith, p))
-      (λ (y : sequenceAt g image k ≤ s - 1). absurd (let x = t .leads k (omega arith) l m y in omega arith))
+      (λ (y : sequenceAt g image k ≤ s - 1). absurd (let x = t.leads k (omega arith) l m y in omega arith))
       (lt-or-le (s - 1) (sequenceAt g image k))

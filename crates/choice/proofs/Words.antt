@@ -29,7 +29,7 @@ mappable-word v m e = false≢true (rw e at m)
 record Named (o : Option Copy) (v l : ℕ) : Type 0 where
   pub copy : Copy
   pub is : o ≡ some copy
-  pub mappable : isMappable (copy .header .volume) ≡ true
+  pub mappable : isMappable copy.header.volume ≡ true
   pub volume : copy .header .volume ≡ v
   pub leb : copy .header .lnum ≡ l
 
@@ -39,13 +39,13 @@ named i vidNewer n = absurd (n refl)
 named i vidBlank n = absurd (n refl)
 named i vidBad n = absurd (n refl)
 named i (vidGood c) n =
-    by-test (isMappable (c .header .volume))
+    by-test (isMappable c.header.volume)
     (λ e. record { copy = c; is = refl; mappable = e; volume = rw e; leb = rw e })
     (λ e. absurd (n (rw e)))
 
 -- and such a copy has its words there
-words-of : (i : ℕ) (x : VidView) (c : Copy) → goodVid x ≡ some c → isMappable (c .header .volume) ≡ true
-    → (getD (keyWords i x) 0 0 ≡ c .header .volume) × (getD (keyWords i x) 1 0 ≡ c .header .lnum)
+words-of : (i : ℕ) (x : VidView) (c : Copy) → goodVid x ≡ some c → isMappable c.header.volume ≡ true
+    → (getD (keyWords i x) 0 0 ≡ c.header.volume) × (getD (keyWords i x) 1 0 ≡ c.header.lnum)
 words-of i vidNewer c e m = none-some e
 words-of i vidBlank c e m = none-some e
 words-of i vidBad c e m = none-some e
@@ -63,27 +63,27 @@ pub record Held (g : Geometry) (image map : List ℕ) (i : ℕ) : Type 0 where
 module _ {g : Geometry} {image : List ℕ} {n : ℕ} {map : List ℕ} (d : Keyed g image n map) (i : ℕ) (h : i < n) where
   pub within : Within g image map i
   within = record {
-    placed = d .placed;
-    bytes = omega (arith, d .whole, mul-le-mul-right (g .«peb_size») h);
-    words = omega (arith, d .long);
+    placed = d.placed;
+    bytes = omega (arith, d.whole, mul-le-mul-right g.«peb_size» h);
+    words = omega (arith, d.long);
   }
 
   pub held : Holds map i → Held g image map i
   held n =
       let w = named i (viewsOf g image i .vid)
-      (λ (e : getD (keyWords i (viewsOf g image i .vid)) 0 0 ≡ noWord). n (d .volumes i h ∙ e)) in
-      let e : w .copy ≡ copyAt g image i = copy-is g image i (w .copy) (w .is) in
+      (λ (e : getD (keyWords i (viewsOf g image i .vid)) 0 0 ≡ noWord). n (d.volumes i h ∙ e)) in
+      let e : w .copy ≡ copyAt g image i = copy-is g image i w.copy w.is in
       record {
-        is = w .is ∙ ap some e;
-        mappable = rw e at (w .mappable);
-        volume = rw e at (w .volume) ∙ sym (d .volumes i h);
-        leb = rw e at (w .leb) ∙ sym (d .lnums i h);
+        is = w.is ∙ ap some e;
+        mappable = rw e at w.mappable;
+        volume = rw e at w.volume ∙ sym (d.volumes i h);
+        leb = rw e at w.leb ∙ sym (d.lnums i h);
       }
 
   -- the words of a copy of a user or layout LEB
-  pub has-words : (c : Copy) → copies (viewsOf g image) i ≡ some c → isMappable (c .header .volume) ≡ true
-      → (volumeWord map i ≡ c .header .volume) × (lnumWord map i ≡ c .header .lnum)
-  has-words c e m = let w = words-of i (viewsOf g image i .vid) c e m in (d .volumes i h ∙ w .0, d .lnums i h ∙ w .1)
+  pub has-words : (c : Copy) → copies (viewsOf g image) i ≡ some c → isMappable c.header.volume ≡ true
+      → (volumeWord map i ≡ c.header.volume) × (lnumWord map i ≡ c.header.lnum)
+  has-words c e m = let w = words-of i (viewsOf g image i .vid) c e m in (d.volumes i h ∙ w .0, d.lnums i h ∙ w .1)
 
 -- ---- repeats
 
@@ -109,19 +109,19 @@ module _ {g : Geometry} {image : List ℕ} {n : ℕ} {map : List ℕ} (d : Keyed
   repeat-words e =
       by-option (cs i) (λ p. absurd (false≢true (rw p at e)))
       (λ c p. by-option (cs j) (λ q. absurd (false≢true (rw (p, q) at e)))
-      (λ x q. let t = eqb (c .header .sequence) (x .header .sequence) in
-      let l = eqb (c .header .lnum) (x .header .lnum) in
-      let v = eqb (c .header .volume) (x .header .volume) in
-      let m = isMappable (c .header .volume) in
+      (λ x q. let t = eqb c.header.sequence x.header.sequence in
+      let l = eqb c.header.lnum x.header.lnum in
+      let v = eqb c.header.volume x.header.volume in
+      let m = isMappable c.header.volume in
       let f : m && (v && (l && t)) ≡ true = rw (p, q) at e in
       let r = and-right m (v && (l && t)) f in
       let mc = and-left m (v && (l && t)) f in
-      let ev = eqb-true (c .header .volume) (x .header .volume) (and-left v (l && t) r) in
-      let el = eqb-true (c .header .lnum) (x .header .lnum) (and-left l t (and-right v (l && t) r)) in
+      let ev = eqb-true c.header.volume x.header.volume (and-left v (l && t) r) in
+      let el = eqb-true c.header.lnum x.header.lnum (and-left l t (and-right v (l && t) r)) in
       let a = has-words d i h c p mc in
       let b = has-words d j k x q (rw ev at mc) in (
-        λ (z : volumeWord map i ≡ noWord). mappable-word (c .header .volume) mc (sym (a .0) ∙ z),
-        true-same map i j (a .0 ∙ ev ∙ sym (b .0)) (a .1 ∙ el ∙ sym (b .1)),
+        λ (z : volumeWord map i ≡ noWord). mappable-word c.header.volume mc (sym a.0 ∙ z),
+        true-same map i j (a.0 ∙ ev ∙ sym b.0) (a.1 ∙ el ∙ sym b.1),
       )))
 
   pub repeat-sequence : Holds map i → sameLeb map i j ≡ true
@@ -130,14 +130,14 @@ module _ {g : Geometry} {image : List ℕ} {n : ℕ} {map : List ℕ} (d : Keyed
   repeat-sequence z s =
       let e = same-true map i j s in
       let a = held d i h z in
-      let b = held d j k (λ (y : volumeWord map j ≡ noWord). z (e .0 ∙ y)) in
+      let b = held d j k (λ (y : volumeWord map j ≡ noWord). z (e.0 ∙ y)) in
       rw (
         a .is,
         b .is,
         a .mappable,
         eq-eqb (copyAt g image i .header .volume) (copyAt g image j .header .volume)
-            (a .volume ∙ e .0 ∙ sym (b .volume)),
-        eq-eqb (copyAt g image i .header .lnum) (copyAt g image j .header .lnum) (a .leb ∙ e .1 ∙ sym (b .leb)),
+            (a.volume ∙ e .0 ∙ sym b.volume),
+        eq-eqb (copyAt g image i .header .lnum) (copyAt g image j .header .lnum) (a.leb ∙ e .1 ∙ sym b.leb),
       )
 
   -- what is told from words and sequences is what the definition says of the copies

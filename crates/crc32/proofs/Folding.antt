@@ -36,9 +36,9 @@ module _ (m d w : ℕ) (all : m ≡ d + 4352) where
   folded-sum [] l = crcBits-zero m
   folded-sum (e ∷ es) l =
       let k = 32 * (137 - (1 + e)) in
-      let h : m ≡ k + (d + e * 32) = omega (arith, l .0) in
+      let h : m ≡ k + (d + e * 32) = omega (arith, l.0) in
       crcBits-xor m (w % 2 ^ 32 * 2 ^ k) (folded 137 es w)
-      ∙ ap₂ bitXor (later k (e * 32) m d (w % 2 ^ 32) h) (folded-sum es (l .1))
+      ∙ ap₂ bitXor (later k (e * 32) m d (w % 2 ^ 32) h) (folded-sum es l.1)
 
   left-out : crcBits m (crcBits 32 (w % 2 ^ 32)) ≡ crcBits m (folded 137 exponents w)
   unfolding sumOf

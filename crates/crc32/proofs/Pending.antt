@@ -89,7 +89,7 @@ pending-word j b = pending-low j exponents b ∙ rw (add-zero, xor-zero-r)
 
 lowest-take : (n j k : ℕ) (es b : List ℕ) → Below k es → j + k ≤ n → lowest j es (take n b) ≡ lowest j es b
 lowest-take n j k [] b l h = refl
-lowest-take n j k (e ∷ es) b l h = rw (getD-take n b (j + e) 0 (omega (arith, l .0)), lowest-take n j k es b (l .1) h)
+lowest-take n j k (e ∷ es) b l h = rw (getD-take n b (j + e) 0 (omega (arith, l.0)), lowest-take n j k es b l.1 h)
 
 pub low-take : (n j k : ℕ) (es b : List ℕ) → Below k es → j + k ≤ n
     → pending es (drop j (take n b)) % 2 ^ 32 ≡ pending es (drop j b) % 2 ^ 32
@@ -122,7 +122,7 @@ module _ (h : List ℕ) (w : ℕ) where
   pending-next [] l = refl
   pending-next (e ∷ es) l =
       let x = w % 2 ^ 32 * 2 ^ (32 * (length h - (1 + e))) in
-      ap₂ bitXor (next-at e (l .0)) (pending-next es (l .1))
+      ap₂ bitXor (next-at e l.0) (pending-next es l.1)
       ∙ xor-swap (wordsOf (drop e h) / 2 ^ 32) x (pending es h / 2 ^ 32) (folded (length h) es w)
       ∙ ap (λ (u : ℕ). bitXor u (bitXor x (folded (length h) es w)))
       (sym (xor-shr (wordsOf (drop e h)) (pending es h) 32))
@@ -141,7 +141,7 @@ pending-zeros : (es h : List ℕ) (n : ℕ) → Below (length h) es → pending 
 unfolding pending
 pending-zeros [] h n l = refl
 pending-zeros (e ∷ es) h n l =
-    rw (drop-append-le e h (replicate n 0) (omega (arith, l .0)), words-zeros (drop e h) n, pending-zeros es h n (l .1))
+    rw (drop-append-le e h (replicate n 0) (omega (arith, l.0)), words-zeros (drop e h) n, pending-zeros es h n l.1)
 
 pub cleared : (l z : List ℕ) → length l ≡ 137 → z ≡ l ++ zeros 85
     → (drop 137 z ≡ zeros 85) × (pending exponents z ≡ pending exponents l)

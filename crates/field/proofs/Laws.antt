@@ -144,7 +144,7 @@ field-lt at n s h b =
 
 -- the field ends within `size` bytes, and is `most` bytes wide at most
 abbrev pub fit : ℕ → ℕ → Field → Bool
-fit size most f = leb (f .at + f .width) size && leb (f .width) most
+fit size most f = leb (f.at + f.width) size && leb f.width most
 
 pub rows-fit : (size most : ℕ) (fields : List Field) → every (fit size most) fields ≡ true
     → (i : ℕ) → (row fields i .at + row fields i .width ≤ size) × (row fields i .width ≤ most)
@@ -152,6 +152,6 @@ rows-fit size most fields e i =
     let f = row fields i in
     let z : fit size most (field 0 0) ≡ true = rw (le-leb 0 size (omega arith), le-leb 0 most (omega arith)) in
     let t : fit size most f ≡ true = every-entry (fit size most) (field 0 0) z fields e i in (
-      leb-true _ _ (and-left (leb (f .at + f .width) size) (leb (f .width) most) t),
-      leb-true _ _ (and-right (leb (f .at + f .width) size) (leb (f .width) most) t),
+      leb-true _ _ (and-left (leb (f.at + f.width) size) (leb f.width most) t),
+      leb-true _ _ (and-right (leb (f.at + f.width) size) (leb f.width most) t),
     )

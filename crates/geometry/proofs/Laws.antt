@@ -28,7 +28,7 @@ power-range zero n e = absurd (false≢true e)
 power-range (suc m) n e =
     ⊎-elim
     (λ (l : anyBelow m (λ (k : ℕ). eqb n (2 ^ k)) ≡ true). let r = power-range m n l in
-    (r .0, rw pow-suc (omega arith)))
+    (r.0, rw pow-suc (omega arith)))
     (λ (l : eqb n (2 ^ m) ≡ true). let q = eqb-true n (2 ^ m) l in let p = one-le-pow m 2 (lit< tt) in
     (omega arith, rw pow-suc (omega arith)))
     (or-true-cases (anyBelow m (λ (k : ℕ). eqb n (2 ^ k))) (eqb n (2 ^ m)) e)
@@ -132,8 +132,8 @@ made peb unit sub e =
     let r : (k : ℕ) → getD (geometryRules peb unit sub) k true ≡ true = each-holds (geometryRules peb unit sub) e in
     let u = unit-range unit (r 0) in
     let s = unit-range sub (r 1) in
-    let v = round-at-least sub 64 (s .0) in
-    let d = round-at-least unit (roundUp sub 64 + 64) (u .0) in
+    let v = round-at-least sub 64 s.0 in
+    let d = round-at-least unit (roundUp sub 64 + 64) u.0 in
     let l = leb-true 172 (peb - roundUp unit (roundUp sub 64 + 64)) (r 6) in
     record {
       vid-after-ec = v;
@@ -141,7 +141,7 @@ made peb unit sub e =
       leb-fills = omega arith;
       leb-least = l;
       peb-most = leb-true peb 262144 (r 4);
-      unit-above = u .0;
+      unit-above = u.0;
       unit-divides =
           sub-multiple peb (roundUp unit (roundUp sub 64 + 64)) unit (eqb-true (peb % unit) 0 (r 5))
           (round-multiple unit (roundUp sub 64 + 64));
@@ -157,7 +157,7 @@ pub placed : (peb unit sub : ℕ) (g : Geometry) → geometryOf peb unit sub ≡
 unfolding geometryOf
 placed peb unit sub g e =
     let c = cond-yes (allOf (geometryRules peb unit sub)) refused-not e in
-    subst Placed (given-is (c .1)) (made peb unit sub (c .0))
+    subst Placed (given-is c.1) (made peb unit sub c.0)
 
 pub slip-placed : (s : List ℕ) (g : Geometry) → slipGeometry s ≡ given g → Placed g
 unfolding slipGeometry

@@ -23,7 +23,7 @@ use Rattle.grade.specs.Words.{soundPeb, soundState, Read}
 counter-told : (o : Option EcHeader) → (counterOr noWord o ≡ noWord → hasCounter o ≡ false)
     → not (eqb (counterOr noWord o) noWord) ≡ hasCounter o
 counter-told none h = refl
-counter-told (some e) h = rw (ne-eqb (e .counter) noWord (λ (q : e .counter ≡ noWord). true≢false (h q)))
+counter-told (some e) h = rw (ne-eqb e.counter noWord (λ (q : e .counter ≡ noWord). true≢false (h q)))
 
 swap : (a b c d : Bool) → (a && b) && (c && d) ≡ (a && c) && (b && d)
 swap true true c d = refl
@@ -53,45 +53,45 @@ module _ {m : Medium} {pebs states : List ℕ} {marked : ℕ} (o : Read m pebs s
   readable i = not (eqb (classAt m i) 4)
 
   abbrev counted : ℕ → Bool
-  counted i = eqb (classAt m i) 3 || hasCounter (ecs (m .views) i)
+  counted i = eqb (classAt m i) 3 || hasCounter (ecs m.views i)
 
   abbrev healthy : ℕ → Bool
   healthy v = not (eqb (stateAt m v) 2 || eqb (stateAt m v) 3)
 
-  rows : pebs ≡ concatBelow (m .count) row ++ drop (pebWordsNeeded (m .count)) pebs
+  rows : pebs ≡ concatBelow m.count row ++ drop (pebWordsNeeded m.count) pebs
   unfolding pebWords
   rows =
-      let k = pebWordsNeeded (m .count) in
-      sym (take-append-drop k pebs) ∙ ap (λ (x : List ℕ). x ++ drop k pebs) (o .pebs-are)
+      let k = pebWordsNeeded m.count in
+      sym (take-append-drop k pebs) ∙ ap (λ (x : List ℕ). x ++ drop k pebs) o.pebs-are
 
-  peb-is : (i : ℕ) → i < m .count → soundPeb pebs i ≡ readable i && counted i
+  peb-is : (i : ℕ) → i < m.count → soundPeb pebs i ≡ readable i && counted i
   unfolding counterAt
   peb-is i h =
       rw (
-        class-at (m .count) row _ rows (λ j. refl) i h,
-        counter-at (m .count) row _ rows (λ j. refl) i h,
-        counter-told (ecs (m .views) i) (o .lost-only i h),
+        class-at m.count row _ rows (λ j. refl) i h,
+        counter-at m.count row _ rows (λ j. refl) i h,
+        counter-told (ecs m.views i) (o.lost-only i h),
       )
 
-  pebs-are : allBelow (m .count) (soundPeb pebs) ≡ allBelow (m .count) readable && allBelow (m .count) counted
+  pebs-are : allBelow m.count (soundPeb pebs) ≡ allBelow m.count readable && allBelow m.count counted
   pebs-are =
-      all-cong (m .count) (soundPeb pebs) (λ (i : ℕ). readable i && counted i) peb-is
-      ∙ all-both (m .count) readable counted
+      all-cong m.count (soundPeb pebs) (λ (i : ℕ). readable i && counted i) peb-is
+      ∙ all-both m.count readable counted
 
   state-is : (v : ℕ) → v < stateWordsNeeded → getD states v 0 ≡ stateAt m v
   unfolding stateWords
   state-is v h =
       sym (getD-take stateWordsNeeded states v 0 h)
-      ∙ rw (o .states-are) (table-at (stateAt m) 0 stateWordsNeeded v h)
+      ∙ rw o.states-are (table-at (stateAt m) 0 stateWordsNeeded v h)
 
   states-are : allBelow stateWordsNeeded (soundState states) ≡ allBelow stateWordsNeeded healthy
   states-are = all-cong stateWordsNeeded (soundState states) healthy (λ v h. rw (state-is v h))
 
   -- the three tests of the words
-  pub graded : (k p s : Bool) → eqb marked 0 ≡ k → allBelow (m .count) (soundPeb pebs) ≡ p
+  pub graded : (k p s : Bool) → eqb marked 0 ≡ k → allBelow m.count (soundPeb pebs) ≡ p
       → allBelow stateWordsNeeded (soundState states) ≡ s → cond (k && (p && s)) 0 1 ≡ gradeOf m
   unfolding gradeOf
   graded k p s e f h =
-      let a : eqb (mark m) 0 ≡ k = ap (λ (x : ℕ). eqb x 0) (sym (o .mark-is)) ∙ e in
+      let a : eqb (mark m) 0 ≡ k = ap (λ (x : ℕ). eqb x 0) (sym o.mark-is) ∙ e in
       rw (a, sym f ∙ pebs-are, sym h ∙ states-are)
-      (reorder (allBelow (m .count) readable) (allBelow (m .count) counted) k _)
+      (reorder (allBelow m.count readable) (allBelow m.count counted) k _)

@@ -30,7 +30,7 @@ fits = rows-fit 64 8 fields refl
 -- each field starts where the one before it has ended, and the last ends within the 64 bytes
 abbrev apart : ℕ → List Field → Bool
 apart end [] = leb end 64
-apart end (f ∷ fs) = leb end (f .at) && apart (f .at + f .width) fs
+apart end (f ∷ fs) = leb end f.at && apart (f.at + f.width) fs
 
 -- no field of a header overlaps another or the magic
 pub ec-apart : apart 4 (take 5 fields ++ drop 16 fields) ≡ true
@@ -91,15 +91,15 @@ module _ {A : Type 0} {x h : A} where
   read-good true version rules e = judged-good (eqb version 1) (eqb version 0) (allOf rules) e
   read-good false version rules e = absurd (bad-not e)
 
-pub ec-good : (s : List ℕ) {h : EcHeader} → readEc s ≡ good h → (ecFields s ≡ h) × (h .counter ≤ 0x7FFFFFFF)
+pub ec-good : (s : List ℕ) {h : EcHeader} → readEc s ≡ good h → (ecFields s ≡ h) × (h.counter ≤ 0x7FFFFFFF)
 unfolding readEc judgeEc ecRules
 ec-good s e =
     let r = read-good (eqs (part 0 4 s) ecMagic && crcMatches s) (ecFields s .version) (ecRules (ecFields s)) e in
-    (r .0, rw (← (r .0)) (leb-true (ecFields s .counter) 0x7FFFFFFF (each-holds (ecRules (ecFields s)) (r .1) 0)))
+    (r.0, rw (← r.0) (leb-true (ecFields s .counter) 0x7FFFFFFF (each-holds (ecRules (ecFields s)) r.1 0)))
 
 pub vid-good : (size : ℕ) (s : List ℕ) {h : VidHeader} → readVid size s ≡ good h
     → (vidFields s ≡ h) × (allOf (vidRules size h) ≡ true)
 unfolding readVid judgeVid
 vid-good size s e =
     let r = read-good (eqs (part 0 4 s) vidMagic && crcMatches s) (vidFields s .version) (vidRules size (vidFields s)) e in
-    (r .0, rw (r .0) at (r .1))
+    (r.0, rw r.0 at r.1)

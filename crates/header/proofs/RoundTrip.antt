@@ -47,7 +47,7 @@ module _ {A : Type 0} where
   lent-good : (v : Verdict A) (l : List ℕ) {h : A} → lentHeader v l ≡ given (good h) → (64 ≤ length l) × (v ≡ good h)
   lent-good v l e =
       let p = cond-no (ltb (length l) 64) refused-not e in
-      (ltb-false (length l) 64 (p .0), verdict-good v (p .1))
+      (ltb-false (length l) 64 p.0, verdict-good v p.1)
 
   module _ (v : Verdict A) (bytes out : List ℕ) where
     -- a good header is written to 64 bytes or more, and the others stay
@@ -59,8 +59,8 @@ module _ {A : Type 0} where
     wrote : headerWritten v out ≡ given tt → (isGood v ≡ true) × (headerOut v bytes out ≡ bytes ++ drop 64 out)
     wrote e =
         let p = cond-no (ltb (length out) 64) refused-not e in
-        let g = cond-yes (isGood v) refused-not (p .1) .0 in
-        (g, writes (ltb-false (length out) 64 (p .0)) g .1)
+        let g = cond-yes (isGood v) refused-not p.1 .0 in
+        (g, writes (ltb-false (length out) 64 p.0) g .1)
 
 -- ---- bytes 0-59, piece by piece
 
@@ -85,16 +85,16 @@ module _ (l : List ℕ) (b : Bytes l) (long : 64 ≤ length l) where
   ec-head-is : EcPadded l → take 4 l ≡ ecMagic → take 60 l ≡ ecHead (ecFields l)
   unfolding ecHead ecFields
   ec-head-is z m =
-      bytes-on 28 32 (z .zero-28)
+      bytes-on 28 32 z.zero-28
       (field-on 24 4 tt (field-on 20 4 tt
-      (field-on 16 4 tt (field-on 8 8 tt (bytes-on 5 3 (z .zero-5) (field-on 4 1 tt m))))))
+      (field-on 16 4 tt (field-on 8 8 tt (bytes-on 5 3 z.zero-5 (field-on 4 1 tt m))))))
 
   vid-head-is : VidPadded l → take 4 l ≡ vidMagic → take 60 l ≡ vidHead (vidFields l)
   unfolding vidHead vidFields
   vid-head-is z m =
       let a : take 16 l ≡ _ = field-on 12 4 tt (field-on 8 4 tt (field-on 7 1 tt (field-on 6 1 tt (field-on 5 1 tt (field-on 4 1 tt m))))) in
-      let d : take 36 l ≡ _ = field-on 32 4 tt (field-on 28 4 tt (field-on 24 4 tt (field-on 20 4 tt (bytes-on 16 4 (z .zero-16) a)))) in
-      bytes-on 48 12 (z .zero-48) (field-on 40 8 tt (bytes-on 36 4 (z .zero-36) d))
+      let d : take 36 l ≡ _ = field-on 32 4 tt (field-on 28 4 tt (field-on 24 4 tt (field-on 20 4 tt (bytes-on 16 4 z.zero-16 a)))) in
+      bytes-on 48 12 z.zero-48 (field-on 40 8 tt (bytes-on 36 4 z.zero-36 d))
 
 -- ---- of both headers, by their magic, version, rules, fields and bytes 0-59
 
@@ -116,11 +116,11 @@ module _ {A : Type 0} (magic : List ℕ) (version : A → ℕ) (rules : A → Li
   both-written-read h out l r e s same =
       let w = wrote (judge h) (bytes h) out e in
       let t : take 64 (bytes h ++ drop 64 out) ≡ bytes h = rw l at (take-append-seam (bytes h) (drop 64 out)) in
-      let b : take 64 s ≡ bytes h = same ∙ ap (take 64) (w .1) ∙ t in
+      let b : take 64 s ≡ bytes h = same ∙ ap (take 64) w.1 ∙ t in
       let q : reads s ≡ judge h = ap reads (sym (take-append-drop 64 s) ∙ ap (λ (x : List ℕ). x ++ drop 64 s) b) ∙ r (drop 64 s) in
       let n : 64 ≤ length s = omega (arith, length-take 64 s, ap length b, l) in
-      let g = good-of (judge h) (w .0) in
-      let f = read-good true (version h) (rules h) (g .1) .0 in
+      let g = good-of (judge h) w.0 in
+      let f = read-good true (version h) (rules h) g.1 .0 in
       rw (le-ltb _ _ n) (ap verdictAnswer (q ∙ g .1 ∙ ap good (sym f)))
 
   -- a good header with zero padding that was read is written back byte for byte, to any 64 bytes or more, and the others stay
@@ -129,13 +129,13 @@ module _ {A : Type 0} (magic : List ℕ) (version : A → ℕ) (rules : A → Li
       → (headerWritten (judge h) out ≡ given tt) × (headerOut (judge h) (bytes h) out ≡ take 64 l ++ drop 64 out)
   both-read-written l out h b r z long =
       let p = lent-good (reads l) l r in
-      let t = cond-yes (eqs (part 0 4 l) magic && crcMatches l) bad-not (p .1) in
-      let f = read-good (eqs (part 0 4 l) magic && crcMatches l) (version (fields l)) (rules (fields l)) (p .1) .0 in
-      let m = eqs-true (part 0 4 l) magic (and-left (eqs (part 0 4 l) magic) (crcMatches l) (t .0)) in
-      let g : isGood (judge h) ≡ true = ap (λ (x : A). isGood (judge x)) (sym f) ∙ ap isGood (t .1) in
+      let t = cond-yes (eqs (part 0 4 l) magic && crcMatches l) bad-not p.1 in
+      let f = read-good (eqs (part 0 4 l) magic && crcMatches l) (version (fields l)) (rules (fields l)) p.1 .0 in
+      let m = eqs-true (part 0 4 l) magic (and-left (eqs (part 0 4 l) magic) (crcMatches l) t.0) in
+      let g : isGood (judge h) ≡ true = ap (λ (x : A). isGood (judge x)) (sym f) ∙ ap isGood t.1 in
       let w = writes (judge h) (bytes h) out long g in
-      let c = and-right (eqs (part 0 4 l) magic) (crcMatches l) (t .0) in
-      (w .0, w .1 ∙ ap (λ (x : List ℕ). x ++ drop 64 out) (whole l b (p .0) (head h) c (z (p .0) m ∙ ap head f)))
+      let c = and-right (eqs (part 0 4 l) magic) (crcMatches l) t.0 in
+      (w.0, w.1 ∙ ap (λ (x : List ℕ). x ++ drop 64 out) (whole l b p.0 (head h) c (z p.0 m ∙ ap head f)))
 
 -- ---- the EC header
 
@@ -159,11 +159,11 @@ module _ (h : EcHeader) (t : List ℕ) where
   ec-fields-back : EcFits h → ecFields (ecBytes h ++ t) ≡ h
   unfolding ecFields ecBytes ecHead toBeOn
   ec-fields-back f = λ i. record {
-    version = read-back-fits 1 (h .version) (f .version) i;
-    counter = read-back-fits 8 (h .counter) (f .counter) i;
-    «vid_start» = read-back-fits 4 (h .«vid_start») (f .vid-start) i;
-    «data_start» = read-back-fits 4 (h .«data_start») (f .data-start) i;
-    «image_seq» = read-back-fits 4 (h .«image_seq») (f .image-seq) i;
+    version = read-back-fits 1 h.version f.version i;
+    counter = read-back-fits 8 h.counter f.counter i;
+    «vid_start» = read-back-fits 4 h.«vid_start» f.vid-start i;
+    «data_start» = read-back-fits 4 h.«data_start» f.data-start i;
+    «image_seq» = read-back-fits 4 h.«image_seq» f.image-seq i;
   }
 
   -- the reader calls a written header what its fields make it: this is what refusal 19 speaks of
@@ -175,7 +175,7 @@ pub ec-written-read : (h : EcHeader) (out : List ℕ) → EcFits h → ecWritten
     → (s : List ℕ) → take 64 s ≡ take 64 (ecOut h out) → ecRead s ≡ given (good h)
 unfolding ecWritten ecOut ecRead readEc judgeEc ecBytes
 ec-written-read h out f =
-    both-written-read ecMagic (λ (x : EcHeader). x .version) ecRules ecFields ecHead h out (ec-64 h)
+    both-written-read ecMagic (λ (x : EcHeader). x.version) ecRules ecFields ecHead h out (ec-64 h)
     (λ t. ec-judged h t f)
 
 pub ec-read-written : (l out : List ℕ) (h : EcHeader) → Bytes l → ecRead l ≡ given (good h) → EcPadded l
@@ -183,7 +183,7 @@ pub ec-read-written : (l out : List ℕ) (h : EcHeader) → Bytes l → ecRead l
     → (ecWritten h out ≡ given tt) × (ecOut h out ≡ take 64 l ++ drop 64 out)
 unfolding ecRead ecWritten ecOut readEc judgeEc ecBytes
 ec-read-written l out h b r z =
-    both-read-written ecMagic (λ (x : EcHeader). x .version) ecRules ecFields ecHead l out h b r
+    both-read-written ecMagic (λ (x : EcHeader). x.version) ecRules ecFields ecHead l out h b r
     (λ n. ec-head-is l b n z)
 
 -- what is read is as large as its bytes allow
@@ -219,17 +219,17 @@ module _ (h : VidHeader) (t : List ℕ) where
   vid-fields-back : VidFits h → vidFields (vidBytes h ++ t) ≡ h
   unfolding vidFields vidBytes vidHead toBeOn
   vid-fields-back f = λ i. record {
-    version = read-back-fits 1 (h .version) (f .version) i;
-    «vol_type» = read-back-fits 1 (h .«vol_type») (f .vol-type) i;
-    «copy_flag» = read-back-fits 1 (h .«copy_flag») (f .copy-flag) i;
-    compat = read-back-fits 1 (h .compat) (f .compat) i;
-    volume = read-back-fits 4 (h .volume) (f .volume) i;
-    lnum = read-back-fits 4 (h .lnum) (f .lnum) i;
-    «data_size» = read-back-fits 4 (h .«data_size») (f .data-size) i;
-    «used_lebs» = read-back-fits 4 (h .«used_lebs») (f .used-lebs) i;
-    «data_pad» = read-back-fits 4 (h .«data_pad») (f .data-pad) i;
-    «data_crc» = read-back-fits 4 (h .«data_crc») (f .data-crc) i;
-    sequence = read-back-fits 8 (h .sequence) (f .sequence) i;
+    version = read-back-fits 1 h.version f.version i;
+    «vol_type» = read-back-fits 1 h.«vol_type» f.vol-type i;
+    «copy_flag» = read-back-fits 1 h.«copy_flag» f.copy-flag i;
+    compat = read-back-fits 1 h.compat f.compat i;
+    volume = read-back-fits 4 h.volume f.volume i;
+    lnum = read-back-fits 4 h.lnum f.lnum i;
+    «data_size» = read-back-fits 4 h.«data_size» f.data-size i;
+    «used_lebs» = read-back-fits 4 h.«used_lebs» f.used-lebs i;
+    «data_pad» = read-back-fits 4 h.«data_pad» f.data-pad i;
+    «data_crc» = read-back-fits 4 h.«data_crc» f.data-crc i;
+    sequence = read-back-fits 8 h.sequence f.sequence i;
   }
 
   -- the reader calls a written header what its fields make it: this is what refusal 19 speaks of
@@ -243,7 +243,7 @@ module _ (size : ℕ) where
       → (s : List ℕ) → take 64 s ≡ take 64 (vidOut size h out) → vidRead size s ≡ given (good h)
   unfolding vidWritten vidOut vidRead readVid judgeVid vidBytes
   vid-written-read h out f =
-      both-written-read vidMagic (λ (x : VidHeader). x .version) (vidRules size) vidFields vidHead h out (vid-64 h)
+      both-written-read vidMagic (λ (x : VidHeader). x.version) (vidRules size) vidFields vidHead h out (vid-64 h)
       (λ t. vid-judged h t size f)
 
   pub vid-read-written : (l out : List ℕ) (h : VidHeader) → Bytes l → vidRead size l ≡ given (good h) → VidPadded l
@@ -251,7 +251,7 @@ module _ (size : ℕ) where
       → (vidWritten size h out ≡ given tt) × (vidOut size h out ≡ take 64 l ++ drop 64 out)
   unfolding vidRead vidWritten vidOut readVid judgeVid vidBytes
   vid-read-written l out h b r z =
-      both-read-written vidMagic (λ (x : VidHeader). x .version) (vidRules size) vidFields vidHead l out h b r
+      both-read-written vidMagic (λ (x : VidHeader). x.version) (vidRules size) vidFields vidHead l out h b r
       (λ n. vid-head-is l b n z)
 
 -- what is read is as large as its bytes allow

@@ -10,6 +10,6 @@ module _ {X C : Type 0} (after : X → C → X) (I : X → Type 0) (G : X → X 
       → I (afterAll after x calls) × G x (afterAll after x calls) × EachCall after Told x calls
   all-calls [] x i a = (i, here x, tt)
   all-calls (c ∷ calls) x i a =
-      let r = one x c i (a .0) in
-      let s = all-calls calls (after x c) (r .0) (a .1) in
-      (s .0, on x (after x c) (afterAll after (after x c) calls) (r .1) (s .1), (r .2, s .2))
+      let r = one x c i a.0 in
+      let s = all-calls calls (after x c) r.0 a.1 in
+      (s.0, on x (after x c) (afterAll after (after x c) calls) r.1 s.1, (r.2, s.2))

@@ -24,28 +24,28 @@ module _ {P : Type 0} (J : Job P) (L : Lawful J) where
     next = stepping J p image .image
 
     abbrev left : ℕ
-    left = J .count p image - J .ran p
+    left = J.count p image - J.ran p
 
     -- a step goes on, and one less is left; or it is done or refused, and changes nothing
     data Next : Type 0 where
-      goes : (q : P) → stepping J p image .answer ≡ given (on q) → left ≡ suc (J .count q next - J .ran q) → Next
+      goes : (q : P) → stepping J p image .answer ≡ given (on q) → left ≡ suc (J.count q next - J.ran q) → Next
       ends : Over (stepping J p image .answer) → next ≡ image → Next
 
     next-step : Next
     unfolding stepping stepAnswer stepWrite
-    next-step = go (J .runnable p image) refl (ltb (J .ran p) (J .count p image)) refl
+    next-step = go (J.runnable p image) refl (ltb (J.ran p) (J.count p image)) refl
       where
         y : List ℕ
-        y = appliedWhole (J .write p image (J .ran p)) image
+        y = appliedWhole (J.write p image (J.ran p)) image
 
-        go : (r : Bool) → J .runnable p image ≡ r → (b : Bool) → ltb (J .ran p) (J .count p image) ≡ b → Next
+        go : (r : Bool) → J.runnable p image ≡ r → (b : Bool) → ltb (J.ran p) (J.count p image) ≡ b → Next
         go true m true h =
-            let l = whole-length (J .write p image (J .ran p)) image (L .within p image m (J .ran p)) in
-            let e = L .same-count p y ∙ L .by-length p y image l .1 in
-            let c = L .counts p in
-            let b = ltb-true (J .ran p) (J .count p image) h in
-            goes (J .next p) (rw (m, h)) (rw m (omega arith))
-        go true m false h = ends (inl (rw (m, h))) (rw (m, L .late p image (J .ran p) (ltb-false (J .ran p) (J .count p image) h)))
+            let l = whole-length (J.write p image (J.ran p)) image (L.within p image m (J.ran p)) in
+            let e = L.same-count p y ∙ L .by-length p y image l .1 in
+            let c = L.counts p in
+            let b = ltb-true (J.ran p) (J.count p image) h in
+            goes (J.next p) (rw (m, h)) (rw m (omega arith))
+        go true m false h = ends (inl (rw (m, h))) (rw (m, L.late p image (J.ran p) (ltb-false (J.ran p) (J.count p image) h)))
         go false m b h = ends (inr (rw m)) (rw m)
 
   over-not-on : {A : Type 0} {q : P} {a : Answer (Progress P)} → Over a → given (on q) ≡ a → A
@@ -78,17 +78,17 @@ module _ {P : Type 0} (J : Job P) (L : Lawful J) where
   -- ---- for a loop that runs the steps
 
   module _ (p q : P) (image : List ℕ) {y : List ℕ} (e : given (on q) ≡ stepping J p image .answer) (i : y ≡ stepping J p image .image) where
-    one-less : J .count p image - J .ran p ≡ suc (J .count q y - J .ran q)
+    one-less : J .count p image - J.ran p ≡ suc (J.count q y - J.ran q)
     one-less = go (next-step p image)
       where
-        go : Next p image → J .count p image - J .ran p ≡ suc (J .count q y - J .ran q)
+        go : Next p image → J.count p image - J.ran p ≡ suc (J.count q y - J.ran q)
         go (goes q′ a l) = let z : q′ ≡ q = same (sym a ∙ sym e) in rw i (rw z at l)
           where
             same : {a b : P} → _≡_ {A = Answer (Progress P)} (given (on a)) (given (on b)) → a ≡ b
             same e = cc
         go (ends o s) = over-not-on o e
 
-    pub fewer : J .count q y - J .ran q < J .count p image - J .ran p
+    pub fewer : J .count q y - J.ran q < J.count p image - J.ran p
     fewer = let l = one-less in omega arith
 
     pub finish-on : finishing J q y ≡ finishing J p image
@@ -147,7 +147,7 @@ module _ {P : Type 0} (J : Job P) (L : Lawful J) where
   -- the end leaves, and the answer that of a further step: done or refused
   pub record ToEnd (p : P) (image : List ℕ) (further : ℕ) : Type 0 where
     pub image-is : finishing J p image .image ≡ imageLeft J p image (toEnd further)
-    pub answer-is : finishing J p image .answer ≡ nextStep J (afterSteps J p image (J .count p image + further)) .answer
+    pub answer-is : finishing J p image .answer ≡ nextStep J (afterSteps J p image (J.count p image + further)) .answer
     pub over : Over (finishing J p image .answer)
 
   pub finish-is-to-end : (p : P) (image : List ℕ) (further : ℕ) → ToEnd p image further
@@ -169,4 +169,4 @@ module _ {P : Type 0} (J : Job P) (L : Lawful J) where
   finish-after p image zero = refl
   finish-after p image (suc k) =
       let x = afterSteps J p image k in
-      finish-next (x .plan) (x .image) (next-step (x .plan) (x .image)) ∙ finish-after p image k
+      finish-next x.plan x.image (next-step x.plan x.image) ∙ finish-after p image k

@@ -60,17 +60,17 @@ module _ (g : Geometry) (P : List ℕ) where
 
   -- ---- the VID header
 
-  pub vid-written : (h : VidHeader) → VidFits h → judgeVid (g .«leb_size») h ≡ good h → vidPart g P ≡ vidBytes h
+  pub vid-written : (h : VidHeader) → VidFits h → judgeVid g.«leb_size» h ≡ good h → vidPart g P ≡ vidBytes h
       → viewOf g P .vid ≡ vidGood (copyOf g P h)
   unfolding viewOf
-  vid-written h f j e = rw (e, vid-shows h, vid-reads (g .«leb_size») h f, j)
+  vid-written h f j e = rw (e, vid-shows h, vid-reads g.«leb_size» h f, j)
 
   pub vid-torn : allFF (vidPart g P) || not (crcMatches (vidPart g P)) ≡ true → (viewOf g P .vid ≡ vidBlank) ⊎ (viewOf g P .vid ≡ vidBad)
   unfolding viewOf readVid
   vid-torn e =
       by-test (allFF (vidPart g P)) (λ b. inl (rw b))
       (λ b. by-test (crcMatches (vidPart g P)) (λ q. clash refl (rw (b, q) at e))
-      (λ q. inr (rw (b, torn-read vidMagic (λ l. judgeVid (g .«leb_size») (vidFields l)) (vidPart g P) q))))
+      (λ q. inr (rw (b, torn-read vidMagic (λ l. judgeVid g.«leb_size» (vidFields l)) (vidPart g P) q))))
 
   pub vid-erased : vidPart g P ≡ replicate 64 0xFF → viewOf g P .vid ≡ vidBlank
   unfolding viewOf allFF
@@ -80,14 +80,14 @@ module _ (g : Geometry) (P : List ℕ) where
 
   pub record Read (c : Copy) : Type 0 where
     pub shows : allFF (vidPart g P) ≡ false
-    pub reads : readVid (g .«leb_size») (vidPart g P) ≡ good (c .header)
-    pub is : c ≡ copyOf g P (c .header)
+    pub reads : readVid g.«leb_size» (vidPart g P) ≡ good c.header
+    pub is : c ≡ copyOf g P c.header
 
   pub copy-read : (c : Copy) → goodVid (viewOf g P .vid) ≡ some c → Read c
   unfolding viewOf copyOf
-  copy-read c e = go (allFF (vidPart g P)) refl (readVid (g .«leb_size») (vidPart g P)) refl e
+  copy-read c e = go (allFF (vidPart g P)) refl (readVid g.«leb_size» (vidPart g P)) refl e
     where
-      go : (b : Bool) → allFF (vidPart g P) ≡ b → (v : Verdict VidHeader) → readVid (g .«leb_size») (vidPart g P) ≡ v
+      go : (b : Bool) → allFF (vidPart g P) ≡ b → (v : Verdict VidHeader) → readVid g.«leb_size» (vidPart g P) ≡ v
           → goodVid (cond b vidBlank (vidOf g P v)) ≡ some c → Read c
       go true q v r e = none-some e
       go false q (good h) r e =
@@ -98,9 +98,9 @@ module _ (g : Geometry) (P : List ℕ) where
 
 -- a copy's header in another PEB
 pub same-header : (g : Geometry) (P Q : List ℕ) (c : Copy) → Read g P c → vidPart g Q ≡ vidPart g P
-    → viewOf g Q .vid ≡ vidGood (copyOf g Q (c .header))
+    → viewOf g Q .vid ≡ vidGood (copyOf g Q c.header)
 unfolding viewOf
-same-header g P Q c r e = rw (e, r .shows, r .reads)
+same-header g P Q c r e = rw (e, r.shows, r.reads)
 
 -- a good EC header
 pub ec-seen : (g : Geometry) (P : List ℕ) (h : EcHeader) → goodEc (viewOf g P .ec) ≡ some h → readEc (take 64 P) ≡ good h
@@ -114,7 +114,7 @@ ec-seen g P h e = go (allFF (take 64 P)) (readEc (take 64 P)) refl e
     go false newer r e = none-some e
 
 -- a PEB that was erased, with its EC header stored again
-module _ (g : Geometry) (P : Placed g) (Y : List ℕ) (h : EcHeader) (is : Y ≡ put 0 (ecBytes h) (replicate (g .«peb_size») 0xFF)) where
+module _ (g : Geometry) (P : Placed g) (Y : List ℕ) (h : EcHeader) (is : Y ≡ put 0 (ecBytes h) (replicate g.«peb_size» 0xFF)) where
   pub renewed-ec : take 64 Y ≡ ecBytes h
   renewed-ec = ap (take 64) is ∙ take-at (ecBytes h) _ 64 (ec-64 h)
 
@@ -123,10 +123,10 @@ module _ (g : Geometry) (P : Placed g) (Y : List ℕ) (h : EcHeader) (is : Y ≡
       let e = ec-64 h in
       ap (vidPart g) is
       ∙ ap (take 64)
-      (put-behind 0 (ecBytes h) (replicate (g .«peb_size») 0xFF)
-      (rw length-replicate (omega (arith, P .vid-after-ec, P .data-after-vid, P .leb-fills))) (g .«vid_start») (omega (arith, P .vid-after-ec))
-      ∙ drop-replicate 0xFF (g .«vid_start») (g .«peb_size»))
-      ∙ take-replicate 0xFF 64 (g .«peb_size» - g .«vid_start») (omega (arith, P .data-after-vid, P .leb-fills))
+      (put-behind 0 (ecBytes h) (replicate g.«peb_size» 0xFF)
+      (rw length-replicate (omega (arith, P.vid-after-ec, P.data-after-vid, P.leb-fills))) g.«vid_start» (omega (arith, P.vid-after-ec))
+      ∙ drop-replicate 0xFF g.«vid_start» g.«peb_size»)
+      ∙ take-replicate 0xFF 64 (g.«peb_size» - g.«vid_start») (omega (arith, P.data-after-vid, P.leb-fills))
 
 -- ---- what the views of a PEB can become where a power-cut premise holds: O are its bytes before, Y those of a stopped image
 
@@ -144,7 +144,7 @@ module _ (g : Geometry) (O Y : List ℕ) where
       (or-true-cases (eqs (take 64 Y) (take 64 O) || eqs (take 64 Y) (ecBytes e)) (allFF (take 64 Y) || not (crcMatches (take 64 Y))) c)
 
   -- the VID header is the one that there was, or none
-  pub vid-after : (c : Copy) → Read g O c → (S : VidView → Type 0) → S (vidGood (copyOf g Y (c .header))) → S vidBlank → S vidBad
+  pub vid-after : (c : Copy) → Read g O c → (S : VidView → Type 0) → S (vidGood (copyOf g Y c.header)) → S vidBlank → S vidBad
       → unlike (eqs (vidPart g Y) (vidPart g O)) (vidPart g Y) ≡ true → S (viewOf g Y .vid)
   vid-after c r S old blank none u =
       ⊎-elim (λ q. subst S (sym (same-header g O Y c r (eqs-true (vidPart g Y) (vidPart g O) q))) old)

@@ -43,11 +43,11 @@ fine-early k h = record { short = omega (arith, refused-short k 0); tables-suffi
 
 fine-late : (n : ℕ) (r : Refusal) → Fine (late n r)
 fine-late n r = record {
-  short = omega (arith, refused-short (r .number) (r .place));
+  short = omega (arith, refused-short r.number r.place);
   tables-suffice = λ e. omega arith;
 }
 
-fine-whole : (m : Medium) → m .count ≤ 59 → length (entries m) ≤ m .count → Fine (whole m)
+fine-whole : (m : Medium) → m.count ≤ 59 → length (entries m) ≤ m.count → Fine (whole m)
 unfolding reportOf
 fine-whole m h k = record {
   short = report-short (reportOf m) _ h (omega arith);
@@ -56,7 +56,7 @@ fine-whole m h k = record {
 
 -- a slip is refused with 1 or 2, or its PEB size is 1,024 at least
 by-slip : (P : Answer Geometry → Type 0) (s : List ℕ) → P (refused 1 0) → P (refused 2 0)
-    → ((g : Geometry) → 1024 ≤ g .«peb_size» → P (given g)) → P (slipGeometry s)
+    → ((g : Geometry) → 1024 ≤ g.«peb_size» → P (given g)) → P (slipGeometry s)
 unfolding slipGeometry geometryOf geometryRules makeGeometry
 by-slip P s one two good = go (wellFormed s) (allOf (geometryRules peb unit sub)) refl
   where
@@ -78,12 +78,12 @@ by-slip P s one two good = go (wellFormed s) (allOf (geometryRules peb unit sub)
         good (makeGeometry peb unit sub) (leb-true 1024 peb (and-left (leb 1024 peb) _ r))
 
 -- 61,420 bytes are 59 PEBs at the most
-module _ (g : Geometry) (image : List ℕ) (h : 1024 ≤ g .«peb_size») (k : length image ≤ 61420) where
+module _ (g : Geometry) (image : List ℕ) (h : 1024 ≤ g.«peb_size») (k : length image ≤ 61420) where
   few-pebs : pebCount g image ≤ 59
   few-pebs =
-      let n = length image / g .«peb_size» in
-      let a : n * 1024 ≤ n * g .«peb_size» = mul-le-mul-left n h in
-      let b : n * g .«peb_size» ≤ length image = div-mul-le-self (length image) (g .«peb_size») in
+      let n = length image / g.«peb_size» in
+      let a : n * 1024 ≤ n * g.«peb_size» = mul-le-mul-left n h in
+      let b : n * g.«peb_size» ≤ length image = div-mul-le-self (length image) g.«peb_size» in
       omega (arith, a, b)
 
   long-tables : longEnough programTables (pebCount g image) ≡ true
@@ -105,7 +105,7 @@ module _ (g : Geometry) (image : List ℕ) (h : 1024 ≤ g .«peb_size») (k : l
       go true e false q x z = absurd (true≢false (sym q))
       go true e true q (some r) z = fine-late (pebCount g image) r
       go true e true q none z =
-          let two = and-left (leb 2 (pebCount g image)) _ (and-right (eqb (length image % g .«peb_size») 0) _ e) in
+          let two = and-left (leb 2 (pebCount g image)) _ (and-right (eqb (length image % g.«peb_size») 0) _ e) in
           fine-whole (mediumOf g (pebCount g image) image) few-pebs
           (entries-fit (mediumOf g (pebCount g image) image) z (leb-true 2 (pebCount g image) two))
 

@@ -44,10 +44,10 @@ unfolding reportOf
 held-always (early k) t = refl
 held-always (late n r) t = refl
 held-always (whole m) t =
-    and-intro _ _ (over-long (pebWords m) (t .pebs) (m .count * 2) (omega (arith, peb-words-length m)))
+    and-intro _ _ (over-long (pebWords m) t.pebs (m.count * 2) (omega (arith, peb-words-length m)))
     (and-intro _ _
-    (over-long (mapWords (m .count) (entries m)) (t .map) (length (entries m) * 3) (entries-held (m .count) (entries m)))
-    (and-intro _ _ (over-long (stateWords m) (t .states) 128 (states-held m)) refl))
+    (over-long (mapWords m.count (entries m)) t.map (length (entries m) * 3) (entries-held m.count (entries m)))
+    (and-intro _ _ (over-long (stateWords m) t.states 128 (states-held m)) refl))
 
 -- ---- the program's text
 

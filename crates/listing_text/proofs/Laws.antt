@@ -77,8 +77,8 @@ written-none at s = record { after = omega arith; bytes = none at s }
 -- b after a
 pub both-written : {at r e : ℕ} {a b s s₁ s₂ : List ℕ} → Written s at a r s₁ → Written s₁ r b e s₂ → Written s at (a ++ b) e s₂
 both-written {at} {r} {e} {a} {b} {s} {s₁} {s₂} p q = record {
-  after = rw length-append (omega (arith, p .after, q .after));
-  bytes = q .bytes ∙ ap₂ (λ (k : ℕ) (l : List ℕ). clipped k b l) (p .after) (p .bytes) ∙ clip-join at a b s;
+  after = rw length-append (omega (arith, p.after, q.after));
+  bytes = q.bytes ∙ ap₂ (λ (k : ℕ) (l : List ℕ). clipped k b l) p.after p.bytes ∙ clip-join at a b s;
 }
 
 -- one line more
@@ -87,7 +87,7 @@ next-written f i {at} {r} {e} {s} {s₁} {s₂} p q = subst (λ (k : ℕ). Writt
 
 -- a buffer keeps its length
 pub written-length : {at r : ℕ} {t s s′ : List ℕ} → Written s at t r s′ → length s′ ≡ length s
-written-length {at} {r} {t} {s} {s′} w = ap length (w .bytes) ∙ same at t s
+written-length {at} {r} {t} {s} {s′} w = ap length w.bytes ∙ same at t s
   where
     same : (at : ℕ) (t s : List ℕ) → length (clipped at t s) ≡ length s
     same at t [] = refl
@@ -102,25 +102,25 @@ small-digit d h = rw (lt-ltb d 10 h)
 
 power : (r : ℕ) → (10 ^ suc r ≡ 10 ^ r * 10) × (1 ≤ 10 ^ r)
 power zero = (refl, omega arith)
-power (suc r) = let p = power r in (pow-suc 10 (suc r), omega (arith, p .0, p .1))
+power (suc r) = let p = power r in (pow-suc 10 (suc r), omega (arith, p.0, p.1))
 
 -- the fewest digits that hold a number are its digits
 pub fewest-digits : (k n r : ℕ) → r ≤ k → Fewest 10 1 n r → digits 10 r n ≡ digitsUpTo k n
-fewest-digits k n zero h f = absurd (omega (arith, f .0))
+fewest-digits k n zero h f = absurd (omega (arith, f.0))
 fewest-digits zero n (suc r) h f = absurd (omega arith)
 fewest-digits (suc k) n (suc zero) h f =
-    let b : n < 10 = f .1 in
+    let b : n < 10 = f.1 in
     let m : n % 10 ≡ n = omega arith in
     rw (lt-ltb n 10 b, m) (ap (λ (x : ℕ). x ∷ []) (small-digit n b))
 fewest-digits (suc k) n (suc (suc r)) h f =
     let p = power r in
     let q = power (suc r) in
     let one : suc (suc r) - 1 ≡ suc r = omega arith in
-    let low : 10 ^ suc r ≤ n = rw one at (f .2 (omega arith)) in
+    let low : 10 ^ suc r ≤ n = rw one at (f.2 (omega arith)) in
     let less : suc r - 1 ≡ r = omega arith in
-    rw (le-ltb n 10 (omega (arith, p .0, p .1)))
+    rw (le-ltb n 10 (omega (arith, p.0, p.1)))
     (ap₂ _++_
-    (fewest-digits k (n / 10) (suc r) (omega arith) (omega arith, omega (arith, p .0, q .0, f .1), λ _. rw less (omega (arith, p .0))))
+    (fewest-digits k (n / 10) (suc r) (omega arith) (omega arith, omega (arith, p.0, q.0, f.1), λ _. rw less (omega (arith, p.0))))
     (ap (λ (x : ℕ). x ∷ []) (small-digit (n % 10) (omega arith))))
 
 -- a number below 2^64 has at most 20 digits
@@ -131,7 +131,7 @@ twenty-digits n r h f = go (ltb 20 r) refl
     go false e = ltb-false 20 r e
     go true e =
         let l : 20 < r = ltb-true 20 r e in
-        absurd (omega (arith, pow-le-pow-right {n = 10} (omega arith) {i = 20} {j = r - 1} (omega arith), f .2 (omega arith)))
+        absurd (omega (arith, pow-le-pow-right {n = 10} (omega arith) {i = 20} {j = r - 1} (omega arith), f.2 (omega arith)))
 
 pub few-digits : (k n : ℕ) → length (digitsUpTo k n) ≤ k
 few-digits zero n = omega arith

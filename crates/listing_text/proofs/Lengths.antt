@@ -28,14 +28,14 @@ pair-short s m t n = simp length-append (omega (arith, labelled-short s m, label
 numbers-short : (r : Report) → length (numbersPart r) ≤ 113
 unfolding numbersPart
 numbers-short r =
-    let a = pair-short "attached " (r .«peb_count») " entries " (r .entries) in
-    simp length-append (omega (arith, a, pair-short " mean " (r .mean) " highest " (r .highest)))
+    let a = pair-short "attached " r.«peb_count» " entries " r.entries in
+    simp length-append (omega (arith, a, pair-short " mean " r.mean " highest " r.highest))
 
 marks-short : (r : Report) → length (marksPart r) ≤ 113
 unfolding marksPart
 marks-short r =
-    let a = pair-short " readonly " (cond (r .«read_only») 1 0) " table " (r .table) in
-    simp length-append (omega (arith, a, pair-short " copies " (r .«copies_mark») " grade " (r .grade)))
+    let a = pair-short " readonly " (cond r.«read_only» 1 0) " table " r.table in
+    simp length-append (omega (arith, a, pair-short " copies " r.«copies_mark» " grade " r.grade))
 
 counter-short : (k : ℕ) → length (counterText k) ≤ 21
 unfolding counterText
@@ -78,12 +78,12 @@ unfolding volLines
 vol-lines-short n states = lines-short n 46 (volLineAt states) (λ v. vol-short v _)
 
 -- a report of at most 59 PEBs and entries
-pub report-short : (r : Report) (t : Tables) → r .«peb_count» ≤ 59 → r .entries ≤ 59 → length (reportText r t) ≤ 16384
+pub report-short : (r : Report) (t : Tables) → r.«peb_count» ≤ 59 → r.entries ≤ 59 → length (reportText r t) ≤ 16384
 unfolding reportText
 report-short r t h k =
-    let p = peb-lines-short (r .«peb_count») (t .pebs) in
-    let m = map-lines-short (r .entries) (t .map) in
-    simp length-append (omega (arith, p, m, vol-lines-short 128 (t .states), numbers-short r, marks-short r))
+    let p = peb-lines-short r.«peb_count» t.pebs in
+    let m = map-lines-short r.entries t.map in
+    simp length-append (omega (arith, p, m, vol-lines-short 128 t.states, numbers-short r, marks-short r))
 
 pub refused-short : (k p : ℕ) → length (refusedText k p) ≤ 53
 unfolding refusedText

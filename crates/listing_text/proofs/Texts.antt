@@ -33,19 +33,19 @@ module _ (a : Answer Report) (t : Tables) (out : List ℕ) where
     unfolding rendering outAfter hasRoom
     has-room k {r} {out′} w =
         let e = le-leb (length (textOf a t)) (length out) k in
-        let z : r ≡ length (textOf a t) = omega (arith, w .after) in
-        (rw (h, e) (ap given z), rw (h, e) (w .bytes ∙ clip-over (textOf a t) out k))
+        let z : r ≡ length (textOf a t) = omega (arith, w.after) in
+        (rw (h, e) (ap given z), rw (h, e) (w.bytes ∙ clip-over (textOf a t) out k))
 
 -- ---- the tables
 
 -- what held tables have
 pub held : (r : Report) (t : Tables) → tablesHold (given r) t ≡ true
-    → (r .«peb_count» * 2 ≤ length (t .pebs)) × ((r .entries * 3 ≤ length (t .map)) × (128 ≤ length (t .states)))
+    → (r.«peb_count» * 2 ≤ length t.pebs) × ((r.entries * 3 ≤ length t.map) × (128 ≤ length t.states))
 held r t h =
-    let a = leb (r .«peb_count» * 2) (length (t .pebs)) in
-    let b = leb (r .entries * 3) (length (t .map)) in
-    let c = leb 128 (length (t .states)) && true in
+    let a = leb (r.«peb_count» * 2) (length t.pebs) in
+    let b = leb (r.entries * 3) (length t.map) in
+    let c = leb 128 (length t.states) && true in
     let q = and-right a (b && c) h in (
       leb-true _ _ (and-left a (b && c) h),
-      (leb-true _ _ (and-left b c q), leb-true _ _ (and-left (leb 128 (length (t .states))) true (and-right b c q))),
+      (leb-true _ _ (and-left b c q), leb-true _ _ (and-left (leb 128 (length t.states)) true (and-right b c q))),
     )

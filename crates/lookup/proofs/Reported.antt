@@ -26,23 +26,23 @@ use Rattle.lookup.proofs.Laws.{peb-there}
 -- ---- one PEB
 
 -- the class and counter found are those of the report
-pub peb-reported : (m : Medium) (lent : Tables) (i : ℕ) → i < m .count
-    → pebIn (tablesAfter (whole m) lent .pebs) (m .count) i ≡ some (classAt m i, counterAt m i)
+pub peb-reported : (m : Medium) (lent : Tables) (i : ℕ) → i < m.count
+    → pebIn (tablesAfter (whole m) lent .pebs) m.count i ≡ some (classAt m i, counterAt m i)
 unfolding pebWords
 peb-reported m lent i h =
     let row : ℕ → List ℕ = λ i. classAt m i ∷ counterAt m i ∷ [] in
-    let rows = concatBelow (m .count) row in
-    let rest = drop (length rows) (lent .pebs) in
-    sym (peb-there (rows ++ rest) (m .count) i h (simp length-append (omega (arith, peb-words-length m))))
-    ∙ rw (class-at (m .count) row rest refl (λ j. refl) i h, counter-at (m .count) row rest refl (λ j. refl) i h)
+    let rows = concatBelow m.count row in
+    let rest = drop (length rows) lent.pebs in
+    sym (peb-there (rows ++ rest) m.count i h (simp length-append (omega (arith, peb-words-length m))))
+    ∙ rw (class-at m.count row rest refl (λ j. refl) i h, counter-at m.count row rest refl (λ j. refl) i h)
 
 -- ---- one LEB
 
 -- the words of entry i are those of e
 record Holds (map : List ℕ) (i : ℕ) (e : Entry) : Type 0 where
-  pub volume-is : volumeWord map i ≡ e .volume
-  pub lnum-is : lnumWord map i ≡ e .lnum
-  pub peb-is : pebWord map i ≡ e .peb
+  pub volume-is : volumeWord map i ≡ e.volume
+  pub lnum-is : lnumWord map i ≡ e.lnum
+  pub peb-is : pebWord map i ≡ e.peb
 
 -- an entry in front moves the others by three words
 moved : (a b c : ℕ) (l : List ℕ) (i : ℕ) (e : Entry) → Holds l i e → Holds (a ∷ b ∷ c ∷ l) (suc i) e
@@ -50,7 +50,7 @@ moved a b c l i e h =
     let p : suc i * entryStride ≡ suc (suc (suc (i * entryStride))) = omega arith in
     let q : suc i * entryStride + 1 ≡ suc (suc (suc (i * entryStride + 1))) = omega arith in
     let r : suc i * entryStride + 2 ≡ suc (suc (suc (i * entryStride + 2))) = omega arith in
-    record { volume-is = rw p (h .volume-is); lnum-is = rw q (h .lnum-is); peb-is = rw r (h .peb-is) }
+    record { volume-is = rw p h.volume-is; lnum-is = rw q h.lnum-is; peb-is = rw r h.peb-is }
 
 module _ (r : List ℕ) where
   -- each entry has its words, and all words are an entry's
@@ -63,14 +63,14 @@ module _ (r : List ℕ) where
       go (inl q) f = (0, omega arith, rw q (record { volume-is = refl; lnum-is = refl; peb-is = refl }))
       go (inr q) f =
           let w = f q in
-          (suc (w .0), omega (arith, w .1), moved (x .volume) (x .lnum) (x .peb) (entryWords es ++ r) (w .0) e (w .2))
+          (suc w.0, omega (arith, w.1), moved x.volume x.lnum x.peb (entryWords es ++ r) w.0 e w.2)
 
   entry-of : (es : List Entry) (i : ℕ) → i < length es → (e : Entry) × List·Memᴰ e es × Holds (entryWords es ++ r) i e
   entry-of [] i h = absurd (omega arith)
   entry-of (x ∷ es) zero h = (x, List·Memᴰ·head refl, record { volume-is = refl; lnum-is = refl; peb-is = refl })
   entry-of (x ∷ es) (suc i) h =
       let w = entry-of es i (omega arith) in
-      (w .0, List·Memᴰ·tail (w .1), moved (x .volume) (x .lnum) (x .peb) (entryWords es ++ r) i (w .0) (w .2))
+      (w.0, List·Memᴰ·tail w.1, moved x.volume x.lnum x.peb (entryWords es ++ r) i w.0 w.2)
 
 -- what a place that is found says of its entry
 found-words : (map : List ℕ) (v l i p : ℕ) → placeAt map v l i ≡ some p
@@ -92,55 +92,55 @@ module _ (m : Medium) (lent : Tables) where
 
   abbrev rest : List ℕ
   rest =
-      replicate (mapWordsNeeded (m .count) - length (entryWords es)) noWord
-      ++ drop (length (mapWords (m .count) es)) (lent .map)
+      replicate (mapWordsNeeded m.count - length (entryWords es)) noWord
+      ++ drop (length (mapWords m.count es)) lent.map
 
   abbrev words : List ℕ
   words = entryWords es ++ rest
 
-  place-is : (v l : ℕ) → placeIn map′ (length es) v l ≡ mapO (λ x. x .1) (firstBelow (length es) (placeAt words v l))
+  place-is : (v l : ℕ) → placeIn map′ (length es) v l ≡ mapO (λ x. x.1) (firstBelow (length es) (placeAt words v l))
   unfolding placeIn mapWords
   place-is v l =
       let long : length es * entryStride ≤ length words = simp length-append (omega (arith, entry-words-length es)) in
-      let beyond = drop (length (mapWords (m .count) es)) (lent .map) in
+      let beyond = drop (length (mapWords m.count es)) lent.map in
       rw (append-assoc (entryWords es) _ beyond, le-leb _ (length words) long)
 
   -- an entry at which a place is found
   entry-found : (v l : ℕ) (x : ℕ × ℕ) → firstBelow (length es) (placeAt words v l) ≡ some x
-      → (e : Entry) × List·Memᴰ e es × (e .volume ≡ v) × (e .lnum ≡ l) × (e .peb ≡ x .1)
+      → (e : Entry) × List·Memᴰ e es × (e.volume ≡ v) × (e.lnum ≡ l) × (e.peb ≡ x.1)
   entry-found v l x a =
-      let h = first-hit (length es) (placeAt words v l) (x .0) (x .1) a in
-      let w = entry-of rest es (x .0) (h .0) in
-      let f = found-words words v l (x .0) (x .1) (h .1) in
-      (w .0, w .1, sym (w .2 .volume-is) ∙ f .0, sym (w .2 .lnum-is) ∙ f .1, sym (w .2 .peb-is) ∙ f .2)
+      let h = first-hit (length es) (placeAt words v l) x.0 x.1 a in
+      let w = entry-of rest es x.0 h.0 in
+      let f = found-words words v l x.0 x.1 h.1 in
+      (w.0, w.1, sym w.2.volume-is ∙ f .0, sym w.2.lnum-is ∙ f .1, sym w.2.peb-is ∙ f .2)
 
   -- what is found is in the map
   pub found-in-map : (v l p : ℕ) → placeIn map′ (length es) v l ≡ some p
-      → (e : Entry) × List·Memᴰ e es × (e .volume ≡ v) × (e .lnum ≡ l) × (e .peb ≡ p)
+      → (e : Entry) × List·Memᴰ e es × (e.volume ≡ v) × (e.lnum ≡ l) × (e.peb ≡ p)
   found-in-map v l p q =
-      let x = mapO-some (λ x. x .1) (firstBelow (length es) (placeAt words v l)) p (sym (place-is v l) ∙ q) in
-      let w = entry-found v l (x .0) (x .1) in
-      (w .0, w .1, w .2, w .3, w .4 ∙ x .2)
+      let x = mapO-some (λ x. x.1) (firstBelow (length es) (placeAt words v l)) p (sym (place-is v l) ∙ q) in
+      let w = entry-found v l x.0 x.1 in
+      (w.0, w.1, w.2, w.3, w.4 ∙ x .2)
 
   -- two entries of one LEB name one PEB
-  one-place : (d e : Entry) → List·Memᴰ d es → List·Memᴰ e es → d .volume ≡ e .volume → d .lnum ≡ e .lnum
-      → some (d .peb) ≡ some (e .peb)
+  one-place : (d e : Entry) → List·Memᴰ d es → List·Memᴰ e es → d.volume ≡ e.volume → d.lnum ≡ e.lnum
+      → some d.peb ≡ some e.peb
   unfolding entries mapOf
   one-place d e k j v l =
       let listed : (x : Entry) → List·Memᴰ x es → Listed 128 2 (records m) (places m) x = in-map 128 2 _ (places m) in
       sym (listed d k .place) ∙ ap₂ (places m) v l ∙ listed e j .place
 
   -- what is in the map is found
-  pub in-map-found : (e : Entry) → List·Memᴰ e es → placeIn map′ (length es) (e .volume) (e .lnum) ≡ some (e .peb)
+  pub in-map-found : (e : Entry) → List·Memᴰ e es → placeIn map′ (length es) e.volume e.lnum ≡ some e.peb
   in-map-found e k =
-      let at = placeAt words (e .volume) (e .lnum) in
-      place-is (e .volume) (e .lnum)
+      let at = placeAt words e.volume e.lnum in
+      place-is e.volume e.lnum
       ∙ by-option (firstBelow (length es) at)
       (λ a.
       let w = words-of rest es e k in
-      none-some {a = pebWord words (w .0)}
-      (sym (first-none-at (length es) at a (w .0) (w .1))
-      ∙ rw (eq-eqb _ _ (w .2 .volume-is), eq-eqb _ _ (w .2 .lnum-is))))
+      none-some {a = pebWord words w.0}
+      (sym (first-none-at (length es) at a w.0 w.1)
+      ∙ rw (eq-eqb _ _ w.2.volume-is, eq-eqb _ _ w.2.lnum-is)))
       (λ x a.
-      let u = entry-found (e .volume) (e .lnum) x a in
-      rw a (ap some (sym (u .4)) ∙ one-place (u .0) e (u .1) k (u .2) (u .3)))
+      let u = entry-found e.volume e.lnum x a in
+      rw a (ap some (sym u.4) ∙ one-place u.0 e u.1 k u.2 u.3))

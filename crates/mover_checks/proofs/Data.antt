@@ -81,7 +81,7 @@ crc-goes-on p at from to h e q =
 
 module _ (h : VidHeader) {m : Bool} where
   pub matching : m ≡ true → false ≡ damagedAs h m
-  matching e = rw e (go (eqb (h .«copy_flag») 0) (eqb (h .«vol_type») 2))
+  matching e = rw e (go (eqb h.«copy_flag» 0) (eqb h.«vol_type» 2))
     where
       go : (f s : Bool) → false ≡ not (f || true) || (s && false)
       go true true = refl
@@ -89,11 +89,11 @@ module _ (h : VidHeader) {m : Bool} where
       go false true = refl
       go false false = refl
 
-  pub flagged : m ≡ false → (h .«copy_flag» ≡ 0 → ⊥) → true ≡ damagedAs h m
-  flagged e n = rw (e, ne-eqb (h .«copy_flag») 0 n)
+  pub flagged : m ≡ false → (h.«copy_flag» ≡ 0 → ⊥) → true ≡ damagedAs h m
+  flagged e n = rw (e, ne-eqb h.«copy_flag» 0 n)
 
-  pub plain : m ≡ false → h .«copy_flag» ≡ 0 → eqb (h .«vol_type») 2 ≡ damagedAs h m
-  plain e f = rw (e, eq-eqb (h .«copy_flag») 0 f) (go (eqb (h .«vol_type») 2))
+  pub plain : m ≡ false → h.«copy_flag» ≡ 0 → eqb h.«vol_type» 2 ≡ damagedAs h m
+  plain e f = rw (e, eq-eqb h.«copy_flag» 0 f) (go (eqb h.«vol_type» 2))
     where
       go : (s : Bool) → s ≡ s && true
       go true = refl
@@ -102,23 +102,23 @@ module _ (h : VidHeader) {m : Bool} where
 -- ---- the new data size
 
 module _ {g : Geometry} {p : List ℕ} {h : VidHeader} (fits : Fits g p h) where
-  pub static-size : h .«vol_type» ≡ 2 → (h .«data_size» ≡ newSize g (copyOf g p h)) × (g .«data_start» + h .«data_size» ≤ length p)
+  pub static-size : h .«vol_type» ≡ 2 → (h.«data_size» ≡ newSize g (copyOf g p h)) × (g.«data_start» + h.«data_size» ≤ length p)
   unfolding copyOf newSize
-  static-size e = (rw (eq-eqb (h .«vol_type») 2 e), fits .data-fits)
+  static-size e = (rw (eq-eqb h.«vol_type» 2 e), fits.data-fits)
 
-  pub dynamic-size : (h .«vol_type» ≡ 2 → ⊥) → {size : ℕ} → size ≡ roundUp (g .unit) (dataEnd (take (g .«leb_size» - h .«data_pad») (drop (g .«data_start») p))) → size ≤ g .«leb_size»
-      → (size ≡ newSize g (copyOf g p h)) × (g .«data_start» + size ≤ length p)
+  pub dynamic-size : (h.«vol_type» ≡ 2 → ⊥) → {size : ℕ} → size ≡ roundUp g.unit (dataEnd (take (g.«leb_size» - h.«data_pad») (drop g.«data_start» p))) → size ≤ g.«leb_size»
+      → (size ≡ newSize g (copyOf g p h)) × (g.«data_start» + size ≤ length p)
   unfolding copyOf newSize
-  dynamic-size n e k = (rw (ne-eqb (h .«vol_type») 2 n) e, omega (arith, fits .whole, fits .placed .leb-fills))
+  dynamic-size n e k = (rw (ne-eqb h.«vol_type» 2 n) e, omega (arith, fits.whole, fits.placed.leb-fills))
 
 -- ---- what is found
 
 -- what was read of the copy
 pub record Read (g : Geometry) (p : List ℕ) (h : VidHeader) (size old new : ℕ) (damaged : Bool) : Type 0 where
   pub size-is : size ≡ newSize g (copyOf g p h)
-  pub old-is : old ≡ crcOf (part (g .«data_start») (h .«data_size») p)
-  pub new-is : new ≡ crcOf (part (g .«data_start») size p)
-  pub damaged-is : damaged ≡ damagedAs h (eqb old (h .«data_crc»))
+  pub old-is : old ≡ crcOf (part g.«data_start» h.«data_size» p)
+  pub new-is : new ≡ crcOf (part g.«data_start» size p)
+  pub damaged-is : damaged ≡ damagedAs h (eqb old h.«data_crc»)
 
 module _ {g : Geometry} {p : List ℕ} {h : VidHeader} {size old new : ℕ} {damaged : Bool} (r : Read g p h size old new damaged) where
   abbrev found : ℕ → ℕ → Examined
@@ -127,18 +127,18 @@ module _ {g : Geometry} {p : List ℕ} {h : VidHeader} {size old new : ℕ} {dam
   abbrev is : Examined
   is = examined g (copyOf g p h)
 
-  pub static-found : h .«vol_type» ≡ 2 → found 1 (h .«data_crc») ≡ is
+  pub static-found : h .«vol_type» ≡ 2 → found 1 h.«data_crc» ≡ is
   unfolding copyOf newFlag newCrc
-  static-found e = rw (r .damaged-is, r .old-is, r .size-is, eq-eqb (h .«vol_type») 2 e)
+  static-found e = rw (r.damaged-is, r.old-is, r.size-is, eq-eqb h.«vol_type» 2 e)
 
   module _ (dynamic : h .«vol_type» ≡ 2 → ⊥) where
     pub empty-found : size ≡ 0 → found 0 0 ≡ is
     unfolding copyOf newFlag newCrc
-    empty-found e = rw (r .damaged-is, r .old-is, ne-eqb (h .«vol_type») 2 dynamic, ← r .size-is, eq-eqb size 0 e)
+    empty-found e = rw (r.damaged-is, r.old-is, ne-eqb h.«vol_type» 2 dynamic, ← r .size-is, eq-eqb size 0 e)
 
     pub dynamic-found : (size ≡ 0 → ⊥) → found 1 new ≡ is
     unfolding copyOf newFlag newCrc
-    dynamic-found n = rw (r .damaged-is, r .old-is, r .new-is, ne-eqb (h .«vol_type») 2 dynamic, ← r .size-is, ne-eqb size 0 n)
+    dynamic-found n = rw (r.damaged-is, r.old-is, r.new-is, ne-eqb h.«vol_type» 2 dynamic, ← r .size-is, ne-eqb size 0 n)
 
 -- its new header
 pub renewed : (g : Geometry) (p : List ℕ) (h : VidHeader) (highest : ℕ) → renewedAs h (examined g (copyOf g p h)) (highest + 1) ≡ newVid g highest (copyOf g p h)
@@ -146,17 +146,17 @@ unfolding copyOf newVid
 renewed g p h highest = refl
 
 -- the data's end in whole units, of what was read
-module _ (g : Geometry) (p : List ℕ) (pad : ℕ) {at end : ℕ} (a : at ≡ g .«data_start») where
-  pub rounded : end ≡ dataEnd (take (at + (g .«leb_size» - pad) - at) (drop at p))
-      → (end + (g .unit - 1)) / g .unit * g .unit ≡ roundUp (g .unit) (dataEnd (take (g .«leb_size» - pad) (drop (g .«data_start») p)))
+module _ (g : Geometry) (p : List ℕ) (pad : ℕ) {at end : ℕ} (a : at ≡ g.«data_start») where
+  pub rounded : end ≡ dataEnd (take (at + (g.«leb_size» - pad) - at) (drop at p))
+      → (end + (g.unit - 1)) / g.unit * g.unit ≡ roundUp g.unit (dataEnd (take (g.«leb_size» - pad) (drop g.«data_start» p)))
   unfolding roundUp
   rounded e =
-      let d : at + (g .«leb_size» - pad) - at ≡ g .«leb_size» - pad = omega arith in
-      let z : end ≡ dataEnd (take (g .«leb_size» - pad) (drop (g .«data_start») p)) = rw (d, a) at e in
+      let d : at + (g.«leb_size» - pad) - at ≡ g.«leb_size» - pad = omega arith in
+      let z : end ≡ dataEnd (take (g.«leb_size» - pad) (drop g.«data_start» p)) = rw (d, a) at e in
       rw z
 
-  pub rounded-within : Placed g → end ≤ length (take (at + (g .«leb_size» - pad) - at) (drop at p)) → (end + (g .unit - 1)) / g .unit * g .unit ≤ g .«leb_size»
+  pub rounded-within : Placed g → end ≤ length (take (at + (g.«leb_size» - pad) - at) (drop at p)) → (end + (g.unit - 1)) / g.unit * g.unit ≤ g.«leb_size»
   unfolding roundUp
   rounded-within P h =
-      let l = length-take (at + (g .«leb_size» - pad) - at) (drop at p) in
-      round-within (g .unit) end (g .«leb_size») (P .unit-above) (P .unit-divides) (omega arith)
+      let l = length-take (at + (g.«leb_size» - pad) - at) (drop at p) in
+      round-within g.unit end g.«leb_size» P.unit-above P.unit-divides (omega arith)

@@ -25,14 +25,14 @@ use Rattle.mover_rules.specs.declared.Plan.{Plan}
 -- ---- the geometry
 
 module _ (p : Plan) where
-  pub measured-by : allOf (geometryRules (p .«peb_size») (p .unit) (p .«sub_unit»)) ≡ true → Measured (planGeometry p) p
+  pub measured-by : allOf (geometryRules p.«peb_size» p.unit p.«sub_unit») ≡ true → Measured (planGeometry p) p
   unfolding geometryOf geometryRules makeGeometry planGeometry
   measured-by r =
-      let u = unit-range (p .unit) (each-holds (geometryRules (p .«peb_size») (p .unit) (p .«sub_unit»)) r 0) in
+      let u = unit-range p.unit (each-holds (geometryRules p.«peb_size» p.unit p.«sub_unit») r 0) in
       record {
         is = refl;
         inside = r;
-        placed = placed (p .«peb_size») (p .unit) (p .«sub_unit») (planGeometry p) (rw r);
+        placed = placed p.«peb_size» p.unit p.«sub_unit» (planGeometry p) (rw r);
         same-unit = refl;
         unit-most = omega arith;
       }
@@ -40,12 +40,12 @@ module _ (p : Plan) where
   refused-not : {g : Geometry} → _≡_ {A = Answer Geometry} (refused 2 0) (given g) → ⊥
   refused-not e = let z : _≡_ {A = ℕ} 0 1 = cc in omega arith
 
-  pub measured : (g : Geometry) → geometryOf (p .«peb_size») (p .unit) (p .«sub_unit») ≡ given g → Measured g p
+  pub measured : (g : Geometry) → geometryOf p.«peb_size» p.unit p.«sub_unit» ≡ given g → Measured g p
   unfolding geometryOf planGeometry
   measured g e =
-      let c = cond-yes (allOf (geometryRules (p .«peb_size») (p .unit) (p .«sub_unit»))) refused-not e in
-      let is : planGeometry p ≡ g = given-is (c .1) in
-      subst (λ (x : Geometry). Measured x p) is (measured-by (c .0))
+      let c = cond-yes (allOf (geometryRules p.«peb_size» p.unit p.«sub_unit»)) refused-not e in
+      let is : planGeometry p ≡ g = given-is c.1 in
+      subst (λ (x : Geometry). Measured x p) is (measured-by c.0)
     where
       given-is : {a b : Geometry} → _≡_ {A = Answer Geometry} (given a) (given b) → a ≡ b
       given-is e = cc
@@ -61,10 +61,10 @@ good-rules v rules x e = go (eqb v 1) (eqb v 0) (allOf rules) e
     go false true r e = absurd (false≢true e)
     go false false r e = absurd (false≢true e)
 
-size-most : (size : ℕ) (h : VidHeader) → isGood (judgeVid size h) ≡ true → h .«data_size» ≤ size
+size-most : (size : ℕ) (h : VidHeader) → isGood (judgeVid size h) ≡ true → h.«data_size» ≤ size
 unfolding judgeVid vidRules
 size-most size h e =
-    let r = leb-true (h .«data_size») (size - h .«data_pad») (each-holds (vidRules size h) (good-rules (h .version) (vidRules size h) h e) 6) in
+    let r = leb-true h.«data_size» (size - h.«data_pad») (each-holds (vidRules size h) (good-rules h.version (vidRules size h) h e) 6) in
     omega arith
 
 room : (i size len : ℕ) → i < len / size → i * size + size ≤ len
@@ -74,20 +74,20 @@ pub running : (g : Geometry) (p : Plan) → Measured g p → (image : List ℕ) 
 unfolding runnable stepRules imageRules
 running g p m image e =
     let r : (k : ℕ) → getD (stepRules p image) k true ≡ true = each-holds (stepRules p image) e in
-    let most = leb-true (length image / g .«peb_size») 4096 (each-holds (imageRules g image) (rw (m .is) (r 1)) 2) in
-    let o = ltb-true (p .old) (length image / g .«peb_size») (rw (m .is) (r 2)) in
-    let t = ltb-true (p .target) (length image / g .«peb_size») (rw (m .is) (r 3)) in
-    let v : isGood (judgeVid (g .«leb_size») (p .vid)) ≡ true = rw (m .is) (r 5) in
+    let most = leb-true (length image / g.«peb_size») 4096 (each-holds (imageRules g image) (rw m.is (r 1)) 2) in
+    let o = ltb-true p.old (length image / g.«peb_size») (rw m.is (r 2)) in
+    let t = ltb-true p.target (length image / g.«peb_size») (rw m.is (r 3)) in
+    let v : isGood (judgeVid g.«leb_size» p.vid) ≡ true = rw m.is (r 5) in
     record {
       measured = m;
       old-below = omega arith;
       target-below = omega arith;
-      old-room = room (p .old) (g .«peb_size») (length image) o;
-      target-room = room (p .target) (g .«peb_size») (length image) t;
-      apart = eqb-false (p .old) (p .target) (not-true (eqb (p .old) (p .target)) (r 4));
+      old-room = room p.old g.«peb_size» (length image) o;
+      target-room = room p.target g.«peb_size» (length image) t;
+      apart = eqb-false p.old p.target (not-true (eqb p.old p.target) (r 4));
       vid-good = v;
       ec-good = r 6;
-      size-fits = size-most (g .«leb_size») (p .vid) v;
+      size-fits = size-most g.«leb_size» p.vid v;
     }
 
 -- a plan that may run has a geometry within the rules

@@ -23,11 +23,11 @@ use Rattle.mover_rules.proofs.Rules.{runs-on}
 
 module _ (g : Geometry) (p : Plan) (image : List ℕ) (r : Running g p image) where
   -- unit j starts within the data
-  pub unit-within : (j : ℕ) → j < dataSteps p → j * g .unit < p .vid .«data_size»
+  pub unit-within : (j : ℕ) → j < dataSteps p → j * g.unit < p.vid.«data_size»
   unfolding dataSteps
   unit-within j h =
-      let k : j < (p .vid .«data_size» + (g .unit - 1)) / g .unit = rw (r .measured .same-unit) at h in
-      unit-starts j (p .vid .«data_size») (g .unit) (r .measured .placed .unit-above) k
+      let k : j < (p.vid.«data_size» + (g.unit - 1)) / g.unit = rw r.measured.same-unit at h in
+      unit-starts j p.vid.«data_size» g.unit r.measured.placed.unit-above k
 
 module _ (p : Plan) (image : List ℕ) where
   abbrev g : Geometry
@@ -37,20 +37,20 @@ module _ (p : Plan) (image : List ℕ) where
   unfolding writeAfter unitBytes
   writes-within e =
       let r = runs-on p image e in
-      let P = r .measured .placed in
+      let P = r.measured.placed in
       each-write g (relocation p image) (λ w. Within w image)
-      (omega (arith, vid-64 (p .vid), r .target-room, P .data-after-vid, P .leb-fills))
-      (λ j h. let u = unit-within g p image r j h in rw length-take (omega (arith, r .target-room, r .size-fits, P .leb-fills)))
-      (r .old-room)
-      (omega (arith, ec-64 (p .ec), r .old-room, P .vid-after-ec, P .data-after-vid, P .leb-fills))
+      (omega (arith, vid-64 p.vid, r.target-room, P.data-after-vid, P.leb-fills))
+      (λ j h. let u = unit-within g p image r j h in rw length-take (omega (arith, r.target-room, r.size-fits, P.leb-fills)))
+      r.old-room
+      (omega (arith, ec-64 p.ec, r.old-room, P.vid-after-ec, P.data-after-vid, P.leb-fills))
       tt
 
   writes-octets : (k : ℕ) → Bytes image → Octets (writeAfter p image k)
   unfolding writeAfter unitBytes
   writes-octets k b =
-      each-write g (relocation p image) Octets (vid-octets (p .vid))
-      (λ j h. bytes-part (pebStart g (p .old) + (g .«data_start» + j * g .unit)) (min (g .unit) (p .vid .«data_size» - j * g .unit)) image b)
-      tt (ec-octets (p .ec)) tt k
+      each-write g (relocation p image) Octets (vid-octets p.vid)
+      (λ j h. bytes-part (pebStart g p.old + (g.«data_start» + j * g.unit)) (min g.unit (p.vid.«data_size» - j * g.unit)) image b)
+      tt (ec-octets p.ec) tt k
 
   late : (k : ℕ) → stepCount p ≤ k → writeAfter p image k ≡ nothing
   unfolding writeAfter stepCount

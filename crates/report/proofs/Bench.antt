@@ -71,7 +71,7 @@ chosenOf l = sequenceOf (chosen 2 (among l) 0 0)
   where
     sequenceOf : Option (ℕ × Copy) → ℕ
     sequenceOf none = 0
-    sequenceOf (some x) = x .1 .header .sequence
+    sequenceOf (some x) = x.1.header.sequence
 
 -- a table of one record, "reserved 1": dynamic, alignment 1, pad 0, marker 0, name "log", flags 0, and its CRC
 recordHead : List ℕ
@@ -98,7 +98,7 @@ benchTable =
     -- "One unsound copy alone: chosen, state 3."
     ∷ (chosenOf (wrong 8 ∷ []), 8) ∷ (stateOf records (facesOf chip 1 (among (wrong 8 ∷ []))) 0, 3) ∷ []
 
-pub bench-values : map (λ x. x .0) benchTable ≡ map (λ x. x .1) benchTable
+pub bench-values : map (λ x. x.0) benchTable ≡ map (λ x. x.1) benchTable
 unfolding benchTable tap crcBit crcBits crcByte crcFrom roundUp vidStart dataStart lebSize makeGeometry recordCount meanOf
     freePeb chosenOf chosen pick among plain right wrong copy copyOf peb abc chip records recordHead
     stateOf recordFor recordOf usedOf facesOf faceOf beFrom toBeOn

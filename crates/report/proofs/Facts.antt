@@ -56,7 +56,7 @@ place-is (some p) i e = ap some (eqb-true p i e)
 
 pub record Parts (m : Medium) : Type 0 where
   pub none5678 : refusal5678 m ≡ none
-  pub none9 : refusal9 (m .count) (copies (m .views)) ≡ none
+  pub none9 : refusal9 m.count (copies m.views) ≡ none
   pub none10 : refusal10 m ≡ none
   pub none1112 : refusal1112 (tableLeb m (faces m)) (records m) (faces m) (places m) ≡ none
 
@@ -64,39 +64,39 @@ pub parts : (m : Medium) → refusal m ≡ none → Parts m
 unfolding refusal
 parts m e =
     let a = orElse-none (refusal5678 m) _ e in
-    let b = orElse-none (refusal9 (m .count) (copies (m .views))) _ (a .1) in
-    let c = orElse-none (refusal10 m) _ (b .1) in
-    record { none5678 = a .0; none9 = b .0; none10 = c .0; none1112 = c .1 }
+    let b = orElse-none (refusal9 m.count (copies m.views)) _ a.1 in
+    let c = orElse-none (refusal10 m) _ b.1 in
+    record { none5678 = a.0; none9 = b.0; none10 = c.0; none1112 = c.1 }
 
 pub of-parts : (m : Medium) → Parts m → refusal m ≡ none
 unfolding refusal
-of-parts m p = rw (p .none5678, p .none9, p .none10) (p .none1112)
+of-parts m p = rw (p.none5678, p.none9, p.none10) p.none1112
 
 -- ---- 5 to 8
 
 module _ (m : Medium) where
   -- the image sequence that refusal 7 compares with
   abbrev pub seqIn : Option ℕ
-  seqIn = imageSeq (m .count) (m .views)
+  seqIn = imageSeq m.count m.views
 
-  pub none5678-at : refusal5678 m ≡ none → (i : ℕ) → i < m .count
-      → (ecRefusal (m .geometry) seqIn (m .views i .ec) ≡ none) × (vidRefusal (m .views i .vid) ≡ none)
+  pub none5678-at : refusal5678 m ≡ none → (i : ℕ) → i < m.count
+      → (ecRefusal m.geometry seqIn (m.views i .ec) ≡ none) × (vidRefusal (m.views i .vid) ≡ none)
   unfolding refusal5678 viewRefusal
   none5678-at e i h =
-      orElse-none (ecRefusal (m .geometry) seqIn (m .views i .ec)) (vidRefusal (m .views i .vid))
-      (first-none-at (m .count) (λ i. viewRefusal (m .geometry) seqIn (m .views i)) (mapO-none atPeb _ e) i h)
+      orElse-none (ecRefusal m.geometry seqIn (m.views i .ec)) (vidRefusal (m.views i .vid))
+      (first-none-at m.count (λ i. viewRefusal m.geometry seqIn (m.views i)) (mapO-none atPeb _ e) i h)
 
 -- a good EC that is not refused names the geometry's starts and the sequence compared with
 pub ec-agrees : (g : Geometry) (s : ℕ) (v : EcView) (h : EcHeader) → ecRefusal g (some s) v ≡ none → goodEc v ≡ some h
-    → (h .«vid_start» ≡ g .«vid_start») × (h .«data_start» ≡ g .«data_start») × (h .«image_seq» ≡ s)
+    → (h.«vid_start» ≡ g.«vid_start») × (h.«data_start» ≡ g.«data_start») × (h.«image_seq» ≡ s)
 ec-agrees g s (ecGood x) h r q =
     let p : x ≡ h = cc in
-    let d = orElse-none (when (not (eqb (x .«vid_start») (g .«vid_start») && eqb (x .«data_start») (g .«data_start»))) 6) _ r in
-    let t = not-false _ (when-none _ 6 (d .0)) in
+    let d = orElse-none (when (not (eqb x.«vid_start» g.«vid_start» && eqb x.«data_start» g.«data_start»)) 6) _ r in
+    let t = not-false _ (when-none _ 6 d.0) in
     rw (← p) (
-      eqb-true (x .«vid_start») _ (and-left _ (eqb (x .«data_start») (g .«data_start»)) t),
-      eqb-true (x .«data_start») _ (and-right (eqb (x .«vid_start») (g .«vid_start»)) _ t),
-      differs-false s (x .«image_seq») (when-none _ 7 (d .1)),
+      eqb-true x.«vid_start» _ (and-left _ (eqb x.«data_start» g.«data_start») t),
+      eqb-true x.«data_start» _ (and-right (eqb x.«vid_start» g.«vid_start») _ t),
+      differs-false s x.«image_seq» (when-none _ 7 d.1),
     )
 ec-agrees g s ecNewer h r q = none-some q
 ec-agrees g s ecBlank h r q = none-some q
@@ -104,33 +104,33 @@ ec-agrees g s ecLost h r q = none-some q
 
 -- where one EC is good, and every good one has the sequence s, s is what refusal 7 compares with
 pub imageSeq-is : (n : ℕ) (vs : Views) (s t : ℕ) (h : EcHeader) → t < n → ecs vs t ≡ some h
-    → ((i : ℕ) → i < n → (x : EcHeader) → ecs vs i ≡ some x → x .«image_seq» ≡ s) → imageSeq n vs ≡ some s
+    → ((i : ℕ) → i < n → (x : EcHeader) → ecs vs i ≡ some x → x.«image_seq» ≡ s) → imageSeq n vs ≡ some s
 unfolding imageSeq
 imageSeq-is n vs s t h k q all =
     let r = first-some n (ecs vs) t h k q in
-    let f = first-hit n (ecs vs) (r .0 .0) (r .0 .1) (r .1) in
-    rw (r .1, all (r .0 .0) (f .0) (r .0 .1) (f .1))
+    let f = first-hit n (ecs vs) r.0.0 r.0.1 r.1 in
+    rw (r.1, all r.0.0 f.0 r.0.1 f.1)
 
 module _ (m : Medium) where
   -- enough for no refusal 5 to 8
-  pub no-5678 : (s t : ℕ) (h : EcHeader) → t < m .count → ecs (m .views) t ≡ some h
-      → ((i : ℕ) → i < m .count → (ecRefusal (m .geometry) (some s) (m .views i .ec) ≡ none) × (vidRefusal (m .views i .vid) ≡ none))
+  pub no-5678 : (s t : ℕ) (h : EcHeader) → t < m.count → ecs m.views t ≡ some h
+      → ((i : ℕ) → i < m.count → (ecRefusal m.geometry (some s) (m.views i .ec) ≡ none) × (vidRefusal (m.views i .vid) ≡ none))
       → (seqIn m ≡ some s) × (refusal5678 m ≡ none)
   unfolding refusal5678 viewRefusal
   no-5678 s t h k q all =
       let r : seqIn m ≡ some s =
-      imageSeq-is (m .count) (m .views) s t h k q (λ i k x p. ec-agrees (m .geometry) s (m .views i .ec) x (all i k .0) p .2) in
-      (r, rw (first-none (m .count) (λ i. viewRefusal (m .geometry) (seqIn m) (m .views i)) (λ i k. rw (r, all i k .0, all i k .1))))
+      imageSeq-is m.count m.views s t h k q (λ i k x p. ec-agrees m.geometry s (m.views i .ec) x (all i k .0) p .2) in
+      (r, rw (first-none m.count (λ i. viewRefusal m.geometry (seqIn m) (m.views i)) (λ i k. rw (r, all i k .0, all i k .1))))
 
   -- every good EC of an image that attaches
-  pub good-ec : refusal5678 m ≡ none → (i : ℕ) (h : EcHeader) → i < m .count → ecs (m .views) i ≡ some h
-      → (h .«vid_start» ≡ m .geometry .«vid_start») × (h .«data_start» ≡ m .geometry .«data_start») × (seqIn m ≡ some (h .«image_seq»))
+  pub good-ec : refusal5678 m ≡ none → (i : ℕ) (h : EcHeader) → i < m.count → ecs m.views i ≡ some h
+      → (h.«vid_start» ≡ m.geometry.«vid_start») × (h.«data_start» ≡ m.geometry.«data_start») × (seqIn m ≡ some h.«image_seq»)
   unfolding imageSeq
   good-ec e i h k q =
-      let r = first-some (m .count) (ecs (m .views)) i h k q in
-      let s : seqIn m ≡ some (r .0 .1 .«image_seq») = rw (r .1) in
-      let a = ec-agrees (m .geometry) (r .0 .1 .«image_seq») (m .views i .ec) h (rw s at (none5678-at m e i k .0)) q in
-      (a .0, a .1, s ∙ ap some (sym (a .2)))
+      let r = first-some m.count (ecs m.views) i h k q in
+      let s : seqIn m ≡ some r.0.1.«image_seq» = rw r.1 in
+      let a = ec-agrees m.geometry r.0.1.«image_seq» (m.views i .ec) h (rw s at (none5678-at m e i k .0)) q in
+      (a.0, a.1, s ∙ ap some (sym a.2))
 
 -- ---- 9
 
@@ -151,8 +151,8 @@ module _ (n : ℕ) (cs : ℕ → Option Copy) where
 
   -- two good VID headers of one user or layout LEB that share a sequence are one
   pub one-sequence : refusal9 n cs ≡ none → (i j : ℕ) (c d : Copy) → i < n → j < n → cs i ≡ some c → cs j ≡ some d
-      → isMappable (c .header .volume) ≡ true → c .header .volume ≡ d .header .volume → c .header .lnum ≡ d .header .lnum
-      → c .header .sequence ≡ d .header .sequence → i ≡ j
+      → isMappable c.header.volume ≡ true → c.header.volume ≡ d.header.volume → c.header.lnum ≡ d.header.lnum
+      → c.header.sequence ≡ d.header.sequence → i ≡ j
   one-sequence e i j c d hi hj p q m v l s = ⊎-elim (λ z. z) go (eq-or-ne i j)
     where
       go : i ≢ j → i ≡ j
@@ -160,7 +160,7 @@ module _ (n : ℕ) (cs : ℕ → Option Copy) where
           ⊎-elim
           (λ (b : j < i). clash (rw (p, q) at (none9-at e i j hi b)) (rw (m, eq-eqb _ _ v, eq-eqb _ _ l, eq-eqb _ _ s)))
           (λ (b : i ≤ j). clash (rw (p, q) at (none9-at e j i hj (omega arith)))
-          (rw (← v, m, eq-eqb _ _ (sym l), eq-eqb _ _ (sym s), eq-eqb (c .header .volume) (c .header .volume) refl)))
+          (rw (← v, m, eq-eqb _ _ (sym l), eq-eqb _ _ (sym s), eq-eqb c.header.volume c.header.volume refl)))
           (lt-or-le j i)
 
   -- so 01's words leave one choice, whatever the order of the PEBs
@@ -181,19 +181,19 @@ module _ (n : ℕ) (cs : ℕ → Option Copy) where
         go : (o : Option (ℕ × Copy)) → pick n here ≡ o → pick n here ≡ some (i, c)
         go none q = absurd (pick-some n here i c h p q)
         go (some x) q =
-            let r = pick-literal n here (x .0) (x .1) q in
+            let r = pick-literal n here x.0 x.1 q in
             let a = ofKey-some v l (cs i) c p in
-            let b = ofKey-some v l (cs (x .0)) (x .1) (r .1) in
-            same (x .0) (x .1) q (r .1)
-            (one-sequence e i (x .0) c (x .1) h (r .0) (a .0) (b .0) (rw (a .1) m) (a .1 ∙ sym (b .1)) (a .2 ∙ sym (b .2))
-            (choice-sequence n here i (x .0) c (x .1) h (r .0) p (r .1) is (r .2)))
+            let b = ofKey-some v l (cs x.0) x.1 r.1 in
+            same x.0 x.1 q r.1
+            (one-sequence e i x.0 c x.1 h r.0 a.0 b.0 (rw a.1 m) (a.1 ∙ sym b.1) (a.2 ∙ sym b.2)
+            (choice-sequence n here i x.0 c x.1 h r.0 p r.1 is r.2))
 
 -- ---- 10
 
 -- a copy is of class 1, 2, 5 or 6
 pub copy-unused : (e : EcView) (c : Copy) → isUnused e (vidGood c) ≡ false
 copy-unused e c =
-    by-test (isMappable (c .header .volume)) (λ q. rw q) (λ q. rw q (by-test (eqb (c .header .compat) 1) (λ r. rw r) (λ r. rw r)))
+    by-test (isMappable c.header.volume) (λ q. rw q) (λ q. rw q (by-test (eqb c.header.compat 1) (λ r. rw r) (λ r. rw r)))
 
 some-not-unused : (e : EcView) (v : VidView) (c : Copy) → goodVid v ≡ some c → isUnused e v ≡ false
 some-not-unused e (vidGood d) c q = copy-unused e d
@@ -202,11 +202,11 @@ some-not-unused e vidBlank c q = none-some q
 some-not-unused e vidBad c q = none-some q
 
 abbrev unusedIn : Medium → ℕ → Bool
-unusedIn m i = isUnused (m .views i .ec) (m .views i .vid)
+unusedIn m i = isUnused (m.views i .ec) (m.views i .vid)
 
 -- enough for no refusal 10: a copy
-pub no-10 : (m : Medium) (i : ℕ) (c : Copy) → i < m .count → copies (m .views) i ≡ some c → refusal10 m ≡ none
+pub no-10 : (m : Medium) (i : ℕ) (c : Copy) → i < m.count → copies m.views i ≡ some c → refusal10 m ≡ none
 unfolding refusal10
 no-10 m i c h e =
-    by-test (allBelow (m .count) (unusedIn m))
-    (λ q. clash (some-not-unused (m .views i .ec) (m .views i .vid) c e) (all-at (m .count) (unusedIn m) q i h)) (λ q. rw q)
+    by-test (allBelow m.count (unusedIn m))
+    (λ q. clash (some-not-unused (m.views i .ec) (m.views i .vid) c e) (all-at m.count (unusedIn m) q i h)) (λ q. rw q)

@@ -21,13 +21,13 @@ module _ {A : Type 0} (f : ℕ → Option A) (before : A → A → Type 0) where
   module _ (total : (a b : A) → before a b ⊎ before b a) (trans : (a b c : A) → before a b → before b c → before a c) where
     module _ (n : ℕ) where
       -- with one number more the first stays, or is the new one
-      stays : (b : First n) → ((x : A) → f n ≡ some x → before (b .value) x) → First (suc n)
+      stays : (b : First n) → ((x : A) → f n ≡ some x → before b.value x) → First (suc n)
       stays b h = record {
-        at = b .at;
+        at = b.at;
         below = omega arith;
-        value = b .value;
-        is = b .is;
-        leads = step-below (λ i. (x : A) → f i ≡ some x → before (b .value) x) n (b .leads) h;
+        value = b.value;
+        is = b.is;
+        leads = step-below (λ i. (x : A) → f i ≡ some x → before b.value x) n b.leads h;
       }
 
       newer : (a : A) → f n ≡ some a → ((i : ℕ) → i < n → (x : A) → f i ≡ some x → before a x) → First (suc n)
@@ -46,9 +46,9 @@ module _ {A : Type 0} (f : ℕ → Option A) (before : A → A → Type 0) where
       step (some a) e (inr b) =
           inr
           (⊎-elim
-          (λ (p : before (b .value) a). stays b (λ x q. let r : a ≡ x = cc in rw r at p))
-          (λ (p : before a (b .value)). newer a e (λ i k x q. trans a (b .value) x p (b .leads i k x q)))
-          (total (b .value) a))
+          (λ (p : before b.value a). stays b (λ x q. let r : a ≡ x = cc in rw r at p))
+          (λ (p : before a b.value). newer a e (λ i k x q. trans a b.value x p (b.leads i k x q)))
+          (total b.value a))
 
     all-or-first : (n : ℕ) → Nothing n ⊎ First n
     all-or-first zero = inl (λ i k. absurd (omega arith))

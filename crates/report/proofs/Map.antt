@@ -37,7 +37,7 @@ module _ {A : Type 0} where
   mem-concat zero f x m = absurd (List·Memᴰ·not-nil m)
   mem-concat (suc n) f x m =
       ⊎-elim
-      (λ h. let r = mem-concat n f x h in (r .0, omega (arith, r .1), r .2))
+      (λ h. let r = mem-concat n f x h in (r.0, omega (arith, r.1), r.2))
       (λ h. (n, omega arith, h))
       (List·Memᴰ·append-cases (concatBelow n f) m)
 
@@ -83,8 +83,8 @@ module _ {A : Type 0} (R : A → A → Type 0) where
   ascending-append : (s t : List A) → Ascending s → Ascending t → ((x y : A) → List·Memᴰ x s → List·Memᴰ y t → R x y) → Ascending (s ++ t)
   ascending-append [] t a b h = b
   ascending-append (x ∷ s) t a b h = (
-    λ y m. ⊎-elim (λ k. a .0 y k) (λ k. h x y (List·Memᴰ·head refl) k) (List·Memᴰ·append-cases s m),
-    ascending-append s t (a .1) b (λ u w k j. h u w (List·Memᴰ·tail k) j),
+    λ y m. ⊎-elim (λ k. a.0 y k) (λ k. h x y (List·Memᴰ·head refl) k) (List·Memᴰ·append-cases s m),
+    ascending-append s t a.1 b (λ u w k j. h u w (List·Memᴰ·tail k) j),
   )
 
   ascending-concat : (n : ℕ) (f : ℕ → List A) → ((i : ℕ) → i < n → Ascending (f i))
@@ -93,7 +93,7 @@ module _ {A : Type 0} (R : A → A → Type 0) where
   ascending-concat (suc n) f a h =
       ascending-append (concatBelow n f) (f n)
       (ascending-concat n f (λ i k. a i (omega arith)) (λ i j k q. h i j k (omega arith))) (a n (omega arith))
-      (λ x y m k. let r = mem-concat n f x m in h (r .0) n (r .1) (omega arith) x y (r .2) k)
+      (λ x y m k. let r = mem-concat n f x m in h r.0 n r.1 (omega arith) x y r.2 k)
 
   -- two ascending lists with the same members are one
   module _ (irreflexive : (x : A) → R x x → ⊥) (asymmetric : (x y : A) → R x y → R y x → ⊥) where
@@ -104,29 +104,29 @@ module _ {A : Type 0} (R : A → A → Type 0) where
     ascending-unique (x ∷ s) [] a b f h = absurd (List·Memᴰ·not-nil (f x (List·Memᴰ·head refl)))
     ascending-unique (x ∷ s) (y ∷ t) a b f h =
         ap₂ _∷_ heads
-        (ascending-unique s t (a .1) (b .1)
+        (ascending-unique s t a.1 b.1
         (λ z m. fore z m (List·Memᴰ·cases-cons (f z (List·Memᴰ·tail m))))
         (λ z m. back z m (List·Memᴰ·cases-cons (h z (List·Memᴰ·tail m)))))
       where
         heads : x ≡ y
         heads =
             ⊎-elim (λ e. e)
-            (λ m. ⊎-elim (λ e. sym e) (λ k. absurd (asymmetric x y (a .0 y k) (b .0 x m))) (List·Memᴰ·cases-cons (h y (List·Memᴰ·head refl))))
+            (λ m. ⊎-elim (λ e. sym e) (λ k. absurd (asymmetric x y (a.0 y k) (b.0 x m))) (List·Memᴰ·cases-cons (h y (List·Memᴰ·head refl))))
             (List·Memᴰ·cases-cons (f x (List·Memᴰ·head refl)))
 
         fore : (z : A) → List·Memᴰ z s → (z ≡ y) ⊎ List·Memᴰ z t → List·Memᴰ z t
-        fore z m (inl e) = absurd (irreflexive x (subst (R x) (e ∙ sym heads) (a .0 z m)))
+        fore z m (inl e) = absurd (irreflexive x (subst (R x) (e ∙ sym heads) (a.0 z m)))
         fore z m (inr k) = k
 
         back : (z : A) → List·Memᴰ z t → (z ≡ x) ⊎ List·Memᴰ z s → List·Memᴰ z s
-        back z m (inl e) = absurd (irreflexive y (subst (R y) (e ∙ heads) (b .0 z m)))
+        back z m (inl e) = absurd (irreflexive y (subst (R y) (e ∙ heads) (b.0 z m)))
         back z m (inr k) = k
 
 -- ---- the map's members and order
 
 -- "by volume then LEB"
 abbrev pub Before : Entry → Entry → Type 0
-Before x y = (x .volume < y .volume) ⊎ ((x .volume ≡ y .volume) × (x .lnum < y .lnum))
+Before x y = (x.volume < y.volume) ⊎ ((x.volume ≡ y.volume) × (x.lnum < y.lnum))
 
 before-irreflexive : (x : Entry) → Before x x → ⊥
 before-irreflexive x (inl h) = omega arith
@@ -140,14 +140,14 @@ before-asymmetric x y (inr h) (inr k) = omega arith
 
 -- the map has the entry: a LEB below reserved of a volume below k, or a layout LEB below m, and its place
 pub record Listed (k m : ℕ) (t : List ℕ) (ps : Places) (e : Entry) : Type 0 where
-  pub key : ((e .volume < k) × (e .lnum < reservedOf (recordFor t (e .volume)))) ⊎ ((e .volume ≡ layoutVolume) × (e .lnum < m))
-  pub place : ps (e .volume) (e .lnum) ≡ some (e .peb)
+  pub key : ((e.volume < k) × (e.lnum < reservedOf (recordFor t e.volume))) ⊎ ((e.volume ≡ layoutVolume) × (e.lnum < m))
+  pub place : ps e.volume e.lnum ≡ some e.peb
 
-entry-mem : (v l : ℕ) (o : Option ℕ) (e : Entry) → List·Memᴰ e (entryAt v l o) → (e .volume ≡ v) × (e .lnum ≡ l) × (o ≡ some (e .peb))
+entry-mem : (v l : ℕ) (o : Option ℕ) (e : Entry) → List·Memᴰ e (entryAt v l o) → (e.volume ≡ v) × (e.lnum ≡ l) × (o ≡ some e.peb)
 entry-mem v l none e m = absurd (List·Memᴰ·not-nil m)
 entry-mem v l (some p) e m =
     let q = List·Memᴰ·eq-of-singleton m in
-    (ap (λ (x : Entry). x .volume) q, ap (λ (x : Entry). x .lnum) q, sym (ap (λ (x : Entry). some (x .peb)) q))
+    (ap (λ (x : Entry). x.volume) q, ap (λ (x : Entry). x.lnum) q, sym (ap (λ (x : Entry). some x.peb) q))
 
 entry-in : (v l : ℕ) (o : Option ℕ) (p : ℕ) → o ≡ some p → List·Memᴰ (record { volume = v; lnum = l; peb = p }) (entryAt v l o)
 entry-in v l o p e = rw e (List·Memᴰ·head refl)
@@ -164,12 +164,12 @@ abbrev layout : ℕ → Places → List Entry
 layout m ps = entriesOf ps layoutVolume m
 
 module _ (ps : Places) (v r : ℕ) where
-  in-volume : (e : Entry) → List·Memᴰ e (entriesOf ps v r) → (e .volume ≡ v) × (e .lnum < r) × (ps v (e .lnum) ≡ some (e .peb))
-  in-volume e h = let s = mem-concat r (λ l. entryAt v l (ps v l)) e h in at (s .0) (s .1) (entry-mem v (s .0) (ps v (s .0)) e (s .2))
+  in-volume : (e : Entry) → List·Memᴰ e (entriesOf ps v r) → (e.volume ≡ v) × (e.lnum < r) × (ps v e.lnum ≡ some e.peb)
+  in-volume e h = let s = mem-concat r (λ l. entryAt v l (ps v l)) e h in at s.0 s.1 (entry-mem v s.0 (ps v s.0) e s.2)
     where
-      at : (l : ℕ) → l < r → (e .volume ≡ v) × (e .lnum ≡ l) × (ps v l ≡ some (e .peb))
-          → (e .volume ≡ v) × (e .lnum < r) × (ps v (e .lnum) ≡ some (e .peb))
-      at l h q = (q .0, rw (q .1) h, rw (q .1) (q .2))
+      at : (l : ℕ) → l < r → (e.volume ≡ v) × (e.lnum ≡ l) × (ps v l ≡ some e.peb)
+          → (e.volume ≡ v) × (e.lnum < r) × (ps v e.lnum ≡ some e.peb)
+      at l h q = (q.0, rw q.1 h, rw q.1 q.2)
 
   volume-has : (l p : ℕ) → l < r → ps v l ≡ some p → List·Memᴰ (record { volume = v; lnum = l; peb = p }) (entriesOf ps v r)
   volume-has l p h q = concat-mem r (λ l. entryAt v l (ps v l)) (record { volume = v; lnum = l; peb = p }) l h (entry-in v l (ps v l) p q)
@@ -187,7 +187,7 @@ module _ (ps : Places) (v r : ℕ) where
       (λ i j h _ x y a b.
       let p = entry-mem v i (ps v i) x a in
       let q = entry-mem v j (ps v j) y b in
-      inr (p .0 ∙ sym (q .0), omega (arith, p .1, q .1)))
+      inr (p.0 ∙ sym q.0, omega (arith, p.1, q.1)))
     where
       one : (l : ℕ) (o : Option ℕ) → Ascending Before (entryAt v l o)
       one l none = tt
@@ -199,23 +199,23 @@ module _ (k m : ℕ) (t : List ℕ) (ps : Places) where
   unfolding mapUpTo
   in-map e h =
       ⊎-elim
-      (λ a. let r = mem-concat k (users t ps) e a in user (r .0) (r .1) (in-volume ps (r .0) (reservedOf (recordFor t (r .0))) e (r .2)))
-      (λ a. let q = in-volume ps layoutVolume m e a in record { key = inr (q .0, q .1); place = rw (q .0) (q .2) })
+      (λ a. let r = mem-concat k (users t ps) e a in user r.0 r.1 (in-volume ps r.0 (reservedOf (recordFor t r.0)) e r.2))
+      (λ a. let q = in-volume ps layoutVolume m e a in record { key = inr (q.0, q.1); place = rw q.0 q.2 })
       (List·Memᴰ·append-cases (concatBelow k (users t ps)) h)
     where
-      user : (v : ℕ) → v < k → (e .volume ≡ v) × (e .lnum < reservedOf (recordFor t v)) × (ps v (e .lnum) ≡ some (e .peb)) → Listed k m t ps e
-      user v hv q = record { key = inl (rw (q .0) hv, rw (q .0) (q .1)); place = rw (q .0) (q .2) }
+      user : (v : ℕ) → v < k → (e.volume ≡ v) × (e.lnum < reservedOf (recordFor t v)) × (ps v e.lnum ≡ some e.peb) → Listed k m t ps e
+      user v hv q = record { key = inl (rw q.0 hv, rw q.0 q.1); place = rw q.0 q.2 }
 
   pub map-has : (e : Entry) → Listed k m t ps e → List·Memᴰ e (mapUpTo k m t ps)
   unfolding mapUpTo
   map-has e q =
       ⊎-elim
       (λ h. Memᴰ·append-left (layout m ps)
-      (concat-mem k (users t ps) e (e .volume) (h .0)
-      (volume-has ps (e .volume) (reservedOf (recordFor t (e .volume))) (e .lnum) (e .peb) (h .1) (q .place))))
+      (concat-mem k (users t ps) e e.volume h.0
+      (volume-has ps e.volume (reservedOf (recordFor t e.volume)) e.lnum e.peb h.1 q.place)))
       (λ h. Memᴰ·append-right (concatBelow k (users t ps))
-      (subst (λ v. List·Memᴰ e (entriesOf ps v m)) (h .0) (volume-has ps (e .volume) m (e .lnum) (e .peb) (h .1) (q .place))))
-      (q .key)
+      (subst (λ v. List·Memᴰ e (entriesOf ps v m)) h.0 (volume-has ps e.volume m e.lnum e.peb h.1 q.place)))
+      q.key
 
   -- as many entries as PEBs are reserved at most, and m for the layout volume
   pub map-length : length (mapUpTo k m t ps) ≤ sumBelow k (λ v. reservedOf (recordFor t v)) + m
@@ -237,12 +237,12 @@ module _ (k m : ℕ) (t : List ℕ) (ps : Places) where
       (λ i j h _ x y a b.
       let p = in-volume ps i (reservedOf (recordFor t i)) x a in
       let q = in-volume ps j (reservedOf (recordFor t j)) y b in
-      inl (omega (arith, p .0, q .0))))
+      inl (omega (arith, p.0, q.0))))
       (volume-ascends ps layoutVolume m)
       (λ x y a b.
       let r = mem-concat k (users t ps) x a in
-      let p = in-volume ps (r .0) (reservedOf (recordFor t (r .0))) x (r .2) in
-      let q = in-volume ps layoutVolume m y b in inl (omega (arith, r .1, p .0, q .0)))
+      let p = in-volume ps r.0 (reservedOf (recordFor t r.0)) x r.2 in
+      let q = in-volume ps layoutVolume m y b in inl (omega (arith, r.1, p.0, q.0)))
 
   -- whatever makes an ascending list of just the entries makes the map
   pub map-unique : k ≤ layoutVolume → (es : List Entry) → Ascending Before es

@@ -26,7 +26,7 @@ module _ (f : ℕ → Option EcHeader) where
 
   -- every good counter below n is so
   abbrev Each : (ℕ → Type 0) → ℕ → Type 0
-  Each P n = (i : ℕ) → i < n → (h : EcHeader) → f i ≡ some h → P (h .counter)
+  Each P n = (i : ℕ) → i < n → (h : EcHeader) → f i ≡ some h → P h.counter
 
   number-none : (n : ℕ) → ((i : ℕ) → i < n → f i ≡ none) → number n ≡ 0
   number-none zero h = refl
@@ -56,23 +56,23 @@ module _ (f : ℕ → Option EcHeader) where
 module _ (m : Medium) where
   -- the good EC headers
   abbrev good : ℕ → Option EcHeader
-  good = ecs (m .views)
+  good = ecs m.views
 
-  pub mean-none : ((i : ℕ) → i < m .count → good i ≡ none) → meanOf m ≡ 0
+  pub mean-none : ((i : ℕ) → i < m.count → good i ≡ none) → meanOf m ≡ 0
   unfolding meanOf
-  mean-none h = rw (number-none good (m .count) h) (div-zero _)
+  mean-none h = rw (number-none good m.count h) (div-zero _)
 
   -- the lowest good counter, and the highest
-  pub mean-between : (i : ℕ) (h : EcHeader) → i < m .count → good i ≡ some h
-      → (a : First good (λ x y. x .counter ≤ y .counter) (m .count)) × (b : First good (λ x y. y .counter ≤ x .counter) (m .count))
-      × (a .value .counter ≤ meanOf m) × (meanOf m ≤ b .value .counter)
+  pub mean-between : (i : ℕ) (h : EcHeader) → i < m.count → good i ≡ some h
+      → (a : First good (λ x y. x.counter ≤ y.counter) m.count) × (b : First good (λ x y. y.counter ≤ x.counter) m.count)
+      × (a.value.counter ≤ meanOf m) × (meanOf m ≤ b.value.counter)
   unfolding meanOf
   mean-between i h k e =
-      let a = first good (λ x y. x .counter ≤ y .counter) (λ x y. le-or (x .counter) (y .counter)) (λ x y z p q. omega arith) (m .count) i h k e in
-      let b = first good (λ x y. y .counter ≤ x .counter) (λ x y. le-or (y .counter) (x .counter)) (λ x y z p q. omega arith) (m .count) i h k e in
-      let p = number-some good (m .count) i h k e in (
+      let a = first good (λ x y. x.counter ≤ y.counter) (λ x y. le-or x.counter y.counter) (λ x y z p q. omega arith) m.count i h k e in
+      let b = first good (λ x y. y.counter ≤ x.counter) (λ x y. le-or y.counter x.counter) (λ x y z p q. omega arith) m.count i h k e in
+      let p = number-some good m.count i h k e in (
         a,
         b,
-        le-div-iff-mul-le p .1 (at-least good (a .value .counter) (m .count) (a .leads)),
-        div-le-of-le-mul _ (rw mul-comm (at-most good (b .value .counter) (m .count) (b .leads))),
+        le-div-iff-mul-le p .1 (at-least good a.value.counter m.count a.leads),
+        div-le-of-le-mul _ (rw mul-comm (at-most good b.value.counter m.count b.leads)),
       )

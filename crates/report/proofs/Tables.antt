@@ -62,17 +62,17 @@ module _ (a : Answer ℕ) (t : List ℕ) (fs : Faces) (ps : Places) (e : refusal
 
   -- where the entries lie makes no difference
   pub no-1112 : (ps′ : Places) → refusal1112 a t fs ps′ ≡ none
-  no-1112 ps′ = rw (table-taken .1, no-misfit)
+  no-1112 ps′ = rw (table-taken.1, no-misfit)
 
 -- an entry of a user volume has its record's type and pad; static, it has used LEBs as its volume's first entry has, and within reserved
 pub record Fits (t : List ℕ) (fs : Faces) (v : ℕ) (r : VolumeRecord) (f : Face) : Type 0 where
-  pub same-type : f .vol-type ≡ r .«vol_type»
-  pub same-pad : f .pad ≡ r .«data_pad»
-  pub same-used : f .vol-type ≡ 2 → usedOf t fs v ≡ some (f .used)
-  pub used-within : f .vol-type ≡ 2 → f .used ≤ r .reserved
+  pub same-type : f .vol-type ≡ r.«vol_type»
+  pub same-pad : f .pad ≡ r.«data_pad»
+  pub same-used : f .vol-type ≡ 2 → usedOf t fs v ≡ some f.used
+  pub used-within : f .vol-type ≡ 2 → f.used ≤ r.reserved
 
 module _ (t : List ℕ) (fs : Faces) (e : misfitAt t fs ≡ none) (v l : ℕ) (r : VolumeRecord) (f : Face)
-    (k : v < 128) (is : recordFor t v ≡ some r) (h : l < r .reserved) (q : fs v l ≡ some f) where
+    (k : v < 128) (is : recordFor t v ≡ some r) (h : l < r.reserved) (q : fs v l ≡ some f) where
   one-fits : misfit (some r) (usedOf t fs v) (some f) ≡ none
   unfolding misfitAt misfitIn
   one-fits =
@@ -81,28 +81,28 @@ module _ (t : List ℕ) (fs : Faces) (e : misfitAt t fs ≡ none) (v l : ℕ) (r
       (mapO-none _ _ (first-none-at 128 (misfitIn t fs) e v k)) l (rw is h))
 
   abbrev bad-type : Bool
-  bad-type = not (eqb (f .vol-type) (r .«vol_type») && eqb (f .pad) (r .«data_pad»))
+  bad-type = not (eqb f.vol-type r.«vol_type» && eqb f.pad r.«data_pad»)
 
   abbrev bad-used : Bool
-  bad-used = differs (usedOf t fs v) (f .used) || ltb (r .reserved) (f .used)
+  bad-used = differs (usedOf t fs v) f.used || ltb r.reserved f.used
 
-  no-bad : bad-type || (eqb (f .vol-type) 2 && bad-used) ≡ false
+  no-bad : bad-type || (eqb f.vol-type 2 && bad-used) ≡ false
   no-bad = when-none _ 12 one-fits
 
   good-used : f .vol-type ≡ 2 → bad-used ≡ false
-  good-used s = rw (eq-eqb _ _ s) at (or-right bad-type (eqb (f .vol-type) 2 && bad-used) no-bad)
+  good-used s = rw (eq-eqb _ _ s) at (or-right bad-type (eqb f.vol-type 2 && bad-used) no-bad)
 
   pub entry-fits : Fits t fs v r f
   unfolding usedOf
   entry-fits =
-      let a = not-false _ (or-left bad-type (eqb (f .vol-type) 2 && bad-used) no-bad) in
+      let a = not-false _ (or-left bad-type (eqb f.vol-type 2 && bad-used) no-bad) in
       let x = first-some (reservedOf (recordFor t v)) (fs v) l f (rw is h) q in
-      let u : usedOf t fs v ≡ some (x .0 .1 .used) = rw (x .1) in
+      let u : usedOf t fs v ≡ some x.0.1.used = rw x.1 in
       record {
-        same-type = eqb-true _ _ (and-left (eqb (f .vol-type) (r .«vol_type»)) (eqb (f .pad) (r .«data_pad»)) a);
-        same-pad = eqb-true _ _ (and-right (eqb (f .vol-type) (r .«vol_type»)) (eqb (f .pad) (r .«data_pad»)) a);
-        same-used = λ s. u ∙ ap some (sym (differs-false _ (f .used) (rw u at (or-left (differs (usedOf t fs v) (f .used)) _ (good-used s)))));
-        used-within = λ s. ltb-false (r .reserved) (f .used) (or-right (differs (usedOf t fs v) (f .used)) _ (good-used s));
+        same-type = eqb-true _ _ (and-left (eqb f.vol-type r.«vol_type») (eqb f.pad r.«data_pad») a);
+        same-pad = eqb-true _ _ (and-right (eqb f.vol-type r.«vol_type») (eqb f.pad r.«data_pad») a);
+        same-used = λ s. u ∙ ap some (sym (differs-false _ f.used (rw u at (or-left (differs (usedOf t fs v) f.used) _ (good-used s)))));
+        used-within = λ s. ltb-false r.reserved f.used (or-right (differs (usedOf t fs v) f.used) _ (good-used s));
       }
 
 -- ---- the records of the table taken
@@ -143,7 +143,7 @@ module _ (size unit pebs : ℕ) (copy0 copy1 : List ℕ) where
     past-count : (v : ℕ) → recordCount size ≤ v → recordOf (recordAt t v) .reserved ≡ 0
     unfolding recordOf recordsPart beFrom
     past-count v h =
-        let l : length t ≤ 172 * v = rw (T .is, length-take) (omega (arith, min-le-left (172 * recordCount size) (length (T .content)))) in
+        let l : length t ≤ 172 * v = rw (T.is, length-take) (omega (arith, min-le-left (172 * recordCount size) (length T.content))) in
         rw (drop-of-length-le t l)
 
     -- a record that is not empty is one of the LEB's, and good
@@ -155,7 +155,7 @@ module _ (size unit pebs : ℕ) (copy0 copy1 : List ℕ) where
           ⊎-elim
               (λ p. absurd (omega (arith, empty-reserves-none (recordAt t v) p)))
               (λ p. p)
-              (empty-or-good size unit (recordAt t v) (rw (T .is) (records-fine size unit pebs (T .content) (T .good) v k))),
+              (empty-or-good size unit (recordAt t v) (rw T.is (records-fine size unit pebs T.content T.good v k))),
         ))
         (λ (k : recordCount size ≤ v). absurd (omega (arith, past-count v k)))
         (lt-or-le v (recordCount size))
@@ -165,9 +165,9 @@ module _ (size unit pebs : ℕ) (copy0 copy1 : List ℕ) where
     unfolding recordFor
     record-good v r e =
         let y = cond-yes (ltb 0 (recordOf (recordAt t v) .reserved)) none-some e in
-        let z = reserves-good v (ltb-true _ _ (y .0)) in
-        let q : recordOf (recordAt t v) ≡ r = cc (y .1) in
-        (z .0, z .1, sym q)
+        let z = reserves-good v (ltb-true _ _ y.0) in
+        let q : recordOf (recordAt t v) ≡ r = cc y.1 in
+        (z.0, z.1, sym q)
 
     -- volumes reserve no more than the PEBs beside the layout volume's two
     pub reserved-sum : (k : ℕ) → sumBelow k (λ v. reservedOf (recordFor t v)) ≤ pebs - 2
@@ -176,7 +176,7 @@ module _ (size unit pebs : ℕ) (copy0 copy1 : List ℕ) where
         (omega (
           arith,
           sum-most (λ v. recordOf (recordAt t v) .reserved) (recordCount size) past-count k,
-          rw (← (T .is)) at (reserved-within size unit pebs (T .content) (T .good)),
+          rw (← T.is) at (reserved-within size unit pebs T.content T.good),
         ))
 
     map-within : (k m : ℕ) (ps : Places) → length (mapUpTo k m t ps) ≤ pebs - 2 + m
@@ -187,7 +187,7 @@ module _ (size unit pebs : ℕ) (copy0 copy1 : List ℕ) where
 -- t are the records of a good table of one of the two layout copies
 abbrev pub TakenIn : Medium → List ℕ → Type 0
 TakenIn m =
-    TakenFrom (m .geometry .«leb_size») (m .geometry .unit) (m .count)
+    TakenFrom m.geometry.«leb_size» m.geometry.unit m.count
     (layoutContent (faces m layoutVolume 0)) (layoutContent (faces m layoutVolume 1))
 
 module _ (m : Medium) (e : refusal m ≡ none) where
@@ -195,9 +195,9 @@ module _ (m : Medium) (e : refusal m ≡ none) where
   unfolding tableLeb tableRecords
   table-good =
       let k = table-taken (tableLeb m (faces m)) (records m) (faces m) (places m) (parts m e .none1112) in
-      taken _ _ (m .count) _ _ (k .0) (k .1)
+      taken _ _ m.count _ _ k.0 k.1
 
   -- the map has no more entries than there are PEBs
-  pub entries-fit : 2 ≤ m .count → length (entries m) ≤ m .count
+  pub entries-fit : 2 ≤ m.count → length (entries m) ≤ m.count
   unfolding entries mapOf
   entries-fit h = omega (arith, map-within _ _ _ _ _ (records m) table-good 128 2 (places m))

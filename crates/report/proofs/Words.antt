@@ -14,9 +14,9 @@ use Rattle.report.specs.Attach.{pebWords, entryWords}
 use Rattle.report.specs.Scratch.{keyWords}
 
 pub key-length : (i : ℕ) (v : VidView) → length (keyWords i v) ≡ 3
-key-length i (vidGood c) = go (isMappable (c .header .volume))
+key-length i (vidGood c) = go (isMappable c.header.volume)
   where
-    go : (b : Bool) → length (cond b (c .header .volume ∷ c .header .lnum ∷ i ∷ []) (noWord ∷ noWord ∷ noWord ∷ [])) ≡ 3
+    go : (b : Bool) → length (cond b (c.header.volume ∷ c.header.lnum ∷ i ∷ []) (noWord ∷ noWord ∷ noWord ∷ [])) ≡ 3
     go true = refl
     go false = refl
 key-length i vidNewer = refl
@@ -27,6 +27,6 @@ pub entry-words-length : (es : List Entry) → length (entryWords es) ≡ length
 entry-words-length [] = refl
 entry-words-length (e ∷ es) = omega (arith, entry-words-length es)
 
-pub peb-words-length : (m : Medium) → length (pebWords m) ≡ m .count * 2
+pub peb-words-length : (m : Medium) → length (pebWords m) ≡ m.count * 2
 unfolding pebWords
-peb-words-length m = rows-length (m .count) 2 (λ (i : ℕ). classAt m i ∷ counterAt m i ∷ []) (λ i. refl)
+peb-words-length m = rows-length m.count 2 (λ (i : ℕ). classAt m i ∷ counterAt m i ∷ []) (λ i. refl)

@@ -117,7 +117,7 @@ ec-from s l ec.Short e = not-short s l (readEc s) (ff-ec s l) ecOf ecBlank e
 
 module _ (g : Geometry) (p : List ℕ) where
   abbrev readAs : List ℕ → Verdict VidHeader
-  readAs = readVid (g .«leb_size»)
+  readAs = readVid g.«leb_size»
 
   abbrev pub vidFrom : Bool → VidRead → VidView
   vidFrom b (vid.Good h) = vidGood (copyOf g p h)
@@ -125,18 +125,18 @@ module _ (g : Geometry) (p : List ℕ) where
   vidFrom b vid.Bad = cond b vidBlank vidBad
   vidFrom b vid.Short = vidBad
 
-  pub vid-from : (s : List ℕ) → length s ≡ 64 → (r : VidRead) → vidAnswer r ≡ vidRead (g .«leb_size») s
+  pub vid-from : (s : List ℕ) → length s ≡ 64 → (r : VidRead) → vidAnswer r ≡ vidRead g.«leb_size» s
       → vidFrom (allFF s) r ≡ cond (allFF s) vidBlank (vidOf g p (readAs s))
   unfolding vidRead
-  vid-from s l (vid.Good h) e = seen-good s l (readAs s) (ff-vid (g .«leb_size») s l) (vidOf g p) vidBlank h e
-  vid-from s l vid.Newer e = seen-newer s l (readAs s) (ff-vid (g .«leb_size») s l) (vidOf g p) vidBlank e
-  vid-from s l vid.Bad e = seen-bad s l (readAs s) (ff-vid (g .«leb_size») s l) (vidOf g p) vidBlank e
-  vid-from s l vid.Short e = not-short s l (readAs s) (ff-vid (g .«leb_size») s l) (vidOf g p) vidBlank e
+  vid-from s l (vid.Good h) e = seen-good s l (readAs s) (ff-vid g.«leb_size» s l) (vidOf g p) vidBlank h e
+  vid-from s l vid.Newer e = seen-newer s l (readAs s) (ff-vid g.«leb_size» s l) (vidOf g p) vidBlank e
+  vid-from s l vid.Bad e = seen-bad s l (readAs s) (ff-vid g.«leb_size» s l) (vidOf g p) vidBlank e
+  vid-from s l vid.Short e = not-short s l (readAs s) (ff-vid g.«leb_size» s l) (vidOf g p) vidBlank e
 
 -- the headers of a whole PEB have their 64 bytes
-module _ {g : Geometry} (o : Placed g) (p : List ℕ) (whole : length p ≡ g .«peb_size») where
+module _ {g : Geometry} (o : Placed g) (p : List ℕ) (whole : length p ≡ g.«peb_size») where
   pub ec-long : length (take 64 p) ≡ 64
-  ec-long = length-part 0 64 p (omega (arith, o .vid-after-ec, o .data-after-vid, o .leb-fills))
+  ec-long = length-part 0 64 p (omega (arith, o.vid-after-ec, o.data-after-vid, o.leb-fills))
 
   pub vid-long : length (vidPart g p) ≡ 64
-  vid-long = length-part (g .«vid_start») 64 p (omega (arith, o .data-after-vid, o .leb-fills))
+  vid-long = length-part g.«vid_start» 64 p (omega (arith, o.data-after-vid, o.leb-fills))

@@ -33,7 +33,7 @@ use Rattle.scan.specs.declared.VidSeen.{VidSeen}
 
 -- ---- a good counter is small
 
-small-verdict : (one nought b : Bool) (h : EcHeader) → (b ≡ true → h .counter ≤ 0x7FFFFFFF)
+small-verdict : (one nought b : Bool) (h : EcHeader) → (b ≡ true → h.counter ≤ 0x7FFFFFFF)
     → smallCounter (ecOf (cond one (cond b (good h) bad) (cond nought bad newer)))
 small-verdict true nought true h l = l refl
 small-verdict true nought false h l = omega arith
@@ -78,12 +78,12 @@ ec-zero g seq ecNewer q = absurd (omega arith)
 ec-zero g seq ecBlank q = refl
 ec-zero g seq ecLost q = refl
 ec-zero g seq (ecGood h) q =
-    let starts = not (eqb (h .«vid_start») (g .«vid_start») && eqb (h .«data_start») (g .«data_start»)) in
-    let other = differs seq (h .«image_seq») in
+    let starts = not (eqb h.«vid_start» g.«vid_start» && eqb h.«data_start» g.«data_start») in
+    let other = differs seq h.«image_seq» in
     zero-both (when starts 6) (when other 7) (when-zero 5 starts) (when-zero 6 other) q
 
 vid-zero : (v : VidView) → orZero (vidRefusal v) ≡ 0 → vidRefusal v ≡ none
-vid-zero (vidGood c) q = when-zero 7 (not (isMappable (c .header .volume)) && eqb (c .header .compat) 5) q
+vid-zero (vidGood c) q = when-zero 7 (not (isMappable c.header.volume) && eqb c.header.compat 5) q
 vid-zero vidNewer q = absurd (omega arith)
 vid-zero vidBlank q = refl
 vid-zero vidBad q = refl
@@ -92,28 +92,28 @@ pub view-zero : (g : Geometry) (seq : Option ℕ) (v : View) → orZero (viewRef
     → viewRefusal g seq v ≡ none
 unfolding viewRefusal
 view-zero g seq v e =
-    zero-both (ecRefusal g seq (v .ec)) (vidRefusal (v .vid)) (ec-zero g seq (v .ec)) (vid-zero (v .vid)) e
+    zero-both (ecRefusal g seq v.ec) (vidRefusal v.vid) (ec-zero g seq v.ec) (vid-zero v.vid) e
 
 -- ---- the pass over one PEB
 
 -- the EC header e was seen in a view, ec are the totals with it, and a is its refusal
 pub record EcPassed (g : Geometry) (v : View) (s : ScanTotals) (e : EcSeen) (ec : EcTotals) (a : ℕ) : Type 0 where
-  pub seen : ecSeen e ≡ v .ec
-  pub totals : ec ≡ withEc (s .ec) (ecSeen e)
+  pub seen : ecSeen e ≡ v.ec
+  pub totals : ec ≡ withEc s.ec (ecSeen e)
   pub number : a ≡ orZero (ecRefusal g (seqIn ec) (ecSeen e))
 
 -- the VID header w was seen in a view of the bytes p, and b is its refusal
 pub record VidPassed (g : Geometry) (p : List ℕ) (v : View) (w : VidSeen) (b : ℕ) : Type 0 where
-  pub seen : vidSeen g p w ≡ v .vid
+  pub seen : vidSeen g p w ≡ v.vid
   pub number : b ≡ orZero (vidRefusal (vidSeen g p w))
 
 module _ {g : Geometry} {v : View} {s : ScanTotals} {e : EcSeen} {ec : EcTotals} {a : ℕ}
     (x : EcPassed g v s e ec a) where
-  totals-are : ec ≡ withEc (s .ec) (v .ec)
-  totals-are = x .totals ∙ rw (x .seen)
+  totals-are : ec ≡ withEc s.ec v.ec
+  totals-are = x.totals ∙ rw x.seen
 
-  number-is : a ≡ orZero (ecRefusal g (seqIn (withEc (s .ec) (v .ec))) (v .ec))
-  number-is = x .number ∙ rw (totals-are, x .seen)
+  number-is : a ≡ orZero (ecRefusal g (seqIn (withEc s.ec v.ec)) v.ec)
+  number-is = x.number ∙ rw (totals-are, x.seen)
 
   -- the EC header refuses
   pub ec-refused : (a ≡ 0 → ⊥) → {i : ℕ} {pebs map : List ℕ}
@@ -121,7 +121,7 @@ module _ {g : Geometry} {v : View} {s : ScanTotals} {e : EcSeen} {ec : EcTotals}
   unfolding viewRefusal
   ec-refused n = record {
     refusal = number-is
-        ∙ or-zero-first (ecRefusal g (seqIn (withEc (s .ec) (v .ec))) (v .ec)) _ (λ z. n (number-is ∙ z));
+        ∙ or-zero-first (ecRefusal g (seqIn (withEc s.ec v.ec)) v.ec) _ (λ z. n (number-is ∙ z));
     ec = λ z. absurd (n z);
     vid = λ z. absurd (n z);
     pebs-are = rw (ne-eqb a 0 n);
@@ -129,9 +129,9 @@ module _ {g : Geometry} {v : View} {s : ScanTotals} {e : EcSeen} {ec : EcTotals}
   }
 
   module _ {p : List ℕ} {w : VidSeen} {b : ℕ} (z : a ≡ 0) (y : VidPassed g p v w b) where
-    both-numbers : b ≡ orZero (viewRefusal g (seqIn (withEc (s .ec) (v .ec))) v)
+    both-numbers : b ≡ orZero (viewRefusal g (seqIn (withEc s.ec v.ec)) v)
     unfolding viewRefusal
-    both-numbers = y .number ∙ rw (ec-zero g _ (v .ec) (sym number-is ∙ z), y .seen)
+    both-numbers = y.number ∙ rw (ec-zero g _ v.ec (sym number-is ∙ z), y.seen)
 
     -- the VID header refuses
     pub vid-refused : (b ≡ 0 → ⊥) → {i : ℕ} {pebs map : List ℕ}
@@ -147,14 +147,14 @@ module _ {g : Geometry} {v : View} {s : ScanTotals} {e : EcSeen} {ec : EcTotals}
     -- neither refuses: the class k, the counter and whether the PEB is free or blank, and the words stored
     pub peb-passed : b ≡ 0 → {i k counter : ℕ} {idle : Bool} {vid : VidTotals} {pebs pebs′ map map′ : List ℕ}
         → k ≡ firstClass (ecSeen e) (vidSeen g p w) → counter ≡ counterOr noWord (goodEc (ecSeen e))
-        → idle ≡ eqb k 0 || eqb k 3 → vid ≡ withVid (s .vid) idle (vidSeen g p w)
+        → idle ≡ eqb k 0 || eqb k 3 → vid ≡ withVid s.vid idle (vidSeen g p w)
         → pebs′ ≡ put (i * pebStride) (k ∷ counter ∷ []) pebs
         → map′ ≡ put (i * entryStride) (keyWords i (vidSeen g p w)) map
         → PebPassed g i v s (record { refusal = 0; totals = record { ec = ec; vid = vid } }) pebs pebs′ map map′
     peb-passed q ck cc ci cv cp cm = record {
       refusal = sym q ∙ both-numbers;
       ec = λ _. totals-are;
-      vid = λ _. cv ∙ rw (ci, ck, x .seen, y .seen);
-      pebs-are = cp ∙ rw (ck, cc, x .seen, y .seen);
-      map-is = cm ∙ rw (y .seen);
+      vid = λ _. cv ∙ rw (ci, ck, x.seen, y.seen);
+      pebs-are = cp ∙ rw (ck, cc, x.seen, y.seen);
+      map-is = cm ∙ rw y.seen;
     }

@@ -33,10 +33,10 @@ use Rattle.scan.proofs.OnePeb.{small-view, view-zero}
 -- ---- the image sequence
 
 abbrev seqOf : ℕ × EcHeader → ℕ
-seqOf x = x .1 .«image_seq»
+seqOf x = x.1.«image_seq»
 
 seq-good : (b : Bool) (q i : ℕ) (h : EcHeader) (x : Option (ℕ × EcHeader)) → cond b (some q) none ≡ mapO seqOf x
-    → some (cond b q (h .«image_seq»)) ≡ mapO seqOf (orElse x (some (i, h)))
+    → some (cond b q h.«image_seq») ≡ mapO seqOf (orElse x (some (i, h)))
 seq-good true q i h none e = none-some (sym e)
 seq-good true q i h (some y) e = e
 seq-good false q i h none e = refl
@@ -67,63 +67,63 @@ module _ (g : Geometry) (n i : ℕ) (vs : Views) (h : i < n) where
 record EcAdded (i : ℕ) (vs : Views) (s s′ : EcTotals) (o : Option EcHeader) : Type 0 where
   seq : seqIn s′ ≡ mapO seqOf (orElse (firstBelow i (ecs vs)) (numbered i o))
   image-seq : s′ .«image_seq» ≡ orZero (mapO seqOf (orElse (firstBelow i (ecs vs)) (numbered i o)))
-  counters : s′ .counters ≡ s .counters + counterOr 0 o
-  good : s′ .good ≡ s .good + cond (hasCounter o) 1 0
-  counters-small : s′ .counters ≤ s′ .good * 0x7FFFFFFF
-  good-few : s′ .good ≤ s .good + 1
+  counters : s′ .counters ≡ s.counters + counterOr 0 o
+  good : s′ .good ≡ s.good + cond (hasCounter o) 1 0
+  counters-small : s′ .counters ≤ s′.good * 0x7FFFFFFF
+  good-few : s′ .good ≤ s.good + 1
 
 module _ (i : ℕ) (vs : Views) (s : ScanTotals) (o : TotalsOf i vs s) where
-  none-added : EcAdded i vs (s .ec) (s .ec) none
+  none-added : EcAdded i vs s.ec s.ec none
   unfolding imageSeq
   none-added = record {
-    seq = rw orElse-nothing (o .seq);
-    image-seq = rw orElse-nothing (o .image-seq);
+    seq = rw orElse-nothing o.seq;
+    image-seq = rw orElse-nothing o.image-seq;
     counters = omega arith;
     good = omega arith;
-    counters-small = o .counters-small;
+    counters-small = o.counters-small;
     good-few = omega arith;
   }
 
-  ec-added : (x : EcView) → smallCounter x → EcAdded i vs (s .ec) (withEc (s .ec) x) (goodEc x)
+  ec-added : (x : EcView) → smallCounter x → EcAdded i vs s.ec (withEc s.ec x) (goodEc x)
   unfolding imageSeq
   ec-added (ecGood h) l =
-      let q = seq-good (s .ec .«has_seq») (s .ec .«image_seq») i h (firstBelow i (ecs vs)) (o .seq) in
+      let q = seq-good s.ec.«has_seq» s.ec.«image_seq» i h (firstBelow i (ecs vs)) o.seq in
       record {
         seq = q;
         image-seq = ap orZero q;
         counters = refl;
         good = refl;
-        counters-small = omega (arith, o .counters-small);
+        counters-small = omega (arith, o.counters-small);
         good-few = omega arith;
       }
   ec-added ecNewer l = none-added
   ec-added ecBlank l = none-added
   ec-added ecLost l = none-added
 
-  seq-step : smallCounter (vs i .ec) → seqIn (withEc (s .ec) (vs i .ec)) ≡ imageSeq (suc i) vs
+  seq-step : smallCounter (vs i .ec) → seqIn (withEc s.ec (vs i .ec)) ≡ imageSeq (suc i) vs
   unfolding imageSeq
   seq-step small = ec-added (vs i .ec) small .seq
 
-  totals-step : smallCounter (vs i .ec) → {s′ : ScanTotals} → s′ .ec ≡ withEc (s .ec) (vs i .ec)
-      → s′ .vid ≡ withVid (s .vid) (isUnused (vs i .ec) (vs i .vid)) (vs i .vid) → TotalsOf (suc i) vs s′
+  totals-step : smallCounter (vs i .ec) → {s′ : ScanTotals} → s′.ec ≡ withEc s.ec (vs i .ec)
+      → s′.vid ≡ withVid s.vid (isUnused (vs i .ec) (vs i .vid)) (vs i .vid) → TotalsOf (suc i) vs s′
   unfolding imageSeq highestOf readOnlyOf
   totals-step small e f =
       let a = ec-added (vs i .ec) small in
       record {
-        seq = rw e (a .seq);
-        image-seq = rw e (a .image-seq);
-        counters = rw (e, ← (o .counters)) (a .counters);
-        good = rw (e, ← (o .good)) (a .good);
-        highest = rw (f, o .highest);
-        read-only = rw (f, o .read-only);
-        unused = rw (f, o .unused);
-        counters-small = rw e (a .counters-small);
-        good-few = rw e (omega (arith, a .good-few, o .good-few));
+        seq = rw e a.seq;
+        image-seq = rw e a.image-seq;
+        counters = rw (e, ← o.counters) a.counters;
+        good = rw (e, ← o.good) a.good;
+        highest = rw (f, o.highest);
+        read-only = rw (f, o.read-only);
+        unused = rw (f, o.unused);
+        counters-small = rw e a.counters-small;
+        good-few = rw e (omega (arith, a.good-few, o.good-few));
       }
 
-pub totals-none : (vs : Views) (s : ScanTotals) → s .ec .«has_seq» ≡ false → s .ec .«image_seq» ≡ 0
-    → s .ec .counters ≡ 0 → s .ec .good ≡ 0
-    → s .vid .highest ≡ 0 → s .vid .«read_only» ≡ false → s .vid .unused ≡ true → TotalsOf 0 vs s
+pub totals-none : (vs : Views) (s : ScanTotals) → s.ec.«has_seq» ≡ false → s.ec.«image_seq» ≡ 0
+    → s.ec.counters ≡ 0 → s.ec.good ≡ 0
+    → s.vid.highest ≡ 0 → s.vid.«read_only» ≡ false → s.vid.unused ≡ true → TotalsOf 0 vs s
 unfolding imageSeq highestOf readOnlyOf
 totals-none vs s a b c d e f h = record {
   seq = rw a;
@@ -151,42 +151,42 @@ refused-at (suc k) i n = refl
 
 module _ (m : Medium) where
   abbrev refusalAt : ℕ → Option ℕ
-  refusalAt j = viewRefusal (m .geometry) (imageSeq (m .count) (m .views)) (m .views j)
+  refusalAt j = viewRefusal m.geometry (imageSeq m.count m.views) (m.views j)
 
   abbrev keyRow : ℕ → List ℕ
-  keyRow j = keyWords j (m .views j .vid)
+  keyRow j = keyWords j (m.views j .vid)
 
 pub record Passing (m : Medium) (i : ℕ) (s : ScanTotals) (pebs₀ pebs map₀ map : List ℕ) : Type 0 where
-  pub totals : TotalsOf i (m .views) s
+  pub totals : TotalsOf i m.views s
   pub none-yet : firstBelow i (refusalAt m) ≡ none
-  pub pebs-are : pebs ≡ firstWords i (m .views) ++ drop (pebWordsNeeded i) pebs₀
-  pub map-is : map ≡ keysOf i (m .views) ++ drop (mapWordsNeeded i) map₀
+  pub pebs-are : pebs ≡ firstWords i m.views ++ drop (pebWordsNeeded i) pebs₀
+  pub map-is : map ≡ keysOf i m.views ++ drop (mapWordsNeeded i) map₀
 
 -- no PEB is passed yet
-pub passing-none : (m : Medium) {s : ScanTotals} {pebs map : List ℕ} → TotalsOf 0 (m .views) s
+pub passing-none : (m : Medium) {s : ScanTotals} {pebs map : List ℕ} → TotalsOf 0 m.views s
     → Passing m 0 s pebs pebs map map
 passing-none m o = record { totals = o; none-yet = refl; pebs-are = refl; map-is = refl }
 
 module _ {m : Medium} {i : ℕ} {s : ScanTotals} {pebs₀ pebs map₀ map : List ℕ}
     (o : Passing m i s pebs₀ pebs map₀ map) where
   -- words beyond the PEBs stay
-  pebs-beyond : i ≤ m .count → drop (pebWordsNeeded (m .count)) pebs ≡ drop (pebWordsNeeded (m .count)) pebs₀
-  pebs-beyond h = rw (o .pebs-are) (rows-tail i (m .count) pebStride (λ j. firstRow (m .views j)) pebs₀ (λ j. refl) h)
+  pebs-beyond : i ≤ m.count → drop (pebWordsNeeded m.count) pebs ≡ drop (pebWordsNeeded m.count) pebs₀
+  pebs-beyond h = rw o.pebs-are (rows-tail i m.count pebStride (λ j. firstRow (m.views j)) pebs₀ (λ j. refl) h)
 
-  map-beyond : i ≤ m .count → drop (mapWordsNeeded (m .count)) map ≡ drop (mapWordsNeeded (m .count)) map₀
+  map-beyond : i ≤ m.count → drop (mapWordsNeeded m.count) map ≡ drop (mapWordsNeeded m.count) map₀
   map-beyond h =
-      rw (o .map-is) (rows-tail i (m .count) entryStride (keyRow m) map₀ (λ j. key-length j (m .views j .vid)) h)
+      rw o.map-is (rows-tail i m.count entryStride (keyRow m) map₀ (λ j. key-length j (m.views j .vid)) h)
 
 -- all PEBs are passed
 pub pass-whole : {m : Medium} {s : ScanTotals} {pebs₀ pebs map₀ map : List ℕ}
-    → Passing m (m .count) s pebs₀ pebs map₀ map
+    → Passing m m.count s pebs₀ pebs map₀ map
     → Passed m (record { refusal = 0; place = 0; totals = s }) pebs₀ pebs map₀ map
 unfolding refusal5678
 pass-whole o = record {
-  refusal = rw (o .none-yet);
-  totals = λ _. o .totals;
-  pebs-are = λ _. o .pebs-are;
-  map-is = λ _. o .map-is;
+  refusal = rw o.none-yet;
+  totals = λ _. o.totals;
+  pebs-are = λ _. o.pebs-are;
+  map-is = λ _. o.map-is;
   pebs-tail = pebs-beyond o (omega arith);
   map-tail = map-beyond o (omega arith);
 }
@@ -197,44 +197,44 @@ module _ (g : Geometry) (n : ℕ) (image : List ℕ) where
   medium = mediumOf g n image
 
   abbrev lentPeb : ℕ → List ℕ
-  lentPeb i = take (i * g .«peb_size» + g .«peb_size» - i * g .«peb_size») (drop (i * g .«peb_size») image)
+  lentPeb i = take (i * g.«peb_size» + g.«peb_size» - i * g.«peb_size») (drop (i * g.«peb_size») image)
 
   module _ {i : ℕ} {s : ScanTotals} {pebs₀ pebs map₀ map : List ℕ} (o : Passing medium i s pebs₀ pebs map₀ map)
       (h : i < n) {t : PebPass} {pebs′ map′ : List ℕ}
       (u : PebPassed g i (viewOf g (lentPeb i)) s t pebs pebs′ map map′) where
-    view-is : viewOf g (lentPeb i) ≡ medium .views i
-    view-is = ap (viewOf g) (lent-part (i * g .«peb_size») (g .«peb_size») image)
+    view-is : viewOf g (lentPeb i) ≡ medium.views i
+    view-is = ap (viewOf g) (lent-part (i * g.«peb_size») g.«peb_size» image)
 
     number-is : t .refusal ≡ orZero (refusalAt medium i)
     number-is =
-        let q = seq-step i (medium .views) s (o .totals) (small-view g (pebAt g image i)) in
-        u .refusal ∙ rw (view-is, q, view-known g n i (medium .views) h)
+        let q = seq-step i medium.views s o.totals (small-view g (pebAt g image i)) in
+        u .refusal ∙ rw (view-is, q, view-known g n i medium.views h)
 
     -- the pass goes on
-    pub pass-on : t .refusal ≡ 0 → Passing medium (i + 1) (t .totals) pebs₀ pebs′ map₀ map′
+    pub pass-on : t .refusal ≡ 0 → Passing medium (i + 1) t.totals pebs₀ pebs′ map₀ map′
     pass-on z =
         let w = rw view-is at u in
         rw add-one (record {
-          totals = totals-step i (medium .views) s (o .totals) (small-view g (pebAt g image i)) (w .ec z) (w .vid z);
-          none-yet = rw (o .none-yet, view-zero g (imageSeq n (medium .views)) (medium .views i) (sym number-is ∙ z));
-          pebs-are = w .pebs-are ∙ rw (eq-eqb _ _ z, o .pebs-are)
-              (rows-step i pebStride (λ j. firstRow (medium .views j)) pebs₀ (λ j. refl));
-          map-is = w .map-is ∙ rw (eq-eqb _ _ z, o .map-is)
-              (rows-step i entryStride (keyRow medium) map₀ (λ j. key-length j (medium .views j .vid)));
+          totals = totals-step i medium.views s o.totals (small-view g (pebAt g image i)) (w.ec z) (w.vid z);
+          none-yet = rw (o.none-yet, view-zero g (imageSeq n medium.views) (medium.views i) (sym number-is ∙ z));
+          pebs-are = w.pebs-are ∙ rw (eq-eqb _ _ z, o.pebs-are)
+              (rows-step i pebStride (λ j. firstRow (medium.views j)) pebs₀ (λ j. refl));
+          map-is = w.map-is ∙ rw (eq-eqb _ _ z, o.map-is)
+              (rows-step i entryStride (keyRow medium) map₀ (λ j. key-length j (medium.views j .vid)));
         })
 
     -- the PEB refuses the image
-    pub pass-refused : (t .refusal ≡ 0 → ⊥)
-        → Passed medium (record { refusal = t .refusal; place = i; totals = t .totals }) pebs₀ pebs′ map₀ map′
+    pub pass-refused : (t.refusal ≡ 0 → ⊥)
+        → Passed medium (record { refusal = t.refusal; place = i; totals = t.totals }) pebs₀ pebs′ map₀ map′
     unfolding refusal5678
     pass-refused ne =
-        let q : refusalAt medium i ≡ some (t .refusal) = some-of _ (t .refusal) ne (sym number-is) in
+        let q : refusalAt medium i ≡ some t.refusal = some-of _ t.refusal ne (sym number-is) in
         record {
-          refusal = refused-at (t .refusal) i ne
-              ∙ sym (rw (first-is (refusalAt medium) n i (t .refusal) h (o .none-yet) q));
+          refusal = refused-at t.refusal i ne
+              ∙ sym (rw (first-is (refusalAt medium) n i t.refusal h o.none-yet q));
           totals = λ z. absurd (ne z);
           pebs-are = λ z. absurd (ne z);
           map-is = λ z. absurd (ne z);
-          pebs-tail = rw (u .pebs-are, ne-eqb _ _ ne) (pebs-beyond o (omega arith));
-          map-tail = rw (u .map-is, ne-eqb _ _ ne) (map-beyond o (omega arith));
+          pebs-tail = rw (u.pebs-are, ne-eqb _ _ ne) (pebs-beyond o (omega arith));
+          map-tail = rw (u.map-is, ne-eqb _ _ ne) (map-beyond o (omega arith));
         }

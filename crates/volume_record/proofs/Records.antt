@@ -70,16 +70,16 @@ module _ (size unit : ℕ) (v : VolumeRecord) where
   broken k e = sym (one-broken (recordRules size unit v) k e)
 
   -- with the other rules kept, the flags decide
-  pub flags-decide : (v .reserved ≡ 0 → ⊥) → (v .alignment ≡ 0 → ⊥) → v .alignment ≤ size
-      → eqb (v .alignment) 1 || eqb (v .alignment % unit) 0 ≡ true
-      → v .«data_pad» ≡ size % v .alignment → eqb (v .«vol_type») 1 || eqb (v .«vol_type») 2 ≡ true
-      → v .«update_marker» ≤ 1
-      → (v .«name_length» ≡ 0 → ⊥) → v .«name_length» ≤ 127 → nameEnds (v .name) (v .«name_length») ≡ true
-      → eqb (bitAnd (v .flags) 0xFC) 0 ≡ allOf (recordRules size unit v)
+  pub flags-decide : (v.reserved ≡ 0 → ⊥) → (v.alignment ≡ 0 → ⊥) → v.alignment ≤ size
+      → eqb v.alignment 1 || eqb (v.alignment % unit) 0 ≡ true
+      → v.«data_pad» ≡ size % v.alignment → eqb v.«vol_type» 1 || eqb v.«vol_type» 2 ≡ true
+      → v.«update_marker» ≤ 1
+      → (v.«name_length» ≡ 0 → ⊥) → v.«name_length» ≤ 127 → nameEnds v.name v.«name_length» ≡ true
+      → eqb (bitAnd v.flags 0xFC) 0 ≡ allOf (recordRules size unit v)
   unfolding recordRules
   flags-decide r a z m p t u n l e =
       rw (above-zero _ r, above-zero _ a, le-leb _ _ z, m, eq-eqb _ _ p, t, le-leb _ _ u, above-zero _ n, le-leb _ _ l, e)
-      (sym (and-true (eqb (bitAnd (v .flags) 0xFC) 0)))
+      (sym (and-true (eqb (bitAnd v.flags 0xFC) 0)))
 
 -- ---- what a record is
 

@@ -109,7 +109,7 @@ fine-other size unit r p t g = g ∙ rw (← p, t)
 
 pub tallied-as : (size unit : ℕ) (s : Tally) (r : List ℕ) {v : VolumeRecord} {f : Bool} → v ≡ recordOf r
     → f ≡ emptyOrGood size unit r
-    → record { good = f; reserved = s .reserved + v .reserved; autoresize = s .autoresize + bitAnd (v .flags) 1 } ≡ tallied size unit s r
+    → record { good = f; reserved = s.reserved + v.reserved; autoresize = s.autoresize + bitAnd v.flags 1 } ≡ tallied size unit s r
 unfolding tallied
 tallied-as size unit s r p q = rw (p, q)
 
@@ -130,21 +130,21 @@ module _ (size unit : ℕ) (t : List ℕ) where
 
   module _ (i : ℕ) (s u : Tally) (e : u ≡ tallied size unit s (recordAt t i)) where
     -- one record more, and it is empty or good
-    pub tally-more : TallyOf i size unit t s → s .good ≡ true → u .good ≡ true → TallyOf (i + 1) size unit t u
+    pub tally-more : TallyOf i size unit t s → s.good ≡ true → u.good ≡ true → TallyOf (i + 1) size unit t u
     unfolding tallied autoresizes
     tally-more h f g = record {
-      good = g ∙ sym (all-more fineAt i (sym (h .good) ∙ f) (sym (ap (λ (x : Tally). x .good) e) ∙ g));
-      reserved = λ _. ap (λ (x : Tally). x .reserved) e ∙ rw (add-one, h .reserved f);
+      good = g ∙ sym (all-more fineAt i (sym h.good ∙ f) (sym (ap (λ (x : Tally). x.good) e) ∙ g));
+      reserved = λ _. ap (λ (x : Tally). x.reserved) e ∙ rw (add-one, h.reserved f);
       autoresize = λ _.
-          ap (λ (x : Tally). x .autoresize) e
-          ∙ rw (add-one, h .autoresize f, ← (bit-counts (bitAnd (recordOf (recordAt t i) .flags) 1) (and-le-r (recordOf (recordAt t i) .flags) 1)));
+          ap (λ (x : Tally). x.autoresize) e
+          ∙ rw (add-one, h.autoresize f, ← (bit-counts (bitAnd (recordOf (recordAt t i) .flags) 1) (and-le-r (recordOf (recordAt t i) .flags) 1)));
     }
 
     -- it is neither: the rest does not matter
-    pub tally-stop : (n : ℕ) → i < n → u .good ≡ false → TallyOf n size unit t u
+    pub tally-stop : (n : ℕ) → i < n → u.good ≡ false → TallyOf n size unit t u
     unfolding tallied
     tally-stop n h g = record {
-      good = g ∙ sym (all-fails n fineAt i h (sym (ap (λ (x : Tally). x .good) e) ∙ g));
+      good = g ∙ sym (all-fails n fineAt i h (sym (ap (λ (x : Tally). x.good) e) ∙ g));
       reserved = λ b. clash g b;
       autoresize = λ b. clash g b;
     }
@@ -178,28 +178,28 @@ pub record Summed (size unit : ℕ) (content : List ℕ) (n : ℕ) (t : List ℕ
 module _ (size unit pebs : ℕ) (content : List ℕ) {n : ℕ} {t : List ℕ} {s : Tally}
     (h : Summed size unit content n t s) where
   fails : (k : ℕ) → getD (tableTests n size unit pebs t) k true ≡ false → false ≡ tableGood size unit pebs content
-  fails = one-fails size unit pebs content (h .count) (h .records)
+  fails = one-fails size unit pebs content h.count h.records
 
   pub not-fine : s .good ≡ false → false ≡ tableGood size unit pebs content
   unfolding tableTests tableRules
-  not-fine f = fails 2 (sym (h .sums .good) ∙ f)
+  not-fine f = fails 2 (sym h.sums.good ∙ f)
 
   module _ (f : s .good ≡ true) where
-    pub too-many : 1 < s .autoresize → false ≡ tableGood size unit pebs content
+    pub too-many : 1 < s.autoresize → false ≡ tableGood size unit pebs content
     unfolding tableTests tableRules
-    too-many l = fails 4 (lt-leb _ _ (rw (h .sums .autoresize f) at l))
+    too-many l = fails 4 (lt-leb _ _ (rw (h.sums.autoresize f) at l))
 
-    pub too-much : pebs - 2 < s .reserved → false ≡ tableGood size unit pebs content
+    pub too-much : pebs - 2 < s.reserved → false ≡ tableGood size unit pebs content
     unfolding tableTests tableRules
-    too-much l = fails 5 (lt-leb _ _ (rw (h .sums .reserved f) at l))
+    too-much l = fails 5 (lt-leb _ _ (rw (h.sums.reserved f) at l))
 
     -- with the other rules kept, the names decide
-    pub names-decide : {d : Bool} → (n ≡ 0 → ⊥) → 172 * n ≤ length t → s .autoresize ≤ 1 → s .reserved ≤ pebs - 2
+    pub names-decide : {d : Bool} → (n ≡ 0 → ⊥) → 172 * n ≤ length t → s.autoresize ≤ 1 → s.reserved ≤ pebs - 2
         → d ≡ not (anyBelow n (λ (j : ℕ). anyBelow j (repeats t j))) → d ≡ tableGood size unit pebs content
     unfolding tableGood tableTests tableRules
     names-decide z l a r d =
         d
-        ∙ rw (← (h .count), ← (h .records), above-zero _ z, le-leb _ _ l, ← (h .sums .good), f, ← (h .sums .autoresize f), le-leb _ _ a, ← (h .sums .reserved f), le-leb _ _ r)
+        ∙ rw (← h.count, ← h.records, above-zero _ z, le-leb _ _ l, ← h.sums.good, f, ← (h.sums.autoresize f), le-leb _ _ a, ← (h.sums.reserved f), le-leb _ _ r)
         (sym (and-true (not (anyBelow n (λ (j : ℕ). anyBelow j (repeats t j))))))
 
 -- ---- the table taken

@@ -57,7 +57,7 @@ fewer (suc u) p =
 
 unfoldable countOf : ℕ → List Entry → ℕ
 countOf v [] = 0
-countOf v (e ∷ es) = cond (eqb (e .volume) v) 1 0 + countOf v es
+countOf v (e ∷ es) = cond (eqb e.volume v) 1 0 + countOf v es
 
 count-front : (n : ℕ) (p : ℕ → Bool) → countBelow (suc n) p ≡ cond (p 0) 1 0 + countBelow n (λ i. p (suc i))
 count-front zero p = omega arith

@@ -64,14 +64,14 @@ module _ {g : Geometry} {n : ℕ} {image map table : List ℕ} {count : ℕ} (s 
   pub face-or : {l : ℕ} → l < most → (fs s v l ≡ none) ⊎ EntryOf map count v l
   face-or {l} h =
       by-option (ps s v l) (λ q. inl (face-is g n image v l ∙ ap (mapO (faceAt g image)) q))
-      (λ p q. let r = index-of s hv h q in inr (record { at = r .0; below = r .1; volume = r .2; leb = r .3 }))
+      (λ p q. let r = index-of s hv h q in inr (record { at = r.0; below = r.1; volume = r.2; leb = r.3 }))
 
   module _ {first : ℕ} (f : FirstOf map count v first) where
     -- below the LEB of the first entry there is none
     pub used-first : first < count → usedOf (rs s) (fs s) v ≡ some (headerAt g image (pebWord map first) .«used_lebs»)
     unfolding usedOf
     used-first h =
-        let e : volumeWord map first ≡ v = f .here h in
+        let e : volumeWord map first ≡ v = f.here h in
         let w : firstBelow most (fs s v) ≡ some (lnumWord map first, faceAt g image (pebWord map first)) =
         first-lowest most (fs s v) (lnumWord map first) (faceAt g image (pebWord map first)) (leb-within h e)
         (face-here h e)
@@ -81,26 +81,26 @@ module _ {g : Geometry} {n : ℕ} {image map table : List ℕ} {count : ℕ} (s 
         below : {l : ℕ} → l < lnumWord map first → (fs s v l ≡ none) ⊎ EntryOf map count v l → fs s v l ≡ none
         below k (inl q) = q
         below k (inr q) =
-            absurd (f .before (q .at) (lower-first s (q .below) h (q .volume ∙ sym (f .here h)) (omega (arith, q .leb)))
-            (q .volume))
+            absurd (f.before q.at (lower-first s q.below h (q.volume ∙ sym (f.here h)) (omega (arith, q.leb)))
+            q.volume)
 
     -- the first entry is one where there is one
     pub first-there : {k : ℕ} → k < count → volumeWord map k ≡ v → first < count
     first-there {k} h e =
-        by-test (ltb k first) (λ q. absurd (f .before k (ltb-true k first q) e))
+        by-test (ltb k first) (λ q. absurd (f.before k (ltb-true k first q) e))
         (λ q. omega (arith, ltb-false k first q))
 
 -- ---- an entry at fault
 
 module _ (asks : Bool) (f : Face) where
-  pub fault-unasked : {s : Bool} → not asks ≡ true → s ≡ f .sound → not s ≡ faultyBy asks f
-  fault-unasked a e = rw (e, not-true asks a) (sym (or-false (not (f .sound))))
+  pub fault-unasked : {s : Bool} → not asks ≡ true → s ≡ f.sound → not s ≡ faultyBy asks f
+  fault-unasked a e = rw (e, not-true asks a) (sym (or-false (not f.sound)))
 
-  pub fault-dynamic : {s : Bool} → f .right ≡ true → s ≡ f .sound → not s ≡ faultyBy asks f
-  fault-dynamic r e = rw (e, r, and-false asks) (sym (or-false (not (f .sound))))
+  pub fault-dynamic : {s : Bool} → f.right ≡ true → s ≡ f.sound → not s ≡ faultyBy asks f
+  fault-dynamic r e = rw (e, r, and-false asks) (sym (or-false (not f.sound)))
 
   -- a wrong CRC is a fault, whatever the flag
-  pub fault-static : {m : Bool} (a : Bool) → not asks ≡ false → f .right ≡ m → f .sound ≡ a || m
+  pub fault-static : {m : Bool} (a : Bool) → not asks ≡ false → f.right ≡ m → f.sound ≡ a || m
       → not m ≡ faultyBy asks f
   fault-static {m} a k r e = rw (e, r, not-false asks k) (go a m)
     where

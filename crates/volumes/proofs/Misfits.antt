@@ -37,7 +37,7 @@ module _ {g : Geometry} {n : ℕ} {image map table : List ℕ} {count : ℕ} (s 
     test l = misfit (recordFor (rs s) v) (usedOf (rs s) (fs s) v) (fs s v l)
 
     abbrev told : ℕ → Bool
-    told j = misfitBy r (headerAt g image (pebWord map (f .first)) .«used_lebs») (headerAt g image (pebWord map j))
+    told j = misfitBy r (headerAt g image (pebWord map f.first) .«used_lebs») (headerAt g image (pebWord map j))
 
     -- the test on a copy's header is the one on its face
     test-entry : {j : ℕ} → j < count → volumeWord map j ≡ v → {b : Bool} → told j ≡ b
@@ -45,10 +45,10 @@ module _ {g : Geometry} {n : ℕ} {image map table : List ℕ} {count : ℕ} (s 
     unfolding copyOf faceOf numbersOf misfitBy
     test-entry h e {b} z =
         let q : r ≡ numbersOf (recordOf (recordAt (rs s) v)) =
-        is ∙ ap (λ (x : List ℕ). numbersOf (recordOf (recordAt x v))) (s .table-is) in
+        is ∙ ap (λ (x : List ℕ). numbersOf (recordOf (recordAt x v))) s.table-is in
         rw (
           record-here s hv h e,
-          used-first s hv (f .is-first) (first-there s hv (f .is-first) h e),
+          used-first s hv f.is-first (first-there s hv f.is-first h e),
           face-here s hv h e,
         )
         (ap (λ (b : Bool). when b 12) (rw q at z))
@@ -58,20 +58,20 @@ module _ {g : Geometry} {n : ℕ} {image map table : List ℕ} {count : ℕ} (s 
         → test l ≡ none
     fine {l} h z =
         ⊎-elim (λ (q : fs s v l ≡ none). rw q (no-misfit (recordFor (rs s) v) (usedOf (rs s) (fs s) v)))
-        (λ (q : EntryOf map count v l). let j = q .at in
-        ap test (sym (q .leb)) ∙ test-entry (q .below) (q .volume)
-        (rw (eq-eqb (volumeWord map j) v (q .volume)) at (f .before j (z j (q .below) (q .volume) (q .leb)))))
+        (λ (q : EntryOf map count v l). let j = q.at in
+        ap test (sym q.leb) ∙ test-entry q.below q.volume
+        (rw (eq-eqb (volumeWord map j) v q.volume) at (f.before j (z j q.below q.volume q.leb))))
         (face-or s hv h)
 
     module _ (h : k < count) where
       volume-here : volumeWord map k ≡ v
-      volume-here = eqb-true (volumeWord map k) v (and-left (isOf map v k) (told k) (f .here h))
+      volume-here = eqb-true (volumeWord map k) v (and-left (isOf map v k) (told k) (f.here h))
 
       leb-here : misfitIn (rs s) (fs s) v ≡ some (lnumWord map k)
       unfolding misfitIn
       leb-here =
           let b : test (lnumWord map k) ≡ some 12 =
-          test-entry h volume-here (and-right (isOf map v k) (told k) (f .here h)) in
+          test-entry h volume-here (and-right (isOf map v k) (told k) (f.here h)) in
           let c = leb-within s hv h volume-here in
           rw
           (first-lowest (most s hv) test (lnumWord map k) 12 c b
@@ -80,20 +80,20 @@ module _ {g : Geometry} {n : ℕ} {image map table : List ℕ} {count : ℕ} (s 
     pub misfit-told : VolumeMisfit (mediumOf g n image) map count v k
     unfolding misfitIn
     misfit-told = record {
-      within = f .within;
+      within = f.within;
       none-in = λ h. rw (first-none (most s hv) test (λ l q. fine q (λ j a _ _. omega arith)));
       volume = volume-here;
       some-in = leb-here;
     }
 
   -- a volume with no record has no entry
-  pub no-record : {v : ℕ} {r : RecordNumbers} → r ≡ numbersOf (recordOf (recordAt table v)) → r .reserved ≡ 0
+  pub no-record : {v : ℕ} {r : RecordNumbers} → r ≡ numbersOf (recordOf (recordAt table v)) → r.reserved ≡ 0
       → VolumeMisfit (mediumOf g n image) map count v count
   unfolding misfitIn numbersOf
   no-record {v} is e =
       let q : recordOf (recordAt (rs s) v) .reserved ≡ 0 =
-      ap (λ (x : List ℕ). recordOf (recordAt x v) .reserved) (sym (s .table-is))
-      ∙ ap (λ (k : RecordNumbers). k .reserved) (sym is) ∙ e in
+      ap (λ (x : List ℕ). recordOf (recordAt x v) .reserved) (sym s.table-is)
+      ∙ ap (λ (k : RecordNumbers). k.reserved) (sym is) ∙ e in
       record {
         within = omega arith;
         none-in = λ _. rw (record-not (rs s) v q);
@@ -109,11 +109,11 @@ module _ {g : Geometry} {n : ℕ} {image map table : List ℕ} {count : ℕ} (s 
       → misfitRefusal map count k ≡ tableRefusal (mediumOf g n image)
   unfolding misfitAt
   refused-here {v} hv {k} m h z =
-      let p : ps s v (lnumWord map k) ≡ some (pebWord map k) = rw (m .volume h) at (place-is s h) in
+      let p : ps s v (lnumWord map k) ≡ some (pebWord map k) = rw (m.volume h) at (place-is s h) in
       rw (
         lt-ltb k count h,
         s .taken-is,
-        first-lowest 128 (misfitIn (rs s) (fs s)) v (lnumWord map k) hv (m .some-in h) z,
+        first-lowest 128 (misfitIn (rs s) (fs s)) v (lnumWord map k) hv (m.some-in h) z,
         p,
       )
 
@@ -122,7 +122,7 @@ module _ {g : Geometry} {n : ℕ} {image map table : List ℕ} {count : ℕ} (s 
   unfolding misfitAt
   not-refused z =
       let h : count ≤ count = omega arith in
-      rw (le-ltb count count h, s .taken-is, first-none 128 (misfitIn (rs s) (fs s)) z)
+      rw (le-ltb count count h, s.taken-is, first-none 128 (misfitIn (rs s) (fs s)) z)
 
   -- so where the search finds none, no entry is a misfit
   pub none-misfits : (k : ℕ) → misfitRefusal map count k ≡ tableRefusal (mediumOf g n image) → count ≤ k

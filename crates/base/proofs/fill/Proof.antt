@@ -17,17 +17,17 @@ abbrev μ-loop : tie.MeasureT-loop
 
 loop-again : tie.Need-loop-again Inv-loop μ-loop
 loop-again c =
-    let l = c .before .loop in
-    let a = c .before .before .args in
-    (omega arith, (rw length-set (l .inv .1 .0), rw (l .inv .1 .1) (fill-more (l .i) (a .value) (a .out .now) (omega arith))))
+    let l = c.before.loop in
+    let a = c.before.before.args in
+    (omega arith, (rw length-set l.inv.1.0, rw l.inv.1.1 (fill-more l.i a.value a.out.now (omega arith))))
 
 same-length : tie.Need-same-length Inv-loop μ-loop
-same-length c = c .before .loop .inv .1 .0
+same-length c = c.before.loop.inv.1.0
 
 returns : tie.Need-returns Inv-loop μ-loop
 returns c =
-    let e : c .before .loop .i ≡ c .before .before .args .n = omega arith in
-    rw e at (c .before .loop .inv .1 .1)
+    let e : c .before .loop .i ≡ c.before.before.args.n = omega arith in
+    rw e at c.before.loop.inv.1.1
 
 pub fill-spec : {M : Type 1} → statement M
 fill-spec =

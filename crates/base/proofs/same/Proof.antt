@@ -16,25 +16,25 @@ abbrev μ-loop : tie.MeasureT-loop
 μ-loop a b i₀ i = length a - i
 
 returns : tie.Need-returns Inv-loop μ-loop
-returns c = sym (eqs-lengths (c .before .args .a .now) (c .before .args .b .now) (c .if1 .taken))
+returns c = sym (eqs-lengths c.before.args.a.now c.before.args.b.now c.if1.taken)
 
 returns-2 : tie.Need-returns-2 Inv-loop μ-loop
 returns-2 c =
-    let l = c .before .before .before .before .loop in
-    let a = c .before .before .before .before .before .before .args in
-    sym (eqs-stop (a .a .now) (a .b .now) (l .i) (omega arith) (omega arith) (c .if2 .taken)) ∙ l .inv .1 .1
+    let l = c.before.before.before.before.loop in
+    let a = c.before.before.before.before.before.before.args in
+    sym (eqs-stop a.a.now a.b.now l.i (omega arith) (omega arith) c.if2.taken) ∙ l .inv .1 .1
 
 loop-again : tie.Need-loop-again Inv-loop μ-loop
 loop-again c =
-    let at-loop = c .before .before .before .before in let l = at-loop .loop in let a = at-loop .before .before .args in
-    (l .inv .0, (omega arith, sym (eqs-go (a .a .now) (a .b .now) (l .i) (omega arith) (omega arith) (c .if2 .left)) ∙ l .inv .1 .1))
+    let at-loop = c.before.before.before.before in let l = at-loop.loop in let a = at-loop.before.before.args in
+    (l.inv.0, (omega arith, sym (eqs-go a.a.now a.b.now l.i (omega arith) (omega arith) c.if2.left) ∙ l .inv .1 .1))
 
 returns-3 : tie.Need-returns-3 Inv-loop μ-loop
 returns-3 c =
-    let l = c .before .loop in
-    let a = c .before .before .before .args in
-    let e : l .i ≡ length (a .a .now) = omega arith in
-    sym (eqs-end (a .a .now) (a .b .now) (l .inv .0)) ∙ rw e at (l .inv .1 .1)
+    let l = c.before.loop in
+    let a = c.before.before.before.args in
+    let e : l .i ≡ length a.a.now = omega arith in
+    sym (eqs-end a.a.now a.b.now l.inv.0) ∙ rw e at l.inv.1.1
 
 pub same-spec : {M : Type 1} → statement M
 same-spec =

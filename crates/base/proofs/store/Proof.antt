@@ -17,22 +17,22 @@ abbrev μ-loop : tie.MeasureT-loop
 μ-loop out₀ at bytes i₀ out i = length bytes - i
 
 loop-holds : tie.Need-loop-holds Inv-loop μ-loop
-loop-holds c = (omega arith, (refl, paste-zero (c .args .out .now) (c .args .at) (c .args .bytes .now)))
+loop-holds c = (omega arith, (refl, paste-zero c.args.out.now c.args.at c.args.bytes.now))
 
 loop-again : tie.Need-loop-again Inv-loop μ-loop
 loop-again c =
-    let l = c .before .before .loop in
-    let a = c .before .before .before .args in
-    (omega arith, (rw length-set (l .inv .1 .0), rw (l .inv .1 .1, add-one) (paste-suc (a .out .now) (a .at) (a .bytes .now) (l .i) 0 (omega arith) (omega arith))))
+    let l = c.before.before.loop in
+    let a = c.before.before.before.args in
+    (omega arith, (rw length-set l.inv.1.0, rw (l.inv.1.1, add-one) (paste-suc a.out.now a.at a.bytes.now l.i 0 (omega arith) (omega arith))))
 
 same-length : tie.Need-same-length Inv-loop μ-loop
-same-length c = c .before .loop .inv .1 .0
+same-length c = c.before.loop.inv.1.0
 
 returns : tie.Need-returns Inv-loop μ-loop
 returns c =
-    let a = c .before .before .args in
-    let e : c .before .loop .i ≡ length (a .bytes .now) = omega arith in
-    rw e at (c .before .loop .inv .1 .1) ∙ paste-all (a .out .now) (a .at) (a .bytes .now)
+    let a = c.before.before.args in
+    let e : c .before .loop .i ≡ length a.bytes.now = omega arith in
+    rw e at c.before.loop.inv.1.1 ∙ paste-all a.out.now a.at a.bytes.now
 
 pub store-spec : {M : Type 1} → statement M
 store-spec =

@@ -7,8 +7,8 @@ use Rattle.bench_attach.proofs.bench_attach.Tie as tie
 
 returns : tie.Need-returns
 returns c =
-    let e = c .before .before .before .before .before .before .before .attach .ensures in
-    (c .code .ensures ∙ ap codeOf (e .0), e .1)
+    let e = c.before.before.before.before.before.before.before.attach.ensures in
+    (c.code.ensures ∙ ap codeOf e.0, e.1)
 
 pub bench-attach-spec : {M : Type 1} → statement M
 bench-attach-spec =

@@ -8,7 +8,7 @@ use Rattle.bench_attach.proofs.code.Statement.{statement}
 use Rattle.bench_attach.proofs.code.Tie as tie
 
 returns-2 : tie.Need-returns-2
-returns-2 c = sym (ap (λ (x : Attached). codeOf (attachedAnswer x)) (c .before .a2 .given .1))
+returns-2 c = sym (ap (λ (x : Attached). codeOf (attachedAnswer x)) c.before.a2.given.1)
 
 pub code-spec : {M : Type 1} → statement M
 code-spec =

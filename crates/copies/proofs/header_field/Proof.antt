@@ -13,12 +13,12 @@ use Rattle.copies.proofs.header_field.Tie as tie
 returns : tie.Need-returns
 unfolding headerAt
 returns c =
-    let d = c .before .before .before .before .before in
-    let a = d .args in
+    let d = c.before.before.before.before.before in
+    let a = d.args in
     c .vid-field .ensures
-    ∙ ap (λ (l : List ℕ). vidField (a .field) (vidFields l))
-    (lent-peb (a .g) (a .image .now) (a .i) (a .g .«vid_start») 64
-    (omega (arith, d .pre .0 .data-after-vid, d .pre .0 .leb-fills)))
+    ∙ ap (λ (l : List ℕ). vidField a.field (vidFields l))
+    (lent-peb a.g a.image.now a.i a.g.«vid_start» 64
+    (omega (arith, d.pre.0.data-after-vid, d.pre.0.leb-fills)))
 
 pub header-field-spec : {M : Type 1} → statement M
 header-field-spec =

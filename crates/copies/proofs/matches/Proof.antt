@@ -8,18 +8,18 @@ use Rattle.copies.proofs.matches.Tie as tie
 
 add-crc32 : tie.Need-add-crc32
 add-crc32 c =
-    omega (arith, size-within (c .before .before .before .before .pre) (c .before .before .header-field .ensures))
+    omega (arith, size-within c.before.before.before.before.pre c.before.before.header-field.ensures)
 
 part-crc32-end : tie.Need-part-crc32-end
 part-crc32-end c =
-    let d = c .before .before .before .before in
-    omega (arith, size-within (d .pre) (c .before .before .header-field .ensures))
+    let d = c.before.before.before.before in
+    omega (arith, size-within d.pre c.before.before.header-field.ensures)
 
 returns : tie.Need-returns
 returns c =
-    let d = c .before .before .before .before .before in
-    matches-run (d .before .before .pre) _ refl (d .header-field .ensures) (c .before .crc32 .ensures)
-    (c .header-field2 .ensures)
+    let d = c.before.before.before.before.before in
+    matches-run d.before.before.pre _ refl d.header-field.ensures c.before.crc32.ensures
+    c.header-field2.ensures
 
 pub matches-spec : {M : Type 1} → statement M
 matches-spec =

@@ -20,19 +20,19 @@ loop-holds c = (omega arith, (refl, refl))
 
 loop-again : tie.Need-loop-again Inv-loop μ-loop
 loop-again c =
-    let l = c .before .loop in
-    (omega arith, (rw length-set (l .inv .1 .0), store-step (c .before .before .args .at) (l .i) (l .v) (l .s) (omega arith) (omega arith) ∙ l .inv .1 .1))
+    let l = c.before.loop in
+    (omega arith, (rw length-set l.inv.1.0, store-step c.before.before.args.at l.i l.v l.s (omega arith) (omega arith) ∙ l .inv .1 .1))
 
 same-length : tie.Need-same-length Inv-loop μ-loop
-same-length c = c .before .loop .inv .1 .0
+same-length c = c.before.loop.inv.1.0
 
 returns : tie.Need-returns Inv-loop μ-loop
 returns c =
-    let l = c .before .loop in
-    let a = c .before .before .args in
+    let l = c.before.loop in
+    let a = c.before.before.args in
     let e : l .i ≡ 0 = omega arith in
-    sym (store-none (a .at) (l .v) (l .s)) ∙ rw e at (l .inv .1 .1)
-    ∙ store-all (a .at) (a .width) (a .value) (a .s .now)
+    sym (store-none a.at l.v l.s) ∙ rw e at l.inv.1.1
+    ∙ store-all a.at a.width a.value a.s.now
 
 pub write-spec : {M : Type 1} → statement M
 write-spec =

@@ -8,9 +8,9 @@ use Rattle.flash_writes.proofs.erase.Tie as tie
 
 returns : tie.Need-returns
 returns c =
-    let a = c .before .before .before .before .before .args in
-    stored-part (a .at) (a .n) (replicate (a .n) 0xFF) (a .image .now) (omega arith) (length-replicate (a .n) 0xFF)
-    (c .before .before .fill .ensures)
+    let a = c.before.before.before.before.before.args in
+    stored-part a.at a.n (replicate a.n 0xFF) a.image.now (omega arith) (length-replicate a.n 0xFF)
+    c.before.before.fill.ensures
 
 pub erase-spec : {M : Type 1} → statement M
 erase-spec =

@@ -19,26 +19,26 @@ abbrev μ-loop : tie.MeasureT-loop
 
 returns : tie.Need-returns Inv-loop μ-loop
 returns c =
-    let l = c .before .before .before in
-    let a = l .before .before .args in
+    let l = c.before.before.before in
+    let a = l.before.before.args in
     sym
-    (all-fails (a .n) (soundPeb (a .pebs .now)) (l .loop .i) (omega arith)
-    (sym (c .before .peb-sound .ensures) ∙ not-true _ (c .if1 .taken)))
+    (all-fails a.n (soundPeb a.pebs.now) l.loop.i (omega arith)
+    (sym c.before.peb-sound.ensures ∙ not-true _ c.if1.taken))
 
 loop-again : tie.Need-loop-again Inv-loop μ-loop
 loop-again c =
-    let l = c .before .before .before in
-    let a = l .before .before .args in (
+    let l = c.before.before.before in
+    let a = l.before.before.args in (
       omega arith,
-      all-more (soundPeb (a .pebs .now)) (l .loop .i) (l .loop .inv .1)
-          (sym (c .before .peb-sound .ensures) ∙ not-false _ (c .if1 .left)),
+      all-more (soundPeb a.pebs.now) l.loop.i l.loop.inv.1
+          (sym c.before.peb-sound.ensures ∙ not-false _ c.if1.left),
     )
 
 returns-2 : tie.Need-returns-2 Inv-loop μ-loop
 returns-2 c =
-    let l = c .before .loop in
-    let e : l .i ≡ c .before .before .before .args .n = omega arith in
-    sym (rw e at (l .inv .1))
+    let l = c.before.loop in
+    let e : l .i ≡ c.before.before.before.args.n = omega arith in
+    sym (rw e at l.inv.1)
 
 pub pebs-sound-spec : {M : Type 1} → statement M
 pebs-sound-spec =

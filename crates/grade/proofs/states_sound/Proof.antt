@@ -20,32 +20,32 @@ abbrev μ-loop : tie.MeasureT-loop
 
 returns : tie.Need-returns Inv-loop μ-loop
 returns c =
-    let l = c .before .before .before in
-    let sound = soundState (l .before .args .states .now) in
-    sym (all-fails stateWordsNeeded sound (l .loop .v) (omega arith) (rw (eq-eqb _ _ (c .if1 .taken))))
+    let l = c.before.before.before in
+    let sound = soundState l.before.args.states.now in
+    sym (all-fails stateWordsNeeded sound l.loop.v (omega arith) (rw (eq-eqb _ _ c.if1.taken)))
 
 returns-2 : tie.Need-returns-2 Inv-loop μ-loop
 returns-2 c =
-    let l = c .before .before .before .before .before in
-    let sound = soundState (l .before .args .states .now) in
+    let l = c.before.before.before.before.before in
+    let sound = soundState l.before.args.states.now in
     sym
-    (all-fails stateWordsNeeded sound (l .loop .v) (omega arith)
-    (rw (ne-eqb _ _ (c .before .before .if1 .left), eq-eqb _ _ (c .if2 .taken))))
+    (all-fails stateWordsNeeded sound l.loop.v (omega arith)
+    (rw (ne-eqb _ _ c.before.before.if1.left, eq-eqb _ _ c.if2.taken)))
 
 loop-again : tie.Need-loop-again Inv-loop μ-loop
 loop-again c =
-    let l = c .before .before .before .before .before in
-    let sound = soundState (l .before .args .states .now) in (
+    let l = c.before.before.before.before.before in
+    let sound = soundState l.before.args.states.now in (
       omega arith,
-      all-more sound (l .loop .v) (l .loop .inv .1)
-          (rw (ne-eqb _ _ (c .before .before .if1 .left), ne-eqb _ _ (c .if2 .left))),
+      all-more sound l.loop.v l.loop.inv.1
+          (rw (ne-eqb _ _ c.before.before.if1.left, ne-eqb _ _ c.if2.left)),
     )
 
 returns-3 : tie.Need-returns-3 Inv-loop μ-loop
 returns-3 c =
-    let l = c .before .loop in
+    let l = c.before.loop in
     let e : l .v ≡ stateWordsNeeded = omega arith in
-    sym (rw e at (l .inv .1))
+    sym (rw e at l.inv.1)
 
 pub states-sound-spec : {M : Type 1} → statement M
 states-sound-spec =

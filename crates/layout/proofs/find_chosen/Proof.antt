@@ -22,21 +22,21 @@ loop-holds c = (omega arith, λ j h. absurd (omega arith))
 returns : tie.Need-returns Inv-loop μ-loop
 returns c = record {
   range = omega arith;
-  none-before = c .before .before .before .loop .inv .1;
-  is = λ h. sym (c .before .is-chosen .ensures) ∙ c .if1 .taken;
+  none-before = c.before.before.before.loop.inv.1;
+  is = λ h. sym c.before.is-chosen.ensures ∙ c .if1 .taken;
 }
 
 loop-again : tie.Need-loop-again Inv-loop μ-loop
 loop-again c =
-    let l = c .before .before .before .loop in
-    let a = c .before .before .before .before .before .before .args in
-    let P : ℕ → Type 0 = λ j. isChosen (a .pebs .now) (a .map .now) (a .volume) (a .lnum) j ≡ false in
-    (omega arith, one-more P (l .i) (l .inv .1) (sym (c .before .is-chosen .ensures) ∙ c .if1 .left))
+    let l = c.before.before.before.loop in
+    let a = c.before.before.before.before.before.before.args in
+    let P : ℕ → Type 0 = λ j. isChosen a.pebs.now a.map.now a.volume a.lnum j ≡ false in
+    (omega arith, one-more P l.i l.inv.1 (sym c.before.is-chosen.ensures ∙ c .if1 .left))
 
 returns-2 : tie.Need-returns-2 Inv-loop μ-loop
 returns-2 c =
-    let e : c .before .loop .i ≡ c .before .before .before .before .args .n = omega arith in
-    record { range = omega arith; none-before = rw e at (c .before .loop .inv .1); is = λ h. absurd (omega arith) }
+    let e : c .before .loop .i ≡ c.before.before.before.before.args.n = omega arith in
+    record { range = omega arith; none-before = rw e at c.before.loop.inv.1; is = λ h. absurd (omega arith) }
 
 pub find-chosen-spec : {M : Type 1} → statement M
 find-chosen-spec =

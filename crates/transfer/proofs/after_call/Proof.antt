@@ -15,24 +15,24 @@ use Rattle.transfer.proofs.after_call.Tie as tie
 
 returns : tie.Need-returns
 returns c =
-    let a = c .before .before .args in
-    let back = toZ-ofZ (c .before .before .fits .got) in
+    let a = c.before.before.args in
+    let back = toZ-ofZ c.before.before.fits.got in
     c .after-error .ensures
-    ∙ negative (a .room) (a .p) (a .got) (a .interrupted) (subst (λ (z : ℤ). ltZ z (pos 0) ≡ true) back (c .before .if1 .taken))
+    ∙ negative a.room a.p a.got a.interrupted (subst (λ (z : ℤ). ltZ z (pos 0) ≡ true) back c.before.if1.taken)
 
 cast-after-bytes : tie.Need-cast-after-bytes
 cast-after-bytes c =
-    let a = c .before .args in
-    let back = toZ-ofZ (c .before .fits .got) in
+    let a = c.before.args in
+    let back = toZ-ofZ c.before.fits.got in
     subst (λ (z : ℤ). T (nonNeg z) × Fits w64 (natAbs z)) (sym back)
-    (casts (a .got) (subst (λ (z : ℤ). ltZ z (pos 0) ≡ false) back (c .if1 .left)) (c .before .fits .got))
+    (casts a.got (subst (λ (z : ℤ). ltZ z (pos 0) ≡ false) back c.if1.left) c.before.fits.got)
 
 returns-2 : tie.Need-returns-2
 returns-2 c =
-    let a = c .before .before .args in
-    let back = toZ-ofZ (c .before .before .fits .got) in
-    c .after-bytes .ensures ∙ ap (λ (z : ℤ). afterBytes (a .room) (a .p) (natAbs z)) back
-    ∙ not-negative (a .room) (a .p) (a .got) (a .interrupted) (subst (λ (z : ℤ). ltZ z (pos 0) ≡ false) back (c .before .if1 .left))
+    let a = c.before.before.args in
+    let back = toZ-ofZ c.before.before.fits.got in
+    c .after-bytes .ensures ∙ ap (λ (z : ℤ). afterBytes a.room a.p (natAbs z)) back
+    ∙ not-negative a.room a.p a.got a.interrupted (subst (λ (z : ℤ). ltZ z (pos 0) ≡ false) back c.before.if1.left)
 
 pub after-call-spec : {M : Type 1} → statement M
 after-call-spec =

@@ -4,10 +4,10 @@ use Rattle.transfer.proofs.after_error.Statement.{statement}
 use Rattle.transfer.proofs.after_error.Tie as tie
 
 returns : tie.Need-returns
-returns c = rw (c .before .if1 .taken) (c .after-interruption .ensures)
+returns c = rw c.before.if1.taken c.after-interruption.ensures
 
 returns-2 : tie.Need-returns-2
-returns-2 c = rw (c .if1 .left)
+returns-2 c = rw c.if1.left
 
 pub after-error-spec : {M : Type 1} → statement M
 after-error-spec =

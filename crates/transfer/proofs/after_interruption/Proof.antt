@@ -7,11 +7,11 @@ use Rattle.transfer.proofs.after_interruption.Tie as tie
 
 returns : tie.Need-returns
 unfolding afterInterruption
-returns c = rw (eq-eqb _ _ (c .if1 .taken))
+returns c = rw (eq-eqb _ _ c.if1.taken)
 
 returns-2 : tie.Need-returns-2
 unfolding afterInterruption
-returns-2 c = rw (ne-eqb _ _ (c .before .if1 .left))
+returns-2 c = rw (ne-eqb _ _ c.before.if1.left)
 
 pub after-interruption-spec : {M : Type 1} → statement M
 after-interruption-spec =

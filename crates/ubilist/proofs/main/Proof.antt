@@ -6,7 +6,7 @@ use Rattle.ubilist.proofs.main.Tie as tie
 
 part-print-listing-end : tie.Need-part-print-listing-end
 part-print-listing-end c =
-    let h = rw (c .before .before .i .given .1) at (c .before .before .before .before .before .read .ensures) in
+    let h = rw c.before.before.i.given.1 at c.before.before.before.before.before.read.ensures in
     omega (arith, h)
 
 pub main-spec : {M : Type 1} → statement M

@@ -7,8 +7,8 @@ use Rattle.vid_header.proofs.vid_field.Tie as tie
 
 returns : tie.Need-returns
 returns c =
-    let d = c .before .before in
-    c .get .ensures .0 ∙ vid-field-at (d .args .i) (d .args .header .now) (d .pre .0)
+    let d = c.before.before in
+    c .get .ensures .0 ∙ vid-field-at d.args.i d.args.header.now d.pre.0
 
 pub vid-field-spec : {M : Type 1} → statement M
 vid-field-spec = tie.close (tie.spec (λ c κs. search needs) returns)

@@ -19,14 +19,14 @@ abbrev μ-loop : tie.MeasureT-loop
 
 loop-again : tie.Need-loop-again Inv-loop μ-loop
 loop-again c =
-    let l = c .before .loop in
-    let w = c .before .before .args .words .now in
-    (omega arith, rw length-set (l .inv .1), rw (l .inv .2) (fill-more (l .i) noWord w (omega arith)))
+    let l = c.before.loop in
+    let w = c.before.before.args.words.now in
+    (omega arith, rw length-set l.inv.1, rw l.inv.2 (fill-more l.i noWord w (omega arith)))
 
 returns : tie.Need-returns Inv-loop μ-loop
 returns c =
-    let e : c .before .loop .i ≡ c .before .before .args .n = omega arith in
-    rw e at (c .before .loop .inv .2)
+    let e : c .before .loop .i ≡ c.before.before.args.n = omega arith in
+    rw e at c.before.loop.inv.2
 
 pub fill-words-spec : {M : Type 1} → statement M
 fill-words-spec =

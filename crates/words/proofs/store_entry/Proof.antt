@@ -16,8 +16,8 @@ slice-write-map-3 c = simp length-set (omega arith)
 
 returns : tie.Need-returns
 returns c =
-    let a = c .args in
-    set-three (a .map .now) (a .k * entryStride) (a .volume) (a .lnum) (a .peb) (omega arith)
+    let a = c.args in
+    set-three a.map.now (a.k * entryStride) a.volume a.lnum a.peb (omega arith)
 
 pub store-entry-spec : {M : Type 1} → statement M
 store-entry-spec =

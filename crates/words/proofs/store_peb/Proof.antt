@@ -12,7 +12,7 @@ slice-write-pebs-2 : tie.Need-slice-write-pebs-2
 slice-write-pebs-2 c = simp length-set (omega arith)
 
 returns : tie.Need-returns
-returns c = let a = c .args in set-two (a .pebs .now) (a .i * pebStride) (a .class) (a .counter) (omega arith)
+returns c = let a = c.args in set-two a.pebs.now (a.i * pebStride) a.class a.counter (omega arith)
 
 pub store-peb-spec : {M : Type 1} → statement M
 store-peb-spec =

@@ -8,15 +8,15 @@ use Rattle.attach.proofs.summary.mean.Statement.{statement}
 use Rattle.attach.proofs.summary.mean.Tie as tie
 
 returns : tie.Need-returns
-returns c = let e = c .if1 .taken in rw (e, div-zero)
+returns c = let e = c.if1.taken in rw (e, div-zero)
 
 div-result : tie.Need-div-result
 div-result c = search needs
 
 cast-result : tie.Need-cast-result
 cast-result c =
-    let a = c .before .args in
-    let q : a .sum / a .count ≤ 0x7FFFFFFF = div-le-of-le-mul _ (omega (arith, c .before .pre)) in
+    let a = c.before.args in
+    let q : a .sum / a.count ≤ 0x7FFFFFFF = div-le-of-le-mul _ (omega (arith, c.before.pre)) in
     omega (arith, q)
 
 returns-2 : tie.Need-returns-2

@@ -8,16 +8,16 @@ use Rattle.attach.proofs.summary.report_mapped.Tie as tie
 
 cast-t21 : tie.Need-cast-t21
 cast-t21 c =
-    let start = c .before .before .before .before .before .before .before .before .before .before .before .before .before in
-    let p = start .pre in omega (arith, within (p .fitting .sorted) .1, p .room .few)
+    let start = c.before.before.before.before.before.before.before.before.before.before.before.before.before in
+    let p = start.pre in omega (arith, within p.fitting.sorted .1, p.room.few)
 
 returns : tie.Need-returns
 returns c =
-    let at-states = c .before .before .before .before .before .before in let at-fill-states = at-states .before in
-    let d = at-fill-states .before .before .before .before .before .before .before in
-    let z = at-fill-states .fill-states .ensures in
-    let g = graded (d .pre) z (search (needs, at-states .states .given)) in
-    (report-is (d .pre) (c .mean .ensures) (c .before .before .before .grade .ensures (d .args .g) (d .args .image .now) g), z)
+    let at-states = c.before.before.before.before.before.before in let at-fill-states = at-states.before in
+    let d = at-fill-states.before.before.before.before.before.before.before in
+    let z = at-fill-states.fill-states.ensures in
+    let g = graded d.pre z (search (needs, at-states.states.given)) in
+    (report-is d.pre c.mean.ensures (c.before.before.before.grade.ensures d.args.g d.args.image.now g), z)
 
 pub report-mapped-spec : {M : Type 1} → statement M
 report-mapped-spec =

@@ -8,14 +8,14 @@ use Rattle.attach.proofs.tables.refuse.Tie as tie
 
 returns : tie.Need-returns
 returns c =
-    let at-fill-words2 = c .before .before .before .before .before .before in
-    let p = at-fill-words2 .before .before .before .before in let a = p .before .before .before .before .before .args in
+    let at-fill-words2 = c.before.before.before.before.before.before in
+    let p = at-fill-words2.before.before.before.before in let a = p.before.before.before.before.before.args in
     record {
       answer = refl;
       tables-are =
-          lent-same (filled (pebWordsNeeded (a .n)) (a .pebs .now) (p .fill-words .ensures))
-          (filled (mapWordsNeeded (a .n)) (a .map .now) (at-fill-words2 .fill-words2 .ensures))
-          (filled stateWordsNeeded (a .states .now) (c .before .before .fill-words3 .ensures));
+          lent-same (filled (pebWordsNeeded a.n) a.pebs.now p.fill-words.ensures)
+          (filled (mapWordsNeeded a.n) a.map.now at-fill-words2.fill-words2.ensures)
+          (filled stateWordsNeeded a.states.now c.before.before.fill-words3.ensures);
     }
 
 pub refuse-spec : {M : Type 1} → statement M

@@ -10,15 +10,15 @@ use Rattle.choice.proofs.chain.head.Statement.{statement}
 use Rattle.choice.proofs.chain.head.Tie as tie
 
 cast-result : tie.Need-cast-result
-cast-result c = omega (arith, c .shared-slice-known3 .given (c .before .bucket .result))
+cast-result c = omega (arith, c.shared-slice-known3.given c.before.bucket.result)
 
 returns : tie.Need-returns
 returns c =
-    let l = c .before .before in
-    let d = l .before .before .before .before in
-    let e = ap₂ bucketOf (l .before .volume-word .ensures) (l .lnum-word .ensures) in
-    ap (λ (b : ℕ). getD (d .args .heads .now) b 0)
-    (c .before .bucket .ensures ∙ e ∙ sym (in-bucket (d .args .map .now) (d .args .i) (d .pre .1 .1)))
+    let l = c.before.before in
+    let d = l.before.before.before.before in
+    let e = ap₂ bucketOf l.before.volume-word.ensures l.lnum-word.ensures in
+    ap (λ (b : ℕ). getD d.args.heads.now b 0)
+    (c.before.bucket.ensures ∙ e ∙ sym (in-bucket d.args.map.now d.args.i d.pre.1.1))
 
 pub head-spec : {M : Type 1} → statement M
 head-spec =

@@ -18,43 +18,43 @@ abbrev μ-loop : tie.MeasureT-loop
 
 -- as many heads as before they were filled
 sized : (c : tie.After-heads Inv-loop μ-loop)
-    → length (c .before .fill-words .last .0) ≡ length (c .before .before .before .before .before .args .heads .now)
-sized c = search (needs, c .heads .given)
+    → length c.before.fill-words.last.0 ≡ length c.before.before.before.before.before.args.heads.now
+sized c = search (needs, c.heads.given)
 
 loop-holds : tie.Need-loop-holds Inv-loop μ-loop
 loop-holds c =
-    let f = c .before .before in
-    let d = f .before .before .before .before in
-    let h = sized (c .before) in (
+    let f = c.before.before in
+    let d = f.before.before.before.before in
+    let h = sized c.before in (
       omega arith,
       record {
-        chained = no-heads (d .args .heads .now) buckets (f .fill-words .ensures) h (lit≤ tt) (d .pre .1 .1) (d .pre .0)
-            (d .pre .1 .0);
-        relinked = relinked-none (d .args .n) (d .args .map .now);
+        chained = no-heads d.args.heads.now buckets f.fill-words.ensures h (lit≤ tt) d.pre.1.1 d.pre.0
+            d.pre.1.0;
+        relinked = relinked-none d.args.n d.args.map.now;
         heads-size = refl;
       },
     )
 
 link-peb-requires : tie.Need-link-peb-requires Inv-loop μ-loop
-link-peb-requires c κs = (omega arith, c .before .before .before .loop .inv .1 .chained)
+link-peb-requires c κs = (omega arith, c.before.before.before.loop.inv.1.chained)
 
 loop-again : tie.Need-loop-again Inv-loop μ-loop
 loop-again c =
-    let l = c .before .before .before .before in
-    (omega arith, chains-on (l .before .before .before .before .loop .inv .1) (l .link-peb .ensures))
+    let l = c.before.before.before.before in
+    (omega arith, chains-on l.before.before.before.before.loop.inv.1 l.link-peb.ensures)
 
 same-length : tie.Need-same-length Inv-loop μ-loop
-same-length c = c .before .loop .inv .1 .relinked .size
+same-length c = c.before.loop.inv.1.relinked.size
 
 same-length-2 : tie.Need-same-length-2 Inv-loop μ-loop
-same-length-2 c = c .before .loop .inv .1 .heads-size ∙ sized (c .before .before .before)
+same-length-2 c = c.before.loop.inv.1.heads-size ∙ sized c.before.before.before
 
 returns : tie.Need-returns Inv-loop μ-loop
 returns c =
-    let h = c .before .before .before in
-    let e : c .before .loop .i ≡ h .before .before .before .before .before .args .n = omega arith in
-    let o = rw e at (c .before .loop .inv .1) in
-    record { chained = o .chained; relinked = o .relinked; heads-size = o .heads-size ∙ sized h }
+    let h = c.before.before.before in
+    let e : c .before .loop .i ≡ h.before.before.before.before.before.args.n = omega arith in
+    let o = rw e at c.before.loop.inv.1 in
+    record { chained = o.chained; relinked = o.relinked; heads-size = o.heads-size ∙ sized h }
 
 pub link-copies-spec : {M : Type 1} → statement M
 link-copies-spec =

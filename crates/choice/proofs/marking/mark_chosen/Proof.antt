@@ -20,27 +20,27 @@ abbrev μ-loop : tie.MeasureT-loop
 μ-loop image g n map heads pebs₀ i₀ pebs i = n - i
 
 loop-holds : tie.Need-loop-holds Inv-loop μ-loop
-loop-holds c = (omega arith, (refl, (c .before .before .before .before .pre .1, refl)))
+loop-holds c = (omega arith, (refl, (c.before.before.before.before.pre.1, refl)))
 
 choose-peb-requires : tie.Need-choose-peb-requires Inv-loop μ-loop
 choose-peb-requires c κs =
-    let l = c .before .before in
-    (omega arith, (l .before .before .before .before .before .pre .0, l .loop .inv .1 .1 .0))
+    let l = c.before.before in
+    (omega arith, (l.before.before.before.before.before.pre.0, l.loop.inv.1.1.0))
 
 loop-again : tie.Need-loop-again Inv-loop μ-loop
 loop-again c =
-    let e = c .before .before .choose-peb .ensures in
-    (omega arith, (search needs, (e .0, e .1 ∙ c .before .before .before .before .before .loop .inv .1 .1 .1)))
+    let e = c.before.before.choose-peb.ensures in
+    (omega arith, (search needs, (e.0, e.1 ∙ c .before .before .before .before .before .loop .inv .1 .1 .1)))
 
 same-length : tie.Need-same-length Inv-loop μ-loop
-same-length c = c .before .loop .inv .1 .0
+same-length c = c.before.loop.inv.1.0
 
 returns : tie.Need-returns Inv-loop μ-loop
 returns c =
-    let l = c .before .loop in
-    let d = c .before .before .before .before .before .before in
-    let e : l .i ≡ d .args .n = omega arith in
-    marked-all (rw e at (l .inv .1 .1 .0)) (d .pre .0 .keyed) (d .args .pebs .now) (l .inv .1 .1 .1)
+    let l = c.before.loop in
+    let d = c.before.before.before.before.before.before in
+    let e : l .i ≡ d.args.n = omega arith in
+    marked-all (rw e at l.inv.1.1.0) d.pre.0.keyed d.args.pebs.now l.inv.1.1.1
 
 pub mark-chosen-spec : {M : Type 1} → statement M
 mark-chosen-spec =

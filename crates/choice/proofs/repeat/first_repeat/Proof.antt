@@ -33,72 +33,72 @@ abbrev μ-pebs : tie.MeasureT-pebs
 
 -- the turn of the outer loop, from the inner one, and the beginning
 abbrev turn : tie.At-loop Inv-loop μ-loop Inv-pebs μ-pebs → tie.At-pebs Inv-loop μ-loop Inv-pebs μ-pebs
-turn c = c .before .before .before
+turn c = c.before.before.before
 
 abbrev start : tie.At-pebs Inv-loop μ-loop Inv-pebs μ-pebs → tie.Start Inv-loop μ-loop Inv-pebs μ-pebs
-start c = c .before .before .before
+start c = c.before.before.before
 
 pebs-holds : tie.Need-pebs-holds Inv-loop μ-loop Inv-pebs μ-pebs
 pebs-holds c = (omega arith, λ k h. absurd (omega arith))
 
 loop-holds : tie.Need-loop-holds Inv-loop μ-loop Inv-pebs μ-pebs
 loop-holds c =
-    let p = c .before .before in
-    (rw (c .link .ensures) (along-from (start p .pre .1) (p .pebs .i) (omega arith)), λ m h k. absurd (omega arith))
+    let p = c.before.before in
+    (rw c.link.ensures (along-from (start p .pre .1) p.pebs.i (omega arith)), λ m h k. absurd (omega arith))
 
 is-repeat-requires : tie.Need-is-repeat-requires Inv-loop μ-loop Inv-pebs μ-pebs
 is-repeat-requires c κs =
-    let l = c .before in
+    let l = c.before in
     let p = turn l in
-    let r = l .loop .inv .0 .range in
-    (within (start p .pre .0) (p .pebs .i) (omega arith), within (start p .pre .0) (l .loop .j) (omega arith))
+    let r = l.loop.inv.0.range in
+    (within (start p .pre .0) p.pebs.i (omega arith), within (start p .pre .0) l.loop.j (omega arith))
 
 link-requires-2 : tie.Need-link-requires-2 Inv-loop μ-loop Inv-pebs μ-pebs
-link-requires-2 c κs = let r = c .before .before .before .loop .inv .0 .range in search needs
+link-requires-2 c κs = let r = c.before.before.before.loop.inv.0.range in search needs
 
 loop-again : tie.Need-loop-again Inv-loop μ-loop Inv-pebs μ-pebs
 loop-again c =
-    let l = c .before .before .before .before in
+    let l = c.before.before.before.before in
     let i = turn l .pebs .i in
     let d = start (turn l) in
-    let v = l .loop .inv in
-    let r = v .0 .range in
-    let e = repeats-told (d .pre .0) i (l .loop .j) (omega arith) (omega arith) (c .before .before .is-repeat .ensures)
-    (c .before .if1 .left) in (
-      rw (c .link2 .ensures) (along-next (v .0) (d .pre .1) (omega arith) (omega arith)),
-      walk-on (v .0) (Apart (d .args .g) (d .args .image .now) i) (v .1)
-          (λ x k f. other-copy (d .args .map .now) i x f (d .pre .0) (omega arith) (omega arith)) e,
+    let v = l.loop.inv in
+    let r = v.0.range in
+    let e = repeats-told d.pre.0 i l.loop.j (omega arith) (omega arith) c.before.before.is-repeat.ensures
+    c.before.if1.left in (
+      rw c.link2.ensures (along-next v.0 d.pre.1 (omega arith) (omega arith)),
+      walk-on v.0 (Apart d.args.g d.args.image.now i) v.1
+          (λ x k f. other-copy d.args.map.now i x f d.pre.0 (omega arith) (omega arith)) e,
     )
 
 pebs-again : tie.Need-pebs-again Inv-loop μ-loop Inv-pebs μ-pebs
 pebs-again c =
-    let l = c .before in
+    let l = c.before in
     let p = turn l .pebs in
     let d = start (turn l) in
-    let v = l .loop .inv in (
+    let v = l.loop.inv in (
       omega arith,
-      one-more (Fresh (copies (viewsOf (d .args .g) (d .args .image .now)))) (p .i) (p .inv .1)
-          (walk-end (v .0) (Apart (d .args .g) (d .args .image .now) (p .i)) (v .1)
-          (λ x k f. other-copy (d .args .map .now) (p .i) x f (d .pre .0) (omega arith) (omega arith)) (omega arith)),
+      one-more (Fresh (copies (viewsOf d.args.g d.args.image.now))) p.i p.inv.1
+          (walk-end v.0 (Apart d.args.g d.args.image.now p.i) v.1
+          (λ x k f. other-copy d.args.map.now p.i x f d.pre.0 (omega arith) (omega arith)) (omega arith)),
     )
 
 returns : tie.Need-returns Inv-loop μ-loop Inv-pebs μ-pebs
 returns c =
-    let p = c .before in
+    let p = c.before in
     let a = start p .args in
-    let e : p .pebs .i ≡ a .n = omega arith in
-    (rw e (no-repeat (a .n) (copies (viewsOf (a .g) (a .image .now))) (rw e at (p .pebs .inv .1))), omega arith)
+    let e : p .pebs .i ≡ a.n = omega arith in
+    (rw e (no-repeat a.n (copies (viewsOf a.g a.image.now)) (rw e at p.pebs.inv.1)), omega arith)
 
 returns-2 : tie.Need-returns-2 Inv-loop μ-loop Inv-pebs μ-pebs
 returns-2 c =
-    let l = c .before .before .before in
+    let l = c.before.before.before in
     let p = turn l .pebs in
     let d = start (turn l) in
-    let r = l .loop .inv .0 .range in
-    let e = repeats-told (d .pre .0) (p .i) (l .loop .j) (omega arith) (omega arith) (c .before .is-repeat .ensures)
-    (c .if1 .taken) in (
-      a-repeat (d .args .n) (copies (viewsOf (d .args .g) (d .args .image .now))) (omega arith) (omega arith)
-          (p .inv .1) e,
+    let r = l.loop.inv.0.range in
+    let e = repeats-told d.pre.0 p.i l.loop.j (omega arith) (omega arith) c.before.is-repeat.ensures
+    c.if1.taken in (
+      a-repeat d.args.n (copies (viewsOf d.args.g d.args.image.now)) (omega arith) (omega arith)
+          p.inv.1 e,
       omega arith,
     )
 

@@ -10,8 +10,8 @@ use Rattle.crc32.proofs.fold.by_folding.Tie as tie
 
 returns : tie.Need-returns
 returns c =
-    let a = c .before .before .before .args in
-    c .in-blocks .ensures ∙ ap (λ (n : ℕ). crcFrom n (a .bytes .now)) (pending-first 136 (a .state) (omega arith))
+    let a = c.before.before.before.args in
+    c .in-blocks .ensures ∙ ap (λ (n : ℕ). crcFrom n a.bytes.now) (pending-first 136 a.state (omega arith))
 
 pub by-folding-spec : {M : Type 1} → statement M
 by-folding-spec =

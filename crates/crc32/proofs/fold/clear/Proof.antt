@@ -18,18 +18,18 @@ abbrev μ-loop : tie.MeasureT-loop
 
 loop-holds : tie.Need-loop-holds Inv-loop μ-loop
 unfolding zeros
-loop-holds c = (omega arith, (c .pre, sym (append-nil (take 137 (c .args .kept .now)))))
+loop-holds c = (omega arith, (c.pre, sym (append-nil (take 137 c.args.kept.now))))
 
 loop-again : tie.Need-loop-again Inv-loop μ-loop
 loop-again c =
-    let l = c .before .loop in
-    (omega arith, (simp length-set (l .inv .1 .0), clear-turn 137 (l .j) (take 137 (c .before .before .args .kept .now)) (l .kept) (omega arith) (l .inv .1 .1)))
+    let l = c.before.loop in
+    (omega arith, (simp length-set l.inv.1.0, clear-turn 137 l.j (take 137 c.before.before.args.kept.now) l.kept (omega arith) l.inv.1.1))
 
 returns : tie.Need-returns Inv-loop μ-loop
 returns c =
-    let l = c .before .loop in
+    let l = c.before.loop in
     let e : l .j ≡ 85 = omega arith in
-    (l .inv .1 .0, rw e at (l .inv .1 .1))
+    (l.inv.1.0, rw e at l.inv.1.1)
 
 pub clear-spec : {M : Type 1} → statement M
 clear-spec =

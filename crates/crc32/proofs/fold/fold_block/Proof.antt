@@ -20,18 +20,18 @@ abbrev μ-loop : tie.MeasureT-loop
 μ-loop kept₀ bytes n j₀ kept j = n - j
 
 loop-holds : tie.Need-loop-holds Inv-loop μ-loop
-loop-holds c = (omega arith, (refl, (c .before .pre .0, refl)))
+loop-holds c = (omega arith, (refl, (c.before.pre.0, refl)))
 
 loop-again : tie.Need-loop-again Inv-loop μ-loop
 loop-again c =
-    let l = c .before .before .before .loop in
-    (omega arith, (omega arith, (c .fold-four .ensures .0, c .fold-four .ensures .1 ∙ l .inv .1 .1 .1)))
+    let l = c.before.before.before.loop in
+    (omega arith, (omega arith, (c.fold-four.ensures.0, c.fold-four.ensures.1 ∙ l .inv .1 .1 .1)))
 
 returns : tie.Need-returns Inv-loop μ-loop
 returns c =
-    let l = c .before .loop in
-    let e : l .j ≡ c .before .before .before .args .n = omega arith in
-    (l .inv .1 .1 .0, rw e at (l .inv .1 .1 .1))
+    let l = c.before.loop in
+    let e : l .j ≡ c.before.before.before.args.n = omega arith in
+    (l.inv.1.1.0, rw e at l.inv.1.1.1)
 
 pub fold-block-spec : {M : Type 1} → statement M
 fold-block-spec =

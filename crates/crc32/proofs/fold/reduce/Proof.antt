@@ -28,23 +28,23 @@ loop-holds c = (omega arith, (refl, rw xor-zero-r))
 
 loop-again : tie.Need-loop-again Inv-loop μ-loop
 loop-again c =
-    let at-loop = c .before .before .before .before .before in let s = at-loop .before in let l = at-loop .loop in
-    let a = s .before .args in let bs : Bytes (a .bytes .now) = λ k. s .shared-slice-known .given k .fits in
-    let k1 = c .before .before .before .sum-at in let k2 = c .before .before .sum-at2 in let k3 = c .before .sum-at3 in
-    let c1 = crcBits 32 (bitXor (l .c) (k1 .result)) in let c2 = crcBits 32 (bitXor c1 (k2 .result)) in
-    let e2 : l .j + 1 + 1 ≡ l .j + 2 = omega arith in let e3 : l .j + 2 + 1 ≡ l .j + 3 = omega arith in
-    let r1 = reduce-turn (a .kept .now) (a .bytes .now) (l .j) (k1 .result) bs (k1 .ensures) (l .c) (omega arith) (omega arith) in
-    let r2 = reduce-turn (a .kept .now) (a .bytes .now) (l .j + 1) (k2 .result) bs (k2 .ensures) c1 (omega arith) (omega arith) in
-    let r3 = reduce-turn (a .kept .now) (a .bytes .now) (l .j + 2) (k3 .result) bs (k3 .ensures) c2 (omega arith) (omega arith) in
-    (omega arith, (omega arith, rw (c .three .ensures) (rw e3 at r3 ∙ rw e2 at r2 ∙ r1 ∙ l .inv .1 .1)))
+    let at-loop = c.before.before.before.before.before in let s = at-loop.before in let l = at-loop.loop in
+    let a = s.before.args in let bs : Bytes a.bytes.now = λ k. s.shared-slice-known.given k .fits in
+    let k1 = c.before.before.before.sum-at in let k2 = c.before.before.sum-at2 in let k3 = c.before.sum-at3 in
+    let c1 = crcBits 32 (bitXor l.c k1.result) in let c2 = crcBits 32 (bitXor c1 k2.result) in
+    let e2 : l .j + 1 + 1 ≡ l.j + 2 = omega arith in let e3 : l .j + 2 + 1 ≡ l.j + 3 = omega arith in
+    let r1 = reduce-turn a.kept.now a.bytes.now l.j k1.result bs k1.ensures l.c (omega arith) (omega arith) in
+    let r2 = reduce-turn a.kept.now a.bytes.now (l.j + 1) k2.result bs k2.ensures c1 (omega arith) (omega arith) in
+    let r3 = reduce-turn a.kept.now a.bytes.now (l.j + 2) k3.result bs k3.ensures c2 (omega arith) (omega arith) in
+    (omega arith, (omega arith, rw c.three.ensures (rw e3 at r3 ∙ rw e2 at r2 ∙ r1 ∙ l .inv .1 .1)))
 
 returns : tie.Need-returns Inv-loop μ-loop
 returns c =
-    let l = c .before .before .before .loop in
-    let a = c .before .before .before .before .before in
+    let l = c.before.before.before.loop in
+    let a = c.before.before.before.before.before in
     let e : l .j ≡ 138 = omega arith in
-    let z = take 222 (a .args .kept .now) in
-    c .by-words .ensures ∙ rw to-end (rw (e, pending-end z (a .pre .1 .1 .0), xor-zero-l) at (l .inv .1 .1))
+    let z = take 222 a.args.kept.now in
+    c .by-words .ensures ∙ rw to-end (rw (e, pending-end z a.pre.1.1.0, xor-zero-l) at l.inv.1.1)
 
 pub reduce-spec : {M : Type 1} → statement M
 reduce-spec =

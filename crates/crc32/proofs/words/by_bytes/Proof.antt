@@ -20,17 +20,17 @@ abbrev μ-loop : tie.MeasureT-loop
 
 loop-again : tie.Need-loop-again Inv-loop μ-loop
 loop-again c =
-    let at-loop = c .before .before .before .before in let start = at-loop .before .before in let l = at-loop .loop in
-    let s = start .args .bytes .now in let b = c .before .before .byte-at in
-    let e = two-halves (l .c) (b .result) (c .before .nibble .result) (c .nibble2 .result) (c .before .nibble .ensures) (c .nibble2 .ensures) in
-    (omega arith, rw (e, b .ensures .0) (crcFrom-step s (l .i) (l .c) (omega arith) ∙ l .inv .1))
+    let at-loop = c.before.before.before.before in let start = at-loop.before.before in let l = at-loop.loop in
+    let s = start.args.bytes.now in let b = c.before.before.byte-at in
+    let e = two-halves l.c b.result c.before.nibble.result c.nibble2.result c.before.nibble.ensures c.nibble2.ensures in
+    (omega arith, rw (e, b.ensures.0) (crcFrom-step s l.i l.c (omega arith) ∙ l .inv .1))
 
 returns : tie.Need-returns Inv-loop μ-loop
 unfolding crcFrom
 returns c =
-    let s = c .before .before .before .args .bytes .now in
+    let s = c.before.before.before.args.bytes.now in
     let e : c .before .loop .i ≡ length s = omega arith in
-    rw (e, drop-length) at (c .before .loop .inv .1)
+    rw (e, drop-length) at c.before.loop.inv.1
 
 pub by-bytes-spec : {M : Type 1} → statement M
 by-bytes-spec =

@@ -18,12 +18,12 @@ abbrev μ-loop : tie.MeasureT-loop
 
 loop-again : tie.Need-loop-again Inv-loop μ-loop
 loop-again c =
-    let s = c .before .before .before .before in let l = c .before .before .before .loop in
-    let e = crcFrom-part 4 (l .c) (l .i) (s .before .args .bytes .now) (λ k. s .shared-slice-known .given k .fits) (omega arith) in
-    (omega arith, rw (c .four .ensures, c .before .read-four .ensures) (e ∙ l .inv .1))
+    let s = c.before.before.before.before in let l = c.before.before.before.loop in
+    let e = crcFrom-part 4 l.c l.i s.before.args.bytes.now (λ k. s.shared-slice-known.given k .fits) (omega arith) in
+    (omega arith, rw (c.four.ensures, c.before.read-four.ensures) (e ∙ l .inv .1))
 
 returns : tie.Need-returns Inv-loop μ-loop
-returns c = c .by-bytes .ensures ∙ rw to-end (c .before .before .before .loop .inv .1)
+returns c = c.by-bytes.ensures ∙ rw to-end c.before.before.before.loop.inv.1
 
 pub by-four-spec : {M : Type 1} → statement M
 by-four-spec =

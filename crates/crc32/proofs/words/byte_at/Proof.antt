@@ -6,9 +6,9 @@ use Rattle.crc32.proofs.words.byte_at.Statement.{statement}
 use Rattle.crc32.proofs.words.byte_at.Tie as tie
 
 returns : tie.Need-returns
-returns c = (refl, omega (arith, c .shared-slice-known .given (c .before .args .i)))
+returns c = (refl, omega (arith, c.shared-slice-known.given c.before.args.i))
 
 pub byte-at-spec : {M : Type 1} → statement M
 byte-at-spec =
-    tie.close (tie.spec (λ c. search needs) (λ c. omega (arith, c .shared-slice-known .given (c .before .args .i)))
+    tie.close (tie.spec (λ c. search needs) (λ c. omega (arith, c.shared-slice-known.given c.before.args.i))
     returns)

@@ -8,8 +8,8 @@ use Rattle.crc32.proofs.words.entry.Tie as tie
 
 returns : tie.Need-returns
 returns c =
-    let a = c .before .args in
-    rw (c .before .pre .0) (table-rule (a .row) (a .z % 16) (omega arith) (omega arith))
+    let a = c.before.args in
+    rw c.before.pre.0 (table-rule a.row (a.z % 16) (omega arith) (omega arith))
 
 pub entry-spec : {M : Type 1} → statement M
 entry-spec =

@@ -20,23 +20,23 @@ abbrev μ-loop : tie.MeasureT-loop
 μ-loop t row z c₀ rest₀ k₀ c rest k = k
 
 loop-holds : tie.Need-loop-holds Inv-loop μ-loop
-loop-holds c = (omega arith, (omega arith, xor-zero-l (crcBits (4 * (c .args .row + 8)) (c .args .z))))
+loop-holds c = (omega arith, (omega arith, xor-zero-l (crcBits (4 * (c.args.row + 8)) c.args.z)))
 
 loop-again : tie.Need-loop-again Inv-loop μ-loop
 loop-again c =
-    let l = c .before .before .loop in
-    let row = c .before .before .before .args .row in
-    let n = l .k - 1 in
-    let e : 4 * l .k ≡ 4 * n + 4 = omega arith in
-    let f : row + l .k ≡ row + n + 1 = omega arith in
-    (omega arith, (shr-lt (4 * n) 4 (rw e at (l .inv .1 .0)), rw (c .entry .ensures) (nibble-more (l .c) (row + n) (l .rest) ∙ rw f at (l .inv .1 .1))))
+    let l = c.before.before.loop in
+    let row = c.before.before.before.args.row in
+    let n = l.k - 1 in
+    let e : 4 * l.k ≡ 4 * n + 4 = omega arith in
+    let f : row + l.k ≡ row + n + 1 = omega arith in
+    (omega arith, (shr-lt (4 * n) 4 (rw e at l.inv.1.0), rw c.entry.ensures (nibble-more l.c (row + n) l.rest ∙ rw f at l.inv.1.1)))
 
 returns : tie.Need-returns Inv-loop μ-loop
 returns c =
-    let l = c .before .loop in
+    let l = c.before.loop in
     let e : l .k ≡ 0 = omega arith in
-    let none : l .rest ≡ 0 = omega (arith, rw e at (l .inv .1 .0)) in
-    rw (none, crcBits-zero, xor-zero-r) at (l .inv .1 .1)
+    let none : l .rest ≡ 0 = omega (arith, rw e at l.inv.1.0) in
+    rw (none, crcBits-zero, xor-zero-r) at l.inv.1.1
 
 pub four-spec : {M : Type 1} → statement M
 four-spec =

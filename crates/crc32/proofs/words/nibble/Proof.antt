@@ -7,7 +7,7 @@ use Rattle.crc32.proofs.words.nibble.Tie as tie
 
 returns : tie.Need-returns
 returns c =
-    let x = c .before .args .c in
+    let x = c.before.args.c in
     sym (crcBits-split 4 x ∙ cc)
 
 pub nibble-spec : {M : Type 1} → statement M

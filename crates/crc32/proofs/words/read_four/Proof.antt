@@ -7,8 +7,8 @@ use Rattle.crc32.proofs.words.read_four.Tie as tie
 
 returns : tie.Need-returns
 returns c =
-    let a = c .before .before .before .before .before .args in
-    omega (arith, four-at (a .i) (a .s .now) (omega arith))
+    let a = c.before.before.before.before.before.args in
+    omega (arith, four-at a.i a.s.now (omega arith))
 
 pub read-four-spec : {M : Type 1} → statement M
 read-four-spec =

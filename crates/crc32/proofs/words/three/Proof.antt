@@ -6,9 +6,9 @@ use Rattle.crc32.proofs.words.three.Tie as tie
 
 returns : tie.Need-returns
 returns c =
-    let a = c .before .before .before .args in
-    rw (c .before .before .four .ensures, c .before .four2 .ensures, c .four3 .ensures)
-    (three-words (a .a) (a .b) (a .c))
+    let a = c.before.before.before.args in
+    rw (c.before.before.four.ensures, c.before.four2.ensures, c.four3.ensures)
+    (three-words a.a a.b a.c)
 
 pub three-spec : {M : Type 1} → statement M
 three-spec =

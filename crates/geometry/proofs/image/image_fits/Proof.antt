@@ -11,18 +11,18 @@ use Rattle.geometry.proofs.image.image_fits.Tie as tie
 returns : tie.Need-returns
 unfolding imageRules
 returns c =
-    let a = c .before .before .args in
-    sym (one-broken (imageRules (a .g) (a .image .now)) 0 (ne-eqb _ _ (c .if1 .taken)))
+    let a = c.before.before.args in
+    sym (one-broken (imageRules a.g a.image.now) 0 (ne-eqb _ _ c.if1.taken))
 
 returns-2 : tie.Need-returns-2
 unfolding imageRules
 returns-2 c =
-    let a = c .before .before .before .args in
-    sym (one-broken (imageRules (a .g) (a .image .now)) 1 (lt-leb _ _ (c .if2 .taken)))
+    let a = c.before.before.before.args in
+    sym (one-broken (imageRules a.g a.image.now) 1 (lt-leb _ _ c.if2.taken))
 
 returns-3 : tie.Need-returns-3
 unfolding imageRules
-returns-3 c = rw (eq-eqb _ _ (c .before .if1 .left), le-leb _ _ (c .if2 .left)) (sym (and-true _))
+returns-3 c = rw (eq-eqb _ _ c.before.if1.left, le-leb _ _ c.if2.left) (sym (and-true _))
 
 pub image-fits-spec : {M : Type 1} → statement M
 image-fits-spec =

@@ -20,24 +20,24 @@ abbrev μ-loop : tie.MeasureT-loop
 μ-loop n power₀ k₀ power k = 13 - k
 
 returns : tie.Need-returns Inv-loop μ-loop
-returns c = sym (power-found (c .before .before .before .args .n) (c .before .before .loop .k) (omega arith) (cc))
+returns c = sym (power-found c.before.before.before.args.n c.before.before.loop.k (omega arith) (cc))
 
 mul-power : tie.Need-mul-power Inv-loop μ-loop
 mul-power c =
-    record { fits = omega (arith, pow-le-pow-right {n = 2} (lit< tt) {i = c .before .before .loop .k} {j = 12} (omega arith)) }
+    record { fits = omega (arith, pow-le-pow-right {n = 2} (lit< tt) {i = c.before.before.loop.k} {j = 12} (omega arith)) }
 
 loop-again : tie.Need-loop-again Inv-loop μ-loop
 loop-again c =
-    let l = c .before .before .loop in
-    let e : l .power * 2 ≡ 2 ^ (l .k + 1) = rw (add-one, pow-suc) (omega arith) in
-    (omega arith, (e, power-more (c .before .before .before .args .n) (l .k) (l .inv .1 .1) (rw (l .inv .1 .0) at (c .if1 .left))))
+    let l = c.before.before.loop in
+    let e : l .power * 2 ≡ 2 ^ (l.k + 1) = rw (add-one, pow-suc) (omega arith) in
+    (omega arith, (e, power-more c.before.before.before.args.n l.k l.inv.1.1 (rw l.inv.1.0 at c.if1.left)))
 
 returns-2 : tie.Need-returns-2 Inv-loop μ-loop
 unfolding goodUnit
 returns-2 c =
-    let l = c .before .loop in
+    let l = c.before.loop in
     let e : l .k ≡ 13 = omega arith in
-    sym (rw e at (l .inv .1 .1))
+    sym (rw e at l.inv.1.1)
 
 pub is-unit-spec : {M : Type 1} → statement M
 is-unit-spec =

@@ -13,13 +13,13 @@ use Rattle.geometry.proofs.slip.ends_at.Tie as tie
 returns : tie.Need-returns
 unfolding endsAt eqs toBeOn
 returns c =
-    let a = c .before .before .args in
-    rw (drop-of-length-le (a .slip .now) {i = a .at} (omega arith))
+    let a = c.before.before.args in
+    rw (drop-of-length-le a.slip.now {i = a.at} (omega arith))
 
 returns-2 : tie.Need-returns-2
 unfolding endsAt toBeOn
 returns-2 c =
-    let a = c .before .before .before .before .before .args in
+    let a = c.before.before.before.before.before.args in
     c .same .ensures ∙ rw to-end
 
 pub ends-at-spec : {M : Type 1} → statement M

@@ -8,13 +8,13 @@ use Rattle.geometry.proofs.slip.read_slip.Tie as tie
 
 returns : tie.Need-returns
 returns c =
-    no-tail (c .before .before .before .args .slip .now) (was-false (c .before .ends-at .ensures) (c .if1 .taken))
+    no-tail c.before.before.before.args.slip.now (was-false c.before.ends-at.ensures c.if1.taken)
 
 returns-2 : tie.Need-returns-2
 returns-2 c =
-    let d = c .before in
+    let d = c.before in
     c .read-head .ensures
-    ∙ head-decides (d .before .before .before .args .slip .now) (was-true (d .before .ends-at .ensures) (d .if1 .left))
+    ∙ head-decides d.before.before.before.args.slip.now (was-true d.before.ends-at.ensures d.if1.left)
 
 pub read-slip-spec : {M : Type 1} → statement M
 read-slip-spec = tie.close (tie.spec (λ c κs. search needs) returns (λ c κs. search needs) returns-2)

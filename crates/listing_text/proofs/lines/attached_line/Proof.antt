@@ -6,8 +6,8 @@ use Rattle.listing_text.proofs.lines.attached_line.Tie as tie
 
 returns : tie.Need-returns
 returns c =
-    let w = c .before .before .marks-part .ensures in
-    (both-written (c .before .before .before .before .before .before .numbers-part .ensures .0) (w .0), w .1)
+    let w = c.before.before.marks-part.ensures in
+    (both-written c.before.before.before.before.before.before.numbers-part.ensures.0 w.0, w.1)
 
 pub attached-line-spec : {M : Type 1} → statement M
 attached-line-spec =

@@ -10,14 +10,14 @@ use Rattle.listing_text.proofs.lines.counter_text.Tie as tie
 returns : tie.Need-returns
 unfolding counterText
 returns c =
-    let w = c .before .before .append .ensures in
-    (rw (eq-eqb _ noWord (c .before .before .before .before .before .if1 .taken)) w, omega (arith, w .after))
+    let w = c.before.before.append.ensures in
+    (rw (eq-eqb _ noWord c.before.before.before.before.before.if1.taken) w, omega (arith, w.after))
 
 returns-2 : tie.Need-returns-2
 unfolding counterText labelled
 returns-2 c =
-    let w = c .before .before .labelled .ensures in
-    (rw (ne-eqb _ noWord (c .before .before .before .before .before .if1 .left)) (w .0), w .1)
+    let w = c.before.before.labelled.ensures in
+    (rw (ne-eqb _ noWord c.before.before.before.before.before.if1.left) w.0, w.1)
 
 pub counter-text-spec : {M : Type 1} → statement M
 counter-text-spec =

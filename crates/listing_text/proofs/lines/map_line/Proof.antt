@@ -9,10 +9,10 @@ use Rattle.listing_text.proofs.lines.map_line.Tie as tie
 returns : tie.Need-returns
 unfolding mapLine pair labelled
 returns c =
-    let e = c .before .before .append .ensures in
-    let k = c .before .before .before .before .before .before .before in
-    let w = k .before .before .before .before .before .pair .ensures .0 in
-    (both-written w (both-written (k .labelled .ensures .0) e), omega (arith, e .after))
+    let e = c.before.before.append.ensures in
+    let k = c.before.before.before.before.before.before.before in
+    let w = k.before.before.before.before.before.pair.ensures.0 in
+    (both-written w (both-written k.labelled.ensures.0 e), omega (arith, e.after))
 
 pub map-line-spec : {M : Type 1} → statement M
 map-line-spec =

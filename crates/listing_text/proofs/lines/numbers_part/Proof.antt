@@ -8,8 +8,8 @@ use Rattle.listing_text.proofs.lines.numbers_part.Tie as tie
 returns : tie.Need-returns
 unfolding numbersPart pair labelled
 returns c = (
-  both-written (c .before .before .before .before .before .before .before .before .before .pair .ensures .0)
-      (c .before .before .pair2 .ensures .0),
+  both-written c.before.before.before.before.before.before.before.before.before.pair.ensures.0
+      c.before.before.pair2.ensures.0,
   search needs,
 )
 

@@ -9,10 +9,10 @@ use Rattle.listing_text.proofs.lines.peb_line.Tie as tie
 returns : tie.Need-returns
 unfolding pebLine pair labelled
 returns c =
-    let e = c .before .before .append .ensures in
-    let k = c .before .before .before .before .before .before .before in
-    let w = k .before .before .before .before .pair .ensures .0 in
-    (both-written w (both-written (k .counter-text .ensures .0) e), omega (arith, e .after))
+    let e = c.before.before.append.ensures in
+    let k = c.before.before.before.before.before.before.before in
+    let w = k.before.before.before.before.pair.ensures.0 in
+    (both-written w (both-written k.counter-text.ensures.0 e), omega (arith, e.after))
 
 pub peb-line-spec : {M : Type 1} → statement M
 peb-line-spec =

@@ -8,8 +8,8 @@ use Rattle.listing_text.proofs.lines.refused_line.Tie as tie
 returns : tie.Need-returns
 unfolding refusedText pair labelled
 returns c =
-    both-written (c .before .before .before .before .before .before .before .pair .ensures .0)
-    (c .before .before .append .ensures)
+    both-written c.before.before.before.before.before.before.before.pair.ensures.0
+    c.before.before.append.ensures
 
 pub refused-line-spec : {M : Type 1} → statement M
 refused-line-spec =

@@ -9,9 +9,9 @@ use Rattle.listing_text.proofs.text.tables_hold.Tie as tie
 
 returns : tie.Need-returns
 returns c =
-    let a = c .before .before .before .before .before .before .before .args in
-    let t = lent (a .pebs .now) (a .map .now) (a .states .now) in
-    let is = c .before .before .a .given .1 in
+    let a = c.before.before.before.before.before.before.before.args in
+    let t = lent a.pebs.now a.map.now a.states.now in
+    let is = c.before.before.a.given.1 in
     c .report-held .ensures ∙ sym (ap (λ (x : Attached). tablesHold (attachedAnswer x) t) is)
 
 pub tables-hold-spec : {M : Type 1} → statement M

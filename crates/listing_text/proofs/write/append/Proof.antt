@@ -10,21 +10,21 @@ use Rattle.listing_text.proofs.write.append.Statement.{statement}
 use Rattle.listing_text.proofs.write.append.Tie as tie
 
 returns : tie.Need-returns
-returns c = stored-whole (omega arith) (c .before .before .store .ensures)
+returns c = stored-whole (omega arith) c.before.before.store.ensures
 
 slice-aggregate-store : tie.Need-slice-aggregate-store
 slice-aggregate-store c =
-    let a = c .before .before .before .before .before .before .args in
-    sym (length-take-le (length (a .out .now) - a .at) (a .bytes .now) (omega arith))
+    let a = c.before.before.before.before.before.before.args in
+    sym (length-take-le (length a.out.now - a.at) a.bytes.now (omega arith))
 
 store-requires-2 : tie.Need-store-requires-2
 store-requires-2 c κs = rw length-take (omega arith)
 
 returns-2 : tie.Need-returns-2
-returns-2 c = stored-part (omega arith) (omega arith) (c .before .before .store2 .ensures)
+returns-2 c = stored-part (omega arith) (omega arith) c.before.before.store2.ensures
 
 returns-3 : tie.Need-returns-3
-returns-3 c = stored-nothing (c .if2 .left)
+returns-3 c = stored-nothing c.if2.left
 
 pub append-spec : {M : Type 1} → statement M
 append-spec =

@@ -7,8 +7,8 @@ use Rattle.listing_text.proofs.write.labelled.Tie as tie
 
 returns : tie.Need-returns
 returns c =
-    let w = c .before .before .before .before .before .before .append .ensures in
-    let n = c .before .before .number .ensures in (both-written w (n .0), omega (arith, w .after, n .1))
+    let w = c.before.before.before.before.before.before.append.ensures in
+    let n = c.before.before.number.ensures in (both-written w n.0, omega (arith, w.after, n.1))
 
 pub labelled-spec : {M : Type 1} → statement M
 labelled-spec =

@@ -6,8 +6,8 @@ use Rattle.listing_text.proofs.write.pair.Tie as tie
 
 returns : tie.Need-returns
 returns c = (
-  both-written (c .before .before .before .before .before .before .labelled .ensures .0)
-      (c .before .before .labelled2 .ensures .0),
+  both-written c.before.before.before.before.before.before.labelled.ensures.0
+      c.before.before.labelled2.ensures.0,
   search needs,
 )
 

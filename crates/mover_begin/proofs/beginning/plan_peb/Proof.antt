@@ -15,35 +15,35 @@ use Rattle.mover_begin.proofs.beginning.plan_peb.Tie as tie
 
 mul-at : tie.Need-mul-at
 mul-at c =
-    let d = c .before .before .before .before in
-    record { fits = omega (arith, room (d .pre .0 .reported) (d .args .old) (d .pre .1 .0)) }
+    let d = c.before.before.before.before in
+    record { fits = omega (arith, room d.pre.0.reported d.args.old d.pre.1.0) }
 
 add-p : tie.Need-add-p
 add-p c =
-    let d = c .before .before .before .before in
-    record { fits = omega (arith, room (d .pre .0 .reported) (d .args .old) (d .pre .1 .0)) }
+    let d = c.before.before.before.before in
+    record { fits = omega (arith, room d.pre.0.reported d.args.old d.pre.1.0) }
 
 part-p-end : tie.Need-part-p-end
 part-p-end c =
-    let d = c .before .before .before .before in
-    search (needs, room (d .pre .0 .reported) (d .args .old) (d .pre .1 .0))
+    let d = c.before.before.before.before in
+    search (needs, room d.pre.0.reported d.args.old d.pre.1.0)
 
 plan-copy-requires : tie.Need-plan-copy-requires
 plan-copy-requires c κs =
-    let d = c .before .before .before .before .before .before .before .before in
-    let a = d .args in
-    let g = a .report .geometry in
-    let p = lent-part (a .old * a .report .geometry .«peb_size») (g .«peb_size») (a .image .now) in
-    (d .pre .0, moved g (a .image .now) (a .old) p (c .vid-fields .ensures) (d .pre .1 .0) (d .pre .1 .1))
+    let d = c.before.before.before.before.before.before.before.before in
+    let a = d.args in
+    let g = a.report.geometry in
+    let p = lent-part (a.old * a.report.geometry.«peb_size») g.«peb_size» a.image.now in
+    (d.pre.0, moved g a.image.now a.old p c.vid-fields.ensures d.pre.1.0 d.pre.1.1)
 
 returns : tie.Need-returns
 returns c =
-    let a = c .before .before .before .before .before .before .before .before .before .args in
-    let g = a .report .geometry in
-    let p = lent-part (a .old * a .report .geometry .«peb_size») (g .«peb_size») (a .image .now) in
+    let a = c.before.before.before.before.before.before.before.before.before.args in
+    let g = a.report.geometry in
+    let p = lent-part (a.old * a.report.geometry.«peb_size») g.«peb_size» a.image.now in
     c .plan-copy .ensures
-    ∙ ap (λ (x : Copy). planFor (mediumIn (a .image .now) (a .report)) (a .target) (some (a .old, x)))
-    (copy-there g (a .image .now) (a .old) p (c .before .vid-fields .ensures))
+    ∙ ap (λ (x : Copy). planFor (mediumIn a.image.now a.report) a.target (some (a.old, x)))
+    (copy-there g a.image.now a.old p c.before.vid-fields.ensures)
 
 pub plan-peb-spec : {M : Type 1} → statement M
 plan-peb-spec =

@@ -22,20 +22,20 @@ loop-holds c = (omega arith, λ j h. absurd (omega arith))
 
 returns : tie.Need-returns Inv-loop μ-loop
 returns c =
-    let a = c .before .before .before .before .before .before .args in
-    sym (any-intro (a .n) (λ (j : ℕ). isInternal 1 (copies (viewsOf (a .g) (a .image .now)) j))
-    (c .before .before .before .loop .i) (omega arith) (sym (c .before .to-delete-at .ensures) ∙ c .if1 .taken))
+    let a = c.before.before.before.before.before.before.args in
+    sym (any-intro a.n (λ (j : ℕ). isInternal 1 (copies (viewsOf a.g a.image.now) j))
+    c.before.before.before.loop.i (omega arith) (sym c.before.to-delete-at.ensures ∙ c .if1 .taken))
 
 loop-again : tie.Need-loop-again Inv-loop μ-loop
 loop-again c =
-    let at-loop = c .before .before .before in let a = at-loop .before .before .before .args in
-    (omega arith, one-more (λ (j : ℕ). isInternal 1 (copies (viewsOf (a .g) (a .image .now)) j) ≡ false) (at-loop .loop .i) (at-loop .loop .inv .1) (sym (c .before .to-delete-at .ensures) ∙ c .if1 .left))
+    let at-loop = c.before.before.before in let a = at-loop.before.before.before.args in
+    (omega arith, one-more (λ (j : ℕ). isInternal 1 (copies (viewsOf a.g a.image.now) j) ≡ false) at-loop.loop.i at-loop.loop.inv.1 (sym c.before.to-delete-at.ensures ∙ c .if1 .left))
 
 returns-2 : tie.Need-returns-2 Inv-loop μ-loop
 returns-2 c =
-    let a = c .before .before .before .before .args in
-    sym (none-intro (a .n) (λ (j : ℕ). isInternal 1 (copies (viewsOf (a .g) (a .image .now)) j))
-    (λ j h. c .before .loop .inv .1 j (omega arith)))
+    let a = c.before.before.before.before.args in
+    sym (none-intro a.n (λ (j : ℕ). isInternal 1 (copies (viewsOf a.g a.image.now) j))
+    (λ j h. c.before.loop.inv.1 j (omega arith)))
 
 pub any-to-delete-spec : {M : Type 1} → statement M
 any-to-delete-spec =

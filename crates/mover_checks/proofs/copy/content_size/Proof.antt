@@ -9,10 +9,10 @@ use Rattle.mover_checks.proofs.copy.content_size.Tie as tie
 
 -- whole units stay within the LEB
 within : (c : tie.After-struct-known3)
-    → (c .before .data-end .result + (c .before .before .before .before .before .before .args .g .unit - 1)) / c .before .before .before .before .before .before .args .g .unit * c .before .before .before .before .before .before .args .g .unit ≤ c .before .before .before .before .before .before .args .g .«leb_size»
+    → (c.before.data-end.result + (c.before.before.before.before.before.before.args.g.unit - 1)) / c.before.before.before.before.before.before.args.g.unit * c.before.before.before.before.before.before.args.g.unit ≤ c.before.before.before.before.before.before.args.g.«leb_size»
 within c =
-    let d = c .before .before .before .before .before .before in
-    rounded-within (d .args .g) (d .args .p .now) (d .args .pad) refl (d .pre .0) (c .before .data-end .ensures .1)
+    let d = c.before.before.before.before.before.before in
+    rounded-within d.args.g d.args.p.now d.args.pad refl d.pre.0 c.before.data-end.ensures.1
 
 mul-result : tie.Need-mul-result
 mul-result c = record { fits = omega (arith, within c) }
@@ -22,8 +22,8 @@ cast-result c = record { fits = omega (arith, within c) }
 
 returns : tie.Need-returns
 returns c =
-    let a = c .before .before .before .before .before .before .args in
-    (rounded (a .g) (a .p .now) (a .pad) refl (c .before .data-end .ensures .0), within c)
+    let a = c.before.before.before.before.before.before.args in
+    (rounded a.g a.p.now a.pad refl c.before.data-end.ensures.0, within c)
 
 pub content-size-spec : {M : Type 1} → statement M
 content-size-spec =

@@ -17,21 +17,21 @@ abbrev μ-loop : tie.MeasureT-loop
 μ-loop s i₀ i = i
 
 loop-holds : tie.Need-loop-holds Inv-loop μ-loop
-loop-holds c = let s = c .args .s .now in (omega arith, ap dataEnd (take-all (length s) s (omega arith)))
+loop-holds c = let s = c.args.s.now in (omega arith, ap dataEnd (take-all (length s) s (omega arith)))
 
 returns : tie.Need-returns Inv-loop μ-loop
 returns c =
-    let at-loop = c .before .before .before in let start = at-loop .before in
-    (end-stop (start .args .s .now) (at-loop .loop .i) (omega arith) (omega arith) (c .if1 .taken) ∙ at-loop .loop .inv .1, omega arith)
+    let at-loop = c.before.before.before in let start = at-loop.before in
+    (end-stop start.args.s.now at-loop.loop.i (omega arith) (omega arith) c.if1.taken ∙ at-loop .loop .inv .1, omega arith)
 
 loop-again : tie.Need-loop-again Inv-loop μ-loop
 loop-again c =
-    let at-loop = c .before .before .before in let start = at-loop .before in
-    (omega arith, end-go (start .args .s .now) (at-loop .loop .i) (omega arith) (omega arith) (c .if1 .left) ∙ at-loop .loop .inv .1)
+    let at-loop = c.before.before.before in let start = at-loop.before in
+    (omega arith, end-go start.args.s.now at-loop.loop.i (omega arith) (omega arith) c.if1.left ∙ at-loop .loop .inv .1)
 
 returns-2 : tie.Need-returns-2 Inv-loop μ-loop
 unfolding dataEnd
-returns-2 c = let e : c .before .loop .i ≡ 0 = omega arith in (rw e at (c .before .loop .inv .1), omega arith)
+returns-2 c = let e : c .before .loop .i ≡ 0 = omega arith in (rw e at c.before.loop.inv.1, omega arith)
 
 pub data-end-spec : {M : Type 1} → statement M
 data-end-spec =

@@ -6,9 +6,9 @@ use Rattle.mover_checks.proofs.copy.extend_crc.Tie as tie
 
 returns : tie.Need-returns
 returns c =
-    let d = c .before .before .before .before in
-    crc-goes-on (d .args .p .now) (d .args .g .«data_start») (d .args .from) (d .args .to) (d .pre .1 .0) (d .pre .0)
-    (c .update .ensures)
+    let d = c.before.before.before.before in
+    crc-goes-on d.args.p.now d.args.g.«data_start» d.args.from d.args.to d.pre.1.0 d.pre.0
+    c.update.ensures
 
 pub extend-crc-spec : {M : Type 1} → statement M
 extend-crc-spec =

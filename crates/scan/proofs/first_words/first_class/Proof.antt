@@ -6,16 +6,16 @@ use Rattle.scan.proofs.first_words.first_class.Tie as tie
 
 returns : tie.Need-returns
 unfolding copyOf
-returns c = λ g p. rw (c .before .before .v .given .1) (c .good-class .ensures)
+returns c = λ g p. rw c.before.before.v.given.1 c.good-class.ensures
 
 returns-2 : tie.Need-returns-2
-returns-2 c = λ g p. rw (c .enum-told .given .1)
+returns-2 c = λ g p. rw c.enum-told.given.1
 
 returns-3 : tie.Need-returns-3
-returns-3 c = λ g p. rw (c .enum-told2 .given .1)
+returns-3 c = λ g p. rw c.enum-told2.given.1
 
 returns-4 : tie.Need-returns-4
-returns-4 c = λ g p. rw (c .before .enum-told3 .given .1) (c .blank-class .ensures)
+returns-4 c = λ g p. rw c.before.enum-told3.given.1 c.blank-class.ensures
 
 pub first-class-spec : {M : Type 1} → statement M
 first-class-spec =

@@ -5,7 +5,7 @@ use Rattle.scan.proofs.first_words.first_counter.Statement.{statement}
 use Rattle.scan.proofs.first_words.first_counter.Tie as tie
 
 cast-result : tie.Need-cast-result
-cast-result c = let z = rw (c .before .before .e .given .1) at (c .before .before .before .before .pre) in omega arith
+cast-result c = let z = rw c.before.before.e.given.1 at c.before.before.before.before.pre in omega arith
 
 pub first-counter-spec : {M : Type 1} → statement M
 first-counter-spec =

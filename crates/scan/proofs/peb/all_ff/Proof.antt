@@ -17,19 +17,19 @@ abbrev μ-loop : tie.MeasureT-loop
 
 returns : tie.Need-returns Inv-loop μ-loop
 returns c =
-    let l = c .before .before .before .loop in
-    sym (ff-stop (c .before .before .before .before .args .s .now) (l .i) (omega arith) (c .if1 .taken)) ∙ l .inv .1
+    let l = c.before.before.before.loop in
+    sym (ff-stop c.before.before.before.before.args.s.now l.i (omega arith) c.if1.taken) ∙ l .inv .1
 
 loop-again : tie.Need-loop-again Inv-loop μ-loop
 loop-again c =
-    let l = c .before .before .before .loop in
-    let s = c .before .before .before .before .args .s .now in
-    (omega arith, sym (ff-go s (l .i) (omega arith) (c .if1 .left)) ∙ l .inv .1)
+    let l = c.before.before.before.loop in
+    let s = c.before.before.before.before.args.s.now in
+    (omega arith, sym (ff-go s l.i (omega arith) c.if1.left) ∙ l .inv .1)
 
 returns-2 : tie.Need-returns-2 Inv-loop μ-loop
 returns-2 c =
-    let e : c .before .loop .i ≡ length (c .before .before .args .s .now) = omega arith in
-    sym (ff-end (c .before .before .args .s .now)) ∙ rw e at (c .before .loop .inv .1)
+    let e : c .before .loop .i ≡ length c.before.before.args.s.now = omega arith in
+    sym (ff-end c.before.before.args.s.now) ∙ rw e at c.before.loop.inv.1
 
 pub all-ff-spec : {M : Type 1} → statement M
 all-ff-spec =

@@ -22,54 +22,54 @@ abbrev μ-loop : tie.MeasureT-loop
 
 loop-holds : tie.Need-loop-holds Inv-loop μ-loop
 loop-holds c =
-    let a = c .before .before .before .before .before .args in
-    let m = mediumOf (a .g) (a .n) (a .image .now) in
-    (omega arith, refl, refl, passing-none m (c .no-totals .ensures (viewsOf (a .g) (a .image .now))))
+    let a = c.before.before.before.before.before.args in
+    let m = mediumOf a.g a.n a.image.now in
+    (omega arith, refl, refl, passing-none m (c.no-totals.ensures (viewsOf a.g a.image.now)))
 
 -- the place of PEB i is small
 small-place : (c : tie.In-loop Inv-loop μ-loop)
-    → let a = c .before .before .before .before .before .before .before .args in
-    c .before .loop .i * a .g .«peb_size» ≤ mostPebs * 262144
+    → let a = c.before.before.before.before.before.before.before.args in
+    c .before .loop .i * a.g.«peb_size» ≤ mostPebs * 262144
 small-place c =
-    let p = c .before .before .before .before .before .before .before .pre in
-    mul-le-mul {n₁ = c .before .loop .i} {n₂ = mostPebs} (omega arith) (p .placed .peb-most)
+    let p = c.before.before.before.before.before.before.before.pre in
+    mul-le-mul {n₁ = c.before.loop.i} {n₂ = mostPebs} (omega arith) p.placed.peb-most
 
 mul-at : tie.Need-mul-at Inv-loop μ-loop
 mul-at c = record { fits = omega (arith, small-place c) }
 
 add-pass-peb : tie.Need-add-pass-peb Inv-loop μ-loop
 add-pass-peb c =
-    let p = c .before .before .before .before .before .before .before .pre in
-    record { fits = omega (arith, small-place c, p .placed .peb-most) }
+    let p = c.before.before.before.before.before.before.before.pre in
+    record { fits = omega (arith, small-place c, p.placed.peb-most) }
 
 part-pass-peb-end : tie.Need-part-pass-peb-end Inv-loop μ-loop
 part-pass-peb-end c =
-    let a = c .before .before .before .before .before .before .before .args in
-    omega (arith, mul-le-mul-right {m = c .before .loop .i + 1} {n = a .n} (a .g .«peb_size») (omega arith))
+    let a = c.before.before.before.before.before.before.before.args in
+    omega (arith, mul-le-mul-right {m = c.before.loop.i + 1} {n = a.n} a.g.«peb_size» (omega arith))
 
 returns : tie.Need-returns Inv-loop μ-loop
 returns c =
-    let d = c .before .before .before .before .before .before .before in
-    let a = d .before .before .before .before .before .before .before .before .before .before .before .args in
-    pass-refused (a .g) (a .n) (a .image .now) (d .before .before .before .before .before .loop .inv .3) (omega arith)
-    (d .pass-peb .ensures) (c .if1 .taken)
+    let d = c.before.before.before.before.before.before.before in
+    let a = d.before.before.before.before.before.before.before.before.before.before.before.args in
+    pass-refused a.g a.n a.image.now d.before.before.before.before.before.loop.inv.3 (omega arith)
+    d.pass-peb.ensures c.if1.taken
 
 loop-again : tie.Need-loop-again Inv-loop μ-loop
 loop-again c =
-    let d = c .before .before .before .before .before .before .before in
-    let a = d .before .before .before .before .before .before .before .before .before .before .before .args in
-    let o = d .before .before .before .before .before .loop .inv .3 in (
+    let d = c.before.before.before.before.before.before.before in
+    let a = d.before.before.before.before.before.before.before.before.before.before.before.args in
+    let o = d.before.before.before.before.before.loop.inv.3 in (
       omega arith,
       search needs,
       search needs,
-      pass-on (a .g) (a .n) (a .image .now) o (omega arith) (d .pass-peb .ensures) (c .if1 .left),
+      pass-on a.g a.n a.image.now o (omega arith) d.pass-peb.ensures c.if1.left,
     )
 
 returns-2 : tie.Need-returns-2 Inv-loop μ-loop
 returns-2 c =
-    let l = c .before .loop in
-    let e : l .i ≡ c .before .before .before .before .before .before .before .args .n = omega arith in
-    pass-whole (rw e at (l .inv .3))
+    let l = c.before.loop in
+    let e : l .i ≡ c.before.before.before.before.before.before.before.args.n = omega arith in
+    pass-whole (rw e at l.inv.3)
 
 pub pass-spec : {M : Type 1} → statement M
 pass-spec =

@@ -5,17 +5,17 @@ use Rattle.scan.proofs.totals.vid_refusal.Statement.{statement}
 use Rattle.scan.proofs.totals.vid_refusal.Tie as tie
 
 returns : tie.Need-returns
-returns c = λ g p. rw (c .enum-told .given .1)
+returns c = λ g p. rw c.enum-told.given.1
 
 returns-2 : tie.Need-returns-2
-returns-2 c = λ g p. rw (c .enum-told2 .given .1)
+returns-2 c = λ g p. rw c.enum-told2.given.1
 
 returns-3 : tie.Need-returns-3
-returns-3 c = λ g p. rw (c .enum-told3 .given .1)
+returns-3 c = λ g p. rw c.enum-told3.given.1
 
 returns-4 : tie.Need-returns-4
 unfolding copyOf
-returns-4 c = λ g p. rw (c .before .before .v .given .1) (c .good-vid-refusal .ensures)
+returns-4 c = λ g p. rw c.before.before.v.given.1 c.good-vid-refusal.ensures
 
 pub vid-refusal-spec : {M : Type 1} → statement M
 vid-refusal-spec =

@@ -4,7 +4,7 @@ use Rattle.ubilist.proofs.input.input_of.Statement.{statement}
 use Rattle.ubilist.proofs.input.input_of.Tie as tie
 
 returns-2 : tie.Need-returns-2
-returns-2 c = rw (c .before .t .given .1)
+returns-2 c = rw c.before.t.given.1
 
 pub input-of-spec : {M : Type 1} → statement M
 input-of-spec =

@@ -23,30 +23,30 @@ ended-within (Ended n) h = omega (arith, h n refl)
 ended-within Failed h = tt
 
 abbrev Inv-loop : tie.InvT-loop
-Inv-loop held₀ p₀ held p = (length held ≡ length held₀) × (p .moved < 61441)
+Inv-loop held₀ p₀ held p = (length held ≡ length held₀) × (p.moved < 61441)
 
 abbrev μ-loop : tie.MeasureT-loop
 μ-loop held₀ p₀ held p = callsLeft 61441 p
 
 loop-holds : tie.Need-loop-holds Inv-loop μ-loop
-loop-holds c = (refl, subst (λ (p : Progress). p .moved < 61441) (sym (c .begin .ensures)) (lit< tt))
+loop-holds c = (refl, subst (λ (p : Progress). p.moved < 61441) (sym c.begin.ensures) (lit< tt))
 
 returns : tie.Need-returns Inv-loop μ-loop
 returns c =
-    let below : (n : ℕ) → c .before .before .after-call .result ≡ Ended n → n < 61441 =
-    λ n e. ended-below _ _ _ _ (omega arith) (c .before .before .after-call .ensures) e in
-    subst (λ (i : Input). within i 61440) (sym (c .input-of .ensures)) (ended-within (c .before .before .after-call .result) below)
+    let below : (n : ℕ) → c.before.before.after-call.result ≡ Ended n → n < 61441 =
+    λ n e. ended-below _ _ _ _ (omega arith) c.before.before.after-call.ensures e in
+    subst (λ (i : Input). within i 61440) (sym c.input-of.ensures) (ended-within c.before.before.after-call.result below)
 
 loop-less : tie.Need-loop-less Inv-loop μ-loop
 loop-less c =
-    let n = on-next _ _ _ _ (omega arith) (c .before .before .before .after-call .ensures) (c .before .t .given .1) in
-    omega (arith, n .0, n .1)
+    let n = on-next _ _ _ _ (omega arith) c.before.before.before.after-call.ensures c.before.t.given.1 in
+    omega (arith, n.0, n.1)
 
 loop-again : tie.Need-loop-again Inv-loop μ-loop
 loop-again c =
-    let n = on-next _ _ _ _ (omega arith) (c .before .before .before .after-call .ensures) (c .before .t .given .1) in
-    let l = c .before .before .before .before .before .before .before .before .before .loop in
-    (c .before .before .before .before .before .before .held .given ∙ l .inv .0, omega (arith, n .0))
+    let n = on-next _ _ _ _ (omega arith) c.before.before.before.after-call.ensures c.before.t.given.1 in
+    let l = c.before.before.before.before.before.before.before.before.before.loop in
+    (c.before.before.before.before.before.before.held.given ∙ l .inv .0, omega (arith, n.0))
 
 pub read-spec : {M : Type 1} → statement M
 read-spec =

@@ -5,7 +5,7 @@ use Rattle.volume_record.proofs.fields.field_bytes.Statement.{statement
 use Rattle.volume_record.proofs.fields.field_bytes.Tie as tie
 
 returns : tie.Need-returns
-returns c = rw (add-sub-cancel-left, ← (c .before .before .field-of .ensures .0))
+returns c = rw (add-sub-cancel-left, ← c.before.before.field-of.ensures.0)
 
 pub field-bytes-spec : {M : Type 1} → statement M
 field-bytes-spec =

@@ -7,7 +7,7 @@ use Rattle.volume_record.proofs.fields.field_of.Statement.{statement}
 use Rattle.volume_record.proofs.fields.field_of.Tie as tie
 
 returns : tie.Need-returns
-returns c = (refl, fits (c .before .args .i))
+returns c = (refl, fits c.before.args.i)
 
 pub field-of-spec : {M : Type 1} → statement M
 field-of-spec = tie.close (tie.spec (λ c. search needs) (λ c. search needs) returns)

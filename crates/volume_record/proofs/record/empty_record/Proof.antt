@@ -6,8 +6,8 @@ use Rattle.volume_record.proofs.record.empty_record.Tie as tie
 
 returns : tie.Need-returns
 returns c =
-    let s = c .before .before .before .before in
-    zeroes-summed (s .before .before .before .crc32 .ensures) (s .store .ensures) (c .before .set-field .ensures)
+    let s = c.before.before.before.before in
+    zeroes-summed s.before.before.before.crc32.ensures s.store.ensures c.before.set-field.ensures
 
 pub empty-record-spec : {M : Type 1} → statement M
 empty-record-spec =

@@ -17,17 +17,17 @@ abbrev μ-loop : tie.MeasureT-loop
 
 returns : tie.Need-returns Inv-loop μ-loop
 returns c =
-    let start = c .before .before .before in
-    name-cut (start .args .t1) (start .args .n) (c .before .before .loop .i) (omega arith) (c .if1 .taken)
+    let start = c.before.before.before in
+    name-cut start.args.t1 start.args.n c.before.before.loop.i (omega arith) c.if1.taken
 
 loop-again : tie.Need-loop-again Inv-loop μ-loop
 loop-again c =
-    (omega arith, name-more (c .before .before .before .args .t1) (c .before .before .loop .i) (c .before .before .loop .inv .1) (c .if1 .left))
+    (omega arith, name-more c.before.before.before.args.t1 c.before.before.loop.i c.before.before.loop.inv.1 c.if1.left)
 
 returns-2 : tie.Need-returns-2 Inv-loop μ-loop
 returns-2 c =
-    let e : c .before .loop .i ≡ c .before .before .args .n = omega arith in
-    name-whole (c .before .before .args .t1) (c .before .before .args .n) (rw e at (c .before .loop .inv .1))
+    let e : c .before .loop .i ≡ c.before.before.args.n = omega arith in
+    name-whole c.before.before.args.t1 c.before.before.args.n (rw e at c.before.loop.inv.1)
 
 pub name-ends-spec : {M : Type 1} → statement M
 name-ends-spec =

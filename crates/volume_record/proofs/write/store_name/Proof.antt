@@ -8,7 +8,7 @@ use Rattle.volume_record.proofs.write.store_name.Statement.{statement}
 use Rattle.volume_record.proofs.write.store_name.Tie as tie
 
 store-requires : tie.Need-store-requires
-store-requires c κs = omega (arith, ap (λ (f : Field). f .at) (c .before .before .field-of .ensures .0))
+store-requires c κs = omega (arith, ap (λ (f : Field). f.at) c.before.before.field-of.ensures.0)
 
 returns : tie.Need-returns
 unfolding nameStored

@@ -7,23 +7,23 @@ use Rattle.volume_table.proofs.table.choose_table.Tie as tie
 
 returns : tie.Need-returns
 returns c =
-    let at-records-part = c .before .before .before .before in let at-table-good = at-records-part .before in
-    let a = at-table-good .before .before .before .args in
-    chosen-equal (a .leb-size) (a .unit) (a .peb-count) (a .copy0 .now) (a .copy1 .now)
-    (at-table-good .table-good .ensures)
-    (rw (← (at-records-part .records-part .ensures), ← (c .before .before .before .records-part2 .ensures))
-    (sym (c .before .before .same .ensures) ∙ c .before .if1 .taken))
-    (c .choice-of-equal .ensures .0) (c .choice-of-equal .ensures .1)
+    let at-records-part = c.before.before.before.before in let at-table-good = at-records-part.before in
+    let a = at-table-good.before.before.before.args in
+    chosen-equal a.leb-size a.unit a.peb-count a.copy0.now a.copy1.now
+    at-table-good.table-good.ensures
+    (rw (← at-records-part.records-part.ensures, ← c.before.before.before.records-part2.ensures)
+    (sym c.before.before.same.ensures ∙ c .before .if1 .taken))
+    c.choice-of-equal.ensures.0 c.choice-of-equal.ensures.1
 
 returns-2 : tie.Need-returns-2
 returns-2 c =
-    let at-records-part2 = c .before .before .before .before in let at-records-part = at-records-part2 .before in
-    let at-table-good = at-records-part .before in let a = at-table-good .before .before .before .args in
-    chosen-unequal (a .leb-size) (a .unit) (a .peb-count) (a .copy0 .now) (a .copy1 .now)
-    (at-table-good .table-good .ensures) (c .before .table-good2 .ensures)
-    (rw (← (at-records-part .records-part .ensures), ← (at-records-part2 .records-part2 .ensures))
-    (sym (c .before .before .before .same .ensures) ∙ c .before .before .if1 .left))
-    (c .choice-of .ensures .0) (c .choice-of .ensures .1)
+    let at-records-part2 = c.before.before.before.before in let at-records-part = at-records-part2.before in
+    let at-table-good = at-records-part.before in let a = at-table-good.before.before.before.args in
+    chosen-unequal a.leb-size a.unit a.peb-count a.copy0.now a.copy1.now
+    at-table-good.table-good.ensures c.before.table-good2.ensures
+    (rw (← at-records-part.records-part.ensures, ← at-records-part2.records-part2.ensures)
+    (sym c.before.before.before.same.ensures ∙ c .before .before .if1 .left))
+    c.choice-of.ensures.0 c.choice-of.ensures.1
 
 pub choose-table-spec : {M : Type 1} → statement M
 choose-table-spec =

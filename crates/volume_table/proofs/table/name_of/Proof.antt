@@ -6,15 +6,15 @@ use Rattle.volume_table.proofs.table.name_of.Tie as tie
 
 returns : tie.Need-returns
 returns c =
-    let start = c .before .before .before .before in
-    name-whole-field (start .args .r .now) (c .before .before .field-bytes .ensures) (c .before .get-field .ensures .0)
-    (c .if1 .taken)
+    let start = c.before.before.before.before in
+    name-whole-field start.args.r.now c.before.before.field-bytes.ensures c.before.get-field.ensures.0
+    c.if1.taken
 
 returns-2 : tie.Need-returns-2
 returns-2 c =
-    let start = c .before .before .before .before .before in
-    name-front (start .args .r .now) (c .before .before .before .field-bytes .ensures)
-    (c .before .before .get-field .ensures .0)
+    let start = c.before.before.before.before.before in
+    name-front start.args.r.now c.before.before.before.field-bytes.ensures
+    c.before.before.get-field.ensures.0
 
 pub name-of-spec : {M : Type 1} → statement M
 name-of-spec =

@@ -18,21 +18,21 @@ abbrev μ-loop : tie.MeasureT-loop
 
 returns : tie.Need-returns Inv-loop μ-loop
 returns c =
-    let start = c .before .before .before .before .before .before in
-    let t = start .args .t .now in
-    rw (any-intro (start .args .n) (λ (k : ℕ). anyBelow k (repeats t k)) (c .before .before .before .loop .j)
-    (omega arith) (sym (c .before .name-repeats .ensures) ∙ c .if1 .taken))
+    let start = c.before.before.before.before.before.before in
+    let t = start.args.t.now in
+    rw (any-intro start.args.n (λ (k : ℕ). anyBelow k (repeats t k)) c.before.before.before.loop.j
+    (omega arith) (sym c.before.name-repeats.ensures ∙ c .if1 .taken))
 
 loop-again : tie.Need-loop-again Inv-loop μ-loop
 loop-again c =
-    let at-loop = c .before .before .before in let start = at-loop .before .before .before in
-    let t = start .args .t .now in
-    (omega arith, any-more (λ (k : ℕ). anyBelow k (repeats t k)) (at-loop .loop .j) (at-loop .loop .inv .1) (sym (c .before .name-repeats .ensures) ∙ c .if1 .left))
+    let at-loop = c.before.before.before in let start = at-loop.before.before.before in
+    let t = start.args.t.now in
+    (omega arith, any-more (λ (k : ℕ). anyBelow k (repeats t k)) at-loop.loop.j at-loop.loop.inv.1 (sym c.before.name-repeats.ensures ∙ c .if1 .left))
 
 returns-2 : tie.Need-returns-2 Inv-loop μ-loop
 returns-2 c =
-    let start = c .before .before .before .before in
-    let e : c .before .loop .j ≡ start .args .n = omega arith in rw (rw e at (c .before .loop .inv .1))
+    let start = c.before.before.before.before in
+    let e : c .before .loop .j ≡ start.args.n = omega arith in rw (rw e at c.before.loop.inv.1)
 
 pub names-differ-spec : {M : Type 1} → statement M
 names-differ-spec =

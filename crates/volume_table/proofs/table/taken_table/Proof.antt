@@ -5,11 +5,11 @@ use Rattle.volume_table.proofs.table.taken_table.Statement.{statement}
 use Rattle.volume_table.proofs.table.taken_table.Tie as tie
 
 returns-2 : tie.Need-returns-2
-returns-2 c = rw (c .before .before .before .taken .given .1, c .before .if1 .taken) (c .records-part .ensures)
+returns-2 c = rw (c.before.before.before.taken.given.1, c.before.if1.taken) c.records-part.ensures
 
 returns-3 : tie.Need-returns-3
 returns-3 c =
-    rw (c .before .before .before .taken .given .1, ne-eqb _ _ (c .before .if1 .left)) (c .records-part2 .ensures)
+    rw (c.before.before.before.taken.given.1, ne-eqb _ _ c.before.if1.left) c.records-part2.ensures
 
 pub taken-table-spec : {M : Type 1} → statement M
 taken-table-spec =

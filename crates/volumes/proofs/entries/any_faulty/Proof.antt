@@ -16,29 +16,29 @@ abbrev μ-loop : tie.MeasureT-loop
 μ-loop image g map count v asks k₀ k = count - k
 
 abbrev bad : tie.Start Inv-loop μ-loop → ℕ → Bool
-bad d = let a = d .args in faultAt (a .g) (a .image .now) (a .map .now) (a .volume) (a .asks)
+bad d = let a = d.args in faultAt a.g a.image.now a.map.now a.volume a.asks
 
 loop-holds : tie.Need-loop-holds Inv-loop μ-loop
 loop-holds c = (omega arith, λ j h. absurd (omega arith))
 
 returns : tie.Need-returns Inv-loop μ-loop
 returns c =
-    let l = c .before .before .before in
-    let d = l .before .before .before in
-    sym (any-intro (d .args .count) (bad d) (l .loop .k) (omega arith)
-    (sym (c .before .fault-at .ensures) ∙ c .if1 .taken))
+    let l = c.before.before.before in
+    let d = l.before.before.before in
+    sym (any-intro d.args.count (bad d) l.loop.k (omega arith)
+    (sym c.before.fault-at.ensures ∙ c .if1 .taken))
 
 loop-again : tie.Need-loop-again Inv-loop μ-loop
 loop-again c =
-    let d = c .before .before .before in
-    let P : ℕ → Type 0 = λ j. bad (d .before .before .before) j ≡ false in
-    (omega arith, one-more P (d .loop .k) (d .loop .inv .1) (sym (c .before .fault-at .ensures) ∙ c .if1 .left))
+    let d = c.before.before.before in
+    let P : ℕ → Type 0 = λ j. bad d.before.before.before j ≡ false in
+    (omega arith, one-more P d.loop.k d.loop.inv.1 (sym c.before.fault-at.ensures ∙ c .if1 .left))
 
 returns-2 : tie.Need-returns-2 Inv-loop μ-loop
 returns-2 c =
-    let d = c .before .before .before .before in
-    let e : c .before .loop .k ≡ d .args .count = omega arith in
-    sym (none-intro (d .args .count) (bad d) (rw e at (c .before .loop .inv .1)))
+    let d = c.before.before.before.before in
+    let e : c .before .loop .k ≡ d.args.count = omega arith in
+    sym (none-intro d.args.count (bad d) (rw e at c.before.loop.inv.1))
 
 pub any-faulty-spec : {M : Type 1} → statement M
 any-faulty-spec =

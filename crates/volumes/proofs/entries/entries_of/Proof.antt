@@ -20,14 +20,14 @@ loop-holds c = (omega arith, (refl, omega arith))
 
 loop-again : tie.Need-loop-again Inv-loop μ-loop
 loop-again c =
-    let l = c .before .before .before .loop in
-    (omega arith, (rw (add-one, l .inv .1 .0, c .one-if .ensures .0, c .before .volume-word .ensures), omega arith))
+    let l = c.before.before.before.loop in
+    (omega arith, (rw (add-one, l.inv.1.0, c.one-if.ensures.0, c.before.volume-word.ensures), omega arith))
 
 returns : tie.Need-returns Inv-loop μ-loop
 returns c =
-    let l = c .before .loop in
-    let e : l .k ≡ c .before .before .before .args .count = omega arith in
-    rw e at (l .inv .1 .0)
+    let l = c.before.loop in
+    let e : l .k ≡ c.before.before.before.args.count = omega arith in
+    rw e at l.inv.1.0
 
 pub entries-of-spec : {M : Type 1} → statement M
 entries-of-spec =

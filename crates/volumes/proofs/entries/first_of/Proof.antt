@@ -19,22 +19,22 @@ loop-holds c = (omega arith, λ j h. absurd (omega arith))
 
 returns : tie.Need-returns Inv-loop μ-loop
 returns c =
-    let l = c .before .before .before .loop in
-    record { within = l .inv .0; before = l .inv .1; here = λ _. sym (c .before .volume-word .ensures) ∙ c .if1 .taken }
+    let l = c.before.before.before.loop in
+    record { within = l.inv.0; before = l.inv.1; here = λ _. sym c.before.volume-word.ensures ∙ c .if1 .taken }
 
 loop-again : tie.Need-loop-again Inv-loop μ-loop
 loop-again c =
-    let d = c .before .before .before in
-    let a = d .before .before .args in (
+    let d = c.before.before.before in
+    let a = d.before.before.args in (
       omega arith,
-      one-more (λ (j : ℕ). volumeWord (a .map .now) j ≡ a .volume → ⊥) (d .loop .k) (d .loop .inv .1)
-          (λ e. c .if1 .left (c .before .volume-word .ensures ∙ e)),
+      one-more (λ (j : ℕ). volumeWord a.map.now j ≡ a.volume → ⊥) d.loop.k d.loop.inv.1
+          (λ e. c.if1.left (c.before.volume-word.ensures ∙ e)),
     )
 
 returns-2 : tie.Need-returns-2 Inv-loop μ-loop
 returns-2 c =
-    let l = c .before .loop in
-    record { within = l .inv .0; before = l .inv .1; here = λ h. absurd (omega arith) }
+    let l = c.before.loop in
+    record { within = l.inv.0; before = l.inv.1; here = λ h. absurd (omega arith) }
 
 pub first-of-spec : {M : Type 1} → statement M
 first-of-spec =

@@ -25,24 +25,24 @@ loop-holds c = (omega arith, λ w h. absurd (omega arith))
 
 returns : tie.Need-returns Inv-loop μ-loop
 returns c =
-    let d = c .before .before .before in
-    let m = c .before .misfit-of .ensures in
-    (refused-here (d .before .before .before .before .pre) (omega arith) m (c .if1 .taken) (d .loop .inv .1), m .within)
+    let d = c.before.before.before in
+    let m = c.before.misfit-of.ensures in
+    (refused-here d.before.before.before.before.pre (omega arith) m c.if1.taken d.loop.inv.1, m.within)
 
 loop-again : tie.Need-loop-again Inv-loop μ-loop
 loop-again c =
-    let d = c .before .before .before in
-    let s = d .before .before .before .before .pre in (
+    let d = c.before.before.before in
+    let s = d.before.before.before.before.pre in (
       omega arith,
-      one-more (λ (w : ℕ). misfitIn (rs s) (fs s) w ≡ none) (d .loop .volume) (d .loop .inv .1)
-          (c .before .misfit-of .ensures .none-in (c .if1 .left)),
+      one-more (λ (w : ℕ). misfitIn (rs s) (fs s) w ≡ none) d.loop.volume d.loop.inv.1
+          (c.before.misfit-of.ensures.none-in c.if1.left),
     )
 
 returns-2 : tie.Need-returns-2 Inv-loop μ-loop
 returns-2 c =
-    let l = c .before .loop in
+    let l = c.before.loop in
     let e : l .volume ≡ 128 = omega arith in
-    (not-refused (c .before .before .before .before .before .pre) (rw e at (l .inv .1)), omega arith)
+    (not-refused c.before.before.before.before.before.pre (rw e at l.inv.1), omega arith)
 
 pub first-misfit-spec : {M : Type 1} → statement M
 first-misfit-spec =

@@ -9,15 +9,15 @@ use Rattle.volumes.proofs.record.numbers_at.Tie as tie
 returns : tie.Need-returns
 unfolding numbersOf recordOf
 returns c =
-    let r = c .before .before .before .before in
-    let a = r .before .before .before .args in
+    let r = c.before.before.before.before in
+    let a = r.before.before.before.args in
     rw (
       r .get-field .ensures .0,
       c .before .before .before .get-field2 .ensures .0,
       c .before .before .get-field3 .ensures .0,
       c .before .get-field4 .ensures .0,
       c .get-field5 .ensures .0,
-      lent-part (a .at) 172 (a .records .now),
+      lent-part a.at 172 a.records.now,
     )
 
 pub numbers-at-spec : {M : Type 1} → statement M

@@ -12,8 +12,8 @@ use Rattle.volumes.proofs.record.record_numbers.Tie as tie
 returns : tie.Need-returns
 unfolding numbersOf recordOf beFrom
 returns c =
-    let a = c .before .before .before .args in
-    rw (drop-of-length-le (a .records .now) {i = 172 * a .volume} (omega (arith, c .before .record-count .ensures)))
+    let a = c.before.before.before.args in
+    rw (drop-of-length-le a.records.now {i = 172 * a.volume} (omega (arith, c.before.record-count.ensures)))
 
 pub record-numbers-spec : {M : Type 1} → statement M
 record-numbers-spec =

@@ -26,18 +26,18 @@ loop-holds c = (omega arith, (refl, refl))
 
 loop-again : tie.Need-loop-again Inv-loop μ-loop
 loop-again c =
-    let l = c .before .before in
-    let a = l .before .before .before .before .before .args in
-    let f = fill-more (stateAt (mediumOf (a .g) (a .n) (a .image .now))) (l .loop .volume) (a .states .now)
+    let l = c.before.before in
+    let a = l.before.before.before.before.before.args in
+    let f = fill-more (stateAt (mediumOf a.g a.n a.image.now)) l.loop.volume a.states.now
     (omega arith) in
-    (omega arith, (rw length-set (l .loop .inv .1 .0), rw (l .loop .inv .1 .1, c .volume-state .ensures) f))
+    (omega arith, (rw length-set l.loop.inv.1.0, rw (l.loop.inv.1.1, c.volume-state.ensures) f))
 
 same-length : tie.Need-same-length Inv-loop μ-loop
-same-length c = c .before .loop .inv .1 .0
+same-length c = c.before.loop.inv.1.0
 
 returns : tie.Need-returns Inv-loop μ-loop
 unfolding stateWords
-returns c = let e : c .before .loop .volume ≡ 128 = omega arith in rw e at (c .before .loop .inv .1 .1)
+returns c = let e : c .before .loop .volume ≡ 128 = omega arith in rw e at c.before.loop.inv.1.1
 
 pub fill-states-spec : {M : Type 1} → statement M
 fill-states-spec =

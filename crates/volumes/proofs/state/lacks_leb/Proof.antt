@@ -7,35 +7,35 @@ use Rattle.volumes.proofs.state.lacks_leb.Tie as tie
 
 returns : tie.Need-returns
 returns c =
-    let f = c .before .first-of in
+    let f = c.before.first-of in
     record {
-      first = f .result;
-      is-first = f .ensures;
-      is = rw (le-ltb (f .result) (c .before .before .before .before .args .count) (omega arith));
+      first = f.result;
+      is-first = f.ensures;
+      is = rw (le-ltb f.result c.before.before.before.before.args.count (omega arith));
     }
 
 peb-word-requires : tie.Need-peb-word-requires
-peb-word-requires c κs = let f = c .before .before .first-of .ensures .within in omega (arith, c .before .if1 .left)
+peb-word-requires c κs = let f = c.before.before.first-of.ensures.within in omega (arith, c.before.if1.left)
 
 header-field-requires : tie.Need-header-field-requires
 header-field-requires c κs =
-    let b = c .before .before in
-    let m = b .before .before .before .before .pre .mapped (b .before .first-of .result)
-    (omega (arith, b .if1 .left)) in
-    rw (c .peb-word .ensures) (m .placed, (m .bytes, (omega arith, omega arith)))
+    let b = c.before.before in
+    let m = b.before.before.before.before.pre.mapped b.before.first-of.result
+    (omega (arith, b.if1.left)) in
+    rw c.peb-word.ensures (m.placed, (m.bytes, (omega arith, omega arith)))
 
 returns-2 : tie.Need-returns-2
 returns-2 c =
-    let b = c .before .before .before in
-    let f = b .before .first-of in
+    let b = c.before.before.before in
+    let f = b.before.first-of in
     record {
-      first = f .result;
-      is-first = f .ensures;
+      first = f.result;
+      is-first = f.ensures;
       is = rw (
-        lt-ltb (f .result) (b .before .before .before .before .args .count) (omega (arith, b .if1 .left)),
-        ← (c .before .before .entries-of .ensures),
-        ← (c .before .peb-word .ensures),
-        ← (c .header-field .ensures),
+        lt-ltb f.result b.before.before.before.before.args.count (omega (arith, b.if1.left)),
+        ← c.before.before.entries-of.ensures,
+        ← c.before.peb-word.ensures,
+        ← c.header-field.ensures,
       );
     }
 
