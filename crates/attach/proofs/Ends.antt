@@ -52,7 +52,8 @@ module _ (k : ℕ) (w x : List ℕ) {x′ : List ℕ} (e : x′ ≡ w ++ drop k 
   words-take = ap₂ take (sym words-long) words-over ∙ take-append-seam w (drop (length w) x)
 
   pub words-tail : drop k x′ ≡ drop k x
-  words-tail = ap₂ drop (sym words-long) words-over ∙ drop-append-seam w (drop (length w) x) ∙ ap (λ (j : ℕ). drop j x) words-long
+  words-tail = ap₂ drop (sym words-long) words-over ∙ drop-append-seam w (drop (length w) x)
+      ∙ ap (λ (j : ℕ). drop j x) words-long
 
 -- words that stand in place of as many lent ones
 over-same : (ws a b : List ℕ) (k : ℕ) → length ws ≡ k → drop k a ≡ drop k b → over ws a ≡ over ws b
@@ -67,11 +68,13 @@ lent-same a b c = rw (a, b, c)
 -- ---- counters
 
 -- a good counter has 31 bits
-pub counter-small : (g : Geometry) (image : List ℕ) (i : ℕ) (h : EcHeader) → ecs (viewsOf g image) i ≡ some h → h.counter ≤ 0x7FFFFFFF
+pub counter-small : (g : Geometry) (image : List ℕ) (i : ℕ) (h : EcHeader) → ecs (viewsOf g image) i ≡ some h
+    → h.counter ≤ 0x7FFFFFFF
 unfolding viewOf
 counter-small g image i h e = go (allFF (take 64 (pebAt g image i))) (readEc (take 64 (pebAt g image i))) refl e
   where
-    go : (t : Bool) (v : Verdict EcHeader) → readEc (take 64 (pebAt g image i)) ≡ v → goodEc (cond t ecBlank (ecOf v)) ≡ some h → h.counter ≤ 0x7FFFFFFF
+    go : (t : Bool) (v : Verdict EcHeader) → readEc (take 64 (pebAt g image i)) ≡ v
+        → goodEc (cond t ecBlank (ecOf v)) ≡ some h → h.counter ≤ 0x7FFFFFFF
     go true v q e = absurd (let z : _≡_ {A = ℕ} 0 1 = cc in omega arith)
     go false bad q e = absurd (let z : _≡_ {A = ℕ} 0 1 = cc in omega arith)
     go false newer q e = absurd (let z : _≡_ {A = ℕ} 0 1 = cc in omega arith)
@@ -116,9 +119,12 @@ module _ (m : Medium) where
       (λ q. rw q (lent-same (over-same (pebWords m) _ _ _ (peb-words-length m) s.pebs-tail)
       (over-same (mapWords m.count (entries m)) _ _ _ (map-words-long h q) s.map-tail)
       (over-same (stateWords m) _ _ _ (state-words-long m) s.states-tail)))
-      (λ r q. rw q (lent-same (over-same (replicate (pebWordsNeeded m.count) noWord) _ _ _ (length-replicate (pebWordsNeeded m.count) noWord) s.pebs-tail)
-      (over-same (replicate (mapWordsNeeded m.count) noWord) _ _ _ (length-replicate (mapWordsNeeded m.count) noWord) s.map-tail)
-      (over-same (replicate stateWordsNeeded noWord) t₁.states t.states stateWordsNeeded (length-replicate stateWordsNeeded noWord) s.states-tail)))
+      (λ r q. rw q (lent-same (over-same (replicate (pebWordsNeeded m.count) noWord) _ _ _
+      (length-replicate (pebWordsNeeded m.count) noWord) s.pebs-tail)
+      (over-same (replicate (mapWordsNeeded m.count) noWord) _ _ _
+      (length-replicate (mapWordsNeeded m.count) noWord) s.map-tail)
+      (over-same (replicate stateWordsNeeded noWord) t₁.states t.states stateWordsNeeded
+      (length-replicate stateWordsNeeded noWord) s.states-tail)))
 
   -- what ends so from later words ends so from earlier ones
   pub ended-from : {t t₁ t′ : Tables} {r : Attached} → 2 ≤ m.count → SameBeyond m.count t t₁

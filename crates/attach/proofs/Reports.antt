@@ -80,7 +80,8 @@ module _ {g : Geometry} {n : ℕ} {image : List ℕ} {s : ScanTotals} {r : List 
 
     module _ {j : ℕ} (e : misfitRefusal map₁ count j ≡ tableRefusal m) where
       -- an entry that refusal 12 names
-      pub misfit-refusal : j < count → {peb : ℕ} → peb ≡ pebWord map₁ j → refusal m ≡ some (record { number = 12; place = peb })
+      pub misfit-refusal : j < count → {peb : ℕ} → peb ≡ pebWord map₁ j
+          → refusal m ≡ some (record { number = 12; place = peb })
       misfit-refusal h q = late-refusal p.past10 ∙ sym e ∙ rw (lt-ltb j count h, q)
 
       module _ (h : count ≤ j) where

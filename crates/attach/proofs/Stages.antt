@@ -111,7 +111,8 @@ module _ (g : Geometry) (image : List ℕ) (t : Tables) where
         long-states = leb-true _ (length t.states) (each-holds (roomRules t (pebCount g image)) h 2);
       }
 
-      pub ended-image : {r : Attached} {t′ : Tables} → Ended (outcome g (pebCount g image) image) r t t′ → Ended end r t t′
+      pub ended-image : {r : Attached} {t′ : Tables} → Ended (outcome g (pebCount g image) image) r t t′
+          → Ended end r t t′
       ended-image o = rw (e, h) o
 
 -- the promise of attaching, from how it ends
@@ -126,7 +127,13 @@ module _ (slip image : List ℕ) (t : Tables) (a : Answer Geometry) (e : a ≡ s
 
 module _ {g : Geometry} {n : ℕ} {image : List ℕ} {t : Tables} (rm : Room g n image t) where
   pub ready : ImageReady g n image t.pebs t.map
-  ready = record { placed = rm.placed; whole = rm.whole; few = rm.few; long-pebs = rm.long-pebs; long-map = rm.long-map }
+  ready = record {
+    placed = rm.placed;
+    whole = rm.whole;
+    few = rm.few;
+    long-pebs = rm.long-pebs;
+    long-map = rm.long-map;
+  }
 
   module _ (p : ImagePass) (pebs₁ map₁ : List ℕ) (o : Passed (mediumOf g n image) p t.pebs pebs₁ t.map map₁) where
     pub pass-refusal : (p.refusal ≡ 0 → ⊥)
@@ -171,7 +178,8 @@ module _ {g : Geometry} {n : ℕ} {image : List ℕ} {s : ScanTotals} {t : Table
     placed = p.room.placed;
     whole = p.room.whole;
     long = o.chained.long-map;
-    volumes = λ i h. o.relinked.volumes i ∙ volume-at n keys _ p.map-is (λ j. key-length j (viewsOf g image j .vid)) i h;
+    volumes = λ i h. o.relinked.volumes i
+        ∙ volume-at n keys _ p.map-is (λ j. key-length j (viewsOf g image j .vid)) i h;
     lnums = λ i h. o.relinked.lnums i ∙ lnum-at n keys _ p.map-is (λ j. key-length j (viewsOf g image j .vid)) i h;
   }
 
@@ -182,14 +190,16 @@ module _ {g : Geometry} {n : ℕ} {image : List ℕ} {s : ScanTotals} {t : Table
     pub repeat-refusal : r < n → refusal (mediumOf g n image) ≡ some (record { number = 9; place = r })
     unfolding refusal
     repeat-refusal h =
-        let q : refusal9 n (copies (viewsOf g image)) ≡ some (record { number = 9; place = r }) = sym e ∙ rw (lt-ltb r n h) in
+        let q : refusal9 n (copies (viewsOf g image)) ≡ some (record { number = 9; place = r }) = sym e
+        ∙ rw (lt-ltb r n h) in
         rw (p.no5678, q)
 
     module _ (h : n ≤ r) where
       none9 : refusal9 n (copies (viewsOf g image)) ≡ none
       none9 = sym e ∙ rw (le-ltb r n h)
 
-      pub unused-refusal : s .vid .unused ≡ true → refusal (mediumOf g n image) ≡ some (record { number = 10; place = 0 })
+      pub unused-refusal : s .vid .unused ≡ true
+          → refusal (mediumOf g n image) ≡ some (record { number = 10; place = 0 })
       unfolding refusal refusal10
       unused-refusal u = let q = sym p.totals.unused ∙ u in rw (p.no5678, none9, q)
 
@@ -204,36 +214,39 @@ module _ {g : Geometry} {n : ℕ} {image : List ℕ} {s : ScanTotals} {t : Table
       )
 
       module _ {pebs₂ : List ℕ} (lp : length pebs₂ ≡ length t.pebs)
-          (me : pebs₂ ≡ markedWords (places (mediumOf g n image)) n (viewsOf g image) ++ drop (pebWordsNeeded n) t.pebs) where
-        marked-tail : drop (pebWordsNeeded n) pebs₂ ≡ drop (pebWordsNeeded n) t.pebs
-        marked-tail = words-tail (pebWordsNeeded n) (markedWords (places (mediumOf g n image)) n (viewsOf g image)) t.pebs me lp p.room.long-pebs
+          (me : pebs₂ ≡ markedWords (places (mediumOf g n image)) n (viewsOf g image) ++ drop (pebWordsNeeded n) t.pebs)
+        where
+          marked-tail : drop (pebWordsNeeded n) pebs₂ ≡ drop (pebWordsNeeded n) t.pebs
+          marked-tail = words-tail (pebWordsNeeded n) (markedWords (places (mediumOf g n image)) n (viewsOf g image))
+              t.pebs me lp p.room.long-pebs
 
-        pub mark-beyond : SameBeyond n t (lent pebs₂ map₁ t.states)
-        mark-beyond = record { pebs-tail = marked-tail; map-tail = o.relinked.tail; states-tail = refl }
+          pub mark-beyond : SameBeyond n t (lent pebs₂ map₁ t.states)
+          mark-beyond = record { pebs-tail = marked-tail; map-tail = o.relinked.tail; states-tail = refl }
 
-        pub past-ten : s .vid .unused ≡ false → Past10 g n image s (lent pebs₂ map₁ t.states)
-        past-ten u =
-            let long-pebs : pebWordsNeeded n ≤ length pebs₂ = omega (arith, p.room.long-pebs, lp) in
-            record {
-              room = record {
-                placed = p.room.placed;
-                whole = p.room.whole;
-                least = p.room.least;
-                few = p.room.few;
-                long-pebs = long-pebs;
-                long-map = o.chained.long-map;
-                long-states = p.room.long-states;
-              };
-              chosen = record {
-                keyed = keyed;
-                long-pebs = long-pebs;
-                pebs-are = me ∙ ap (λ (x : List ℕ). markedWords (places (mediumOf g n image)) n (viewsOf g image) ++ x) (sym marked-tail);
-              };
-              totals = p.totals;
-              no5678 = p.no5678;
-              no9 = none9;
-              no10 = none10 u;
-            }
+          pub past-ten : s .vid .unused ≡ false → Past10 g n image s (lent pebs₂ map₁ t.states)
+          past-ten u =
+              let long-pebs : pebWordsNeeded n ≤ length pebs₂ = omega (arith, p.room.long-pebs, lp) in
+              record {
+                room = record {
+                  placed = p.room.placed;
+                  whole = p.room.whole;
+                  least = p.room.least;
+                  few = p.room.few;
+                  long-pebs = long-pebs;
+                  long-map = o.chained.long-map;
+                  long-states = p.room.long-states;
+                };
+                chosen = record {
+                  keyed = keyed;
+                  long-pebs = long-pebs;
+                  pebs-are = me ∙ ap (λ (x : List ℕ). markedWords (places (mediumOf g n image)) n (viewsOf g image) ++ x)
+                      (sym marked-tail);
+                };
+                totals = p.totals;
+                no5678 = p.no5678;
+                no9 = none9;
+                no10 = none10 u;
+              }
 
 -- ---- the table taken
 

@@ -55,7 +55,14 @@ module _ (m d w : ℕ) (all : m ≡ d + 4352) where
 crcFrom-xor : (a b : ℕ) (t : List ℕ) → Bytes t
     → crcFrom (bitXor a b) t ≡ bitXor (crcFrom a t) (crcBits (8 * length t) b)
 crcFrom-xor a b t h =
-    rw (crcFrom-word (bitXor a b) t h, crcFrom-word a t h, xor-assoc a b (leOf t), xor-comm b (leOf t), ← xor-assoc a (leOf t) b)
+    rw (
+      crcFrom-word (bitXor a b) t h,
+      crcFrom-word a t h,
+      xor-assoc a b (leOf t),
+      xor-comm b (leOf t),
+      ← xor-assoc a
+          (leOf t) b,
+    )
     (crcBits-xor (8 * length t) (bitXor a (leOf t)) b)
 
 -- the lowest word of a number goes through the register, the others move down
@@ -84,7 +91,8 @@ module _ (p w i : ℕ) (s : List ℕ) (bs : Bytes s) (is : w ≡ bitXor (p % 2 ^
       let bt = bytes-drop (i + 4) s bs in
       let m = 8 * length t in
       let g : m ≡ m - 4352 + 4352 = rw (length-drop (i + 4) s) (omega arith) in
-      let fits : w < 2 ^ 32 = rw is (xor-lt 32 (p % 2 ^ 32) (leOf (part i 4 s)) (mod-lt p (pow-pos 32)) (four-lt i s bs (omega arith))) in
+      let fits : w < 2 ^ 32 = rw is (xor-lt 32 (p % 2 ^ 32) (leOf (part i 4 s)) (mod-lt p (pow-pos 32))
+      (four-lt i s bs (omega arith))) in
       crcFrom-xor (p / 2 ^ 32) (folded 137 exponents w) t bt
       ∙ ap (bitXor (crcFrom (p / 2 ^ 32) t)) (sym (left-out m (m - 4352) w g))
       ∙ sym (crcFrom-xor (p / 2 ^ 32) (crcBits 32 (w % 2 ^ 32)) t bt)

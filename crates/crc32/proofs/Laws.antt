@@ -74,7 +74,16 @@ crcFrom-word c (b ∷ bs) h =
     let hb : b < 2 ^ 8 = h 0 in
     let e : 8 * suc (length bs) ≡ 8 + 8 * length bs = omega arith in
     crcFrom-word (crcBits 8 (bitXor c b)) bs (λ k. h (suc k))
-    ∙ sym (rw (e, crcBits-add 8 (8 * length bs), ← xor-shifted (leOf bs) 8 b, xor-comm (leOf bs * 256) b, ← xor-assoc, crcBits-xor 8 (bitXor c b) (leOf bs * 256), crcBits-shift 8))
+    ∙ sym (rw (
+      e,
+      crcBits-add 8 (8 * length bs),
+      ← xor-shifted (leOf bs) 8 b,
+      xor-comm
+          (leOf bs * 256) b,
+      ← xor-assoc,
+      crcBits-xor 8 (bitXor c b) (leOf bs * 256),
+      crcBits-shift 8,
+    ))
 
 -- ---- the state stays below 2 ^ 32
 

@@ -40,11 +40,18 @@ table-is l t = same l crcRows t
 -- the lowest n bits by themselves, the others by fewer shifts
 low-bits : (n m z : ℕ) → crcBits (n + m) z ≡ bitXor (crcBits (n + m) (z % 2 ^ n)) (crcBits m (z / 2 ^ n))
 low-bits n m z =
-    rw (crcBits-add n m z, crcBits-split n z, crcBits-xor m (z / 2 ^ n) (crcBits n (z % 2 ^ n)), crcBits-add n m (z % 2 ^ n))
+    rw (
+      crcBits-add n m z,
+      crcBits-split n z,
+      crcBits-xor m (z / 2 ^ n) (crcBits n (z % 2 ^ n)),
+      crcBits-add n m
+          (z % 2 ^ n),
+    )
     (xor-comm (crcBits m (z / 2 ^ n)) (crcBits m (crcBits n (z % 2 ^ n))))
 
 -- one half byte more
-pub nibble-more : (c n z : ℕ) → bitXor (bitXor c (crcBits (4 * (n + 1)) (z % 16))) (crcBits (4 * n) (z / 16)) ≡ bitXor c (crcBits (4 * (n + 1)) z)
+pub nibble-more : (c n z : ℕ) → bitXor (bitXor c (crcBits (4 * (n + 1)) (z % 16))) (crcBits (4 * n) (z / 16)) ≡ bitXor c
+    (crcBits (4 * (n + 1)) z)
 nibble-more c n z =
     let e : 4 * (n + 1) ≡ 4 + 4 * n = omega arith in
     xor-assoc c (crcBits (4 * (n + 1)) (z % 16)) (crcBits (4 * n) (z / 16))
@@ -56,9 +63,19 @@ unfolding crcByte
 two-halves c b p q e f = rw (f, e) (sym (crcBits-add 4 4 (bitXor c b)))
 
 -- a word that comes n words later is shifted n words less
-pub three-words : (a b c : ℕ) → bitXor (bitXor (crcBits 32 c) (crcBits 64 b)) (crcBits 96 a) ≡ crcBits 32 (bitXor (crcBits 32 (bitXor (crcBits 32 a) b)) c)
+pub three-words : (a b c : ℕ) → bitXor (bitXor (crcBits 32 c) (crcBits 64 b)) (crcBits 96 a) ≡ crcBits 32
+    (bitXor (crcBits 32 (bitXor (crcBits 32 a) b)) c)
 three-words a b c =
-    rw (crcBits-xor 32 (crcBits 32 a) b, ← crcBits-add 32 32 a, crcBits-xor 32 (bitXor (crcBits 64 a) (crcBits 32 b)) c, crcBits-xor 32 (crcBits 64 a) (crcBits 32 b), ← crcBits-add 64 32 a, ← crcBits-add 32 32 b)
+    rw (
+      crcBits-xor 32 (crcBits 32 a) b,
+      ← crcBits-add 32 32 a,
+      crcBits-xor 32
+          (bitXor (crcBits 64 a) (crcBits 32 b)) c,
+      crcBits-xor 32 (crcBits 64 a)
+          (crcBits 32 b),
+      ← crcBits-add 64 32 a,
+      ← crcBits-add 32 32 b,
+    )
     (xor-comm (bitXor (crcBits 32 c) (crcBits 64 b)) (crcBits 96 a) ∙ ap (bitXor (crcBits 96 a))
     (xor-comm (crcBits 32 c) (crcBits 64 b))
     ∙ sym (xor-assoc (crcBits 96 a) (crcBits 64 b) (crcBits 32 c)))

@@ -67,7 +67,15 @@ unfolding pending
 pending-high [] h = refl
 pending-high (e ∷ es) h =
     let f : 1 + e ≡ e + 1 = omega arith in
-    rw (xor-shr (wordsOf (drop e h)) (pending es h) 32, words-high (drop e h), drop-drop 1 e h, drop-drop e 1 h, f, pending-high es h)
+    rw (
+      xor-shr (wordsOf (drop e h)) (pending es h) 32,
+      words-high
+          (drop e h),
+      drop-drop 1 e h,
+      drop-drop e 1 h,
+      f,
+      pending-high es h,
+    )
 
 -- what is pending for the next word
 abbrev pub lowest : ℕ → List ℕ → List ℕ → ℕ
@@ -78,7 +86,15 @@ pending-low : (j : ℕ) (es b : List ℕ) → pending es (drop j b) % 2 ^ 32 ≡
 unfolding pending
 pending-low j [] b = refl
 pending-low j (e ∷ es) b =
-    rw (xor-mod (wordsOf (drop e (drop j b))) (pending es (drop j b)) 32, words-low (drop e (drop j b)), drop-drop e j b, getD-drop (j + e) b 0 0, add-zero, pending-low j es b)
+    rw (
+      xor-mod (wordsOf (drop e (drop j b))) (pending es (drop j b)) 32,
+      words-low
+          (drop e (drop j b)),
+      drop-drop e j b,
+      getD-drop (j + e) b 0 0,
+      add-zero,
+      pending-low j es b,
+    )
 
 pub pending-word : (j : ℕ) (b : List ℕ) → pending exponents (drop j b) % 2 ^ 32
     ≡ bitXor (getD b (j + 84) 0 % 2 ^ 32)
@@ -114,7 +130,16 @@ module _ (h : List ℕ) (w : ℕ) where
       (w % 2 ^ 32 * 2 ^ (32 * (length h - (1 + e))))
   next-at e l =
       let f : e + 1 ≡ 1 + e = omega arith in
-      rw (drop-drop e 1 (h ++ w ∷ []), drop-append-le (1 + e) h (w ∷ []) (omega arith), words-more (drop (1 + e) h) w, length-drop (1 + e) h, words-high (drop e h), drop-drop 1 e h, f)
+      rw (
+        drop-drop e 1 (h ++ w ∷ []),
+        drop-append-le (1 + e) h (w ∷ []) (omega arith),
+        words-more
+            (drop (1 + e) h) w,
+        length-drop (1 + e) h,
+        words-high (drop e h),
+        drop-drop 1 e h,
+        f,
+      )
 
   pub pending-next : (es : List ℕ) → Below (length h) es
       → pending es (drop 1 (h ++ w ∷ [])) ≡ bitXor (pending es h / 2 ^ 32) (folded (length h) es w)
@@ -146,13 +171,26 @@ pending-zeros (e ∷ es) h n l =
 pub cleared : (l z : List ℕ) → length l ≡ 137 → z ≡ l ++ zeros 85
     → (drop 137 z ≡ zeros 85) × (pending exponents z ≡ pending exponents l)
 unfolding zeros
-cleared l z n e =
-    (ap (drop 137) e ∙ drop-at l (replicate 85 0) 137 n, ap (pending exponents) e ∙ pending-zeros exponents l 85 (rw n (omega arith)))
+cleared l z n e = (
+  ap (drop 137) e ∙ drop-at l (replicate 85 0) 137 n,
+  ap (pending exponents) e
+      ∙ pending-zeros exponents l 85 (rw n (omega arith)),
+)
 
 pub pending-first : (n w : ℕ) → w < 2 ^ 32 → pending exponents (w ∷ replicate n 0) ≡ w
 unfolding pending wordsOf
 pending-first n w h =
-    rw (words-none n 83, words-none n 79, words-none n 69, words-none n 28, words-none n 7, words-none n 0, mod-eq-of-lt h, zero-add w)
+    rw (
+      words-none n 83,
+      words-none n 79,
+      words-none n 69,
+      words-none n 28,
+      words-none n 7,
+      words-none n 0,
+      mod-eq-of-lt
+          h,
+      zero-add w,
+    )
     (xor-zero-r w)
 
 -- ---- the last n words of a list, when the next is stored
@@ -164,7 +202,13 @@ drop-take n (x ∷ l) = refl
 pub window : (j n : ℕ) (b : List ℕ) (w : ℕ) → j + n < length b
     → part (j + 1) n (set b (j + n) w) ≡ drop 1 (part j n b ++ w ∷ [])
 window j n b w h =
-    rw (← take-suc-set (drop j b) n w (rw (length-drop j b) (omega arith)), ← drop-set-add j b n w, drop-take n (drop j (set b (j + n) w)), drop-drop 1 j (set b (j + n) w))
+    rw (
+      ← take-suc-set (drop j b) n w (rw (length-drop j b) (omega arith)),
+      ← drop-set-add j b n w,
+      drop-take n
+          (drop j (set b (j + n) w)),
+      drop-drop 1 j (set b (j + n) w),
+    )
 
 -- ---- a turn of the loops that move words
 
@@ -177,7 +221,14 @@ module _ (n : ℕ) (b₀ b : List ℕ) (j : ℕ) (inside₀ : n + j < length b�
       ap (λ (i : ℕ). getD b i 0) f ∙ sym (getD-drop j b n 0) ∙ ap (λ (l : List ℕ). getD l n 0) rest ∙ getD-drop j b₀ n 0
       ∙ ap (λ (i : ℕ). getD b₀ i 0) (sym f)
       ∙ sym (getD-drop n b₀ j 0) in
-      rw (add-one, take-suc-set b j (getD b (n + j) 0) inside, take-suc (drop n b₀) j 0 (rw (length-drop n b₀) (omega arith)), e, h)
+      rw (
+        add-one,
+        take-suc-set b j (getD b (n + j) 0) inside,
+        take-suc (drop n b₀) j 0
+            (rw (length-drop n b₀) (omega arith)),
+        e,
+        h,
+      )
 
   pub slide-rest : drop (j + 1) (set b j (getD b (n + j) 0)) ≡ drop (j + 1) b₀
   slide-rest = rw (drop-set-lt (j + 1) b j (getD b (n + j) 0) (omega arith), ← drop-drop 1 j b, rest) (drop-drop 1 j b₀)

@@ -132,7 +132,8 @@ unfolding beFrom
 beFrom-lt [] b acc most h = omega arith
 beFrom-lt (x ∷ l) b acc most h =
     let bx : x < 256 = b 0 in
-    let i : beFrom (acc * 256 + x) l < most * 256 * 256 ^ length l = beFrom-lt l (λ k. b (suc k)) (acc * 256 + x) (most * 256) (omega arith) in
+    let i : beFrom (acc * 256 + x) l < most * 256 * 256 ^ length l = beFrom-lt l (λ k. b (suc k)) (acc * 256 + x)
+    (most * 256) (omega arith) in
     rw (pow-suc, mul-comm (256 ^ length l) 256, ← mul-assoc) i
 
 -- a field of bytes is as large as its width allows

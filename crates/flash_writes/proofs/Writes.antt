@@ -53,28 +53,33 @@ module _ (d : List ℕ) (from to n i : ℕ) (i<n : i < n) (h : from + n ≤ leng
       → set (paste d to s i) (to + i) (getD (paste d to s i) (from + i) 0) ≡ paste d to s (i + 1)
   copy-more apart =
       let e : getD d (from + i) 0 ≡ getD s i 0 = sym (getD-take n (drop from d) i 0 i<n ∙ getD-drop from d i 0) in
-      ap (set (paste d to s i) (to + i)) (kept apart ∙ e) ∙ rw add-one (paste-suc d to s i 0 (omega arith) (omega (arith, ls)))
+      ap (set (paste d to s i) (to + i)) (kept apart ∙ e)
+      ∙ rw add-one (paste-suc d to s i 0 (omega arith) (omega (arith, ls)))
 
 -- ---- a part that was lent
 
 -- n bytes from `at` on, of which all were stored
-pub stored-part : (at n : ℕ) (bs all : List ℕ) {y : List ℕ} → at + n ≤ length all → length bs ≡ n → y ≡ bs ++ drop n (part at (at + n - at) all)
+pub stored-part : (at n : ℕ) (bs all : List ℕ) {y : List ℕ} → at + n ≤ length all → length bs ≡ n
+    → y ≡ bs ++ drop n (part at (at + n - at) all)
     → take at all ++ (y ++ drop (at + n - at) (drop at all)) ≡ put at bs all
 stored-part at n bs all {y} h l e =
     let k : at + n - at ≡ n = omega arith in
-    let z : drop n (part at n all) ≡ [] = drop-of-length-le (part at n all) {i = n} (omega (arith, length-part at n all h)) in
+    let z : drop n (part at n all) ≡ [] = drop-of-length-le (part at n all) {i = n}
+    (omega (arith, length-part at n all h)) in
     rw (e, k, z, append-nil, drop-drop n at all, l)
 
 -- ---- a header that was made in 64 bytes of its own, then stored
 
-vid-made : (size : ℕ) (h : VidHeader) (b : List ℕ) → length b ≡ 64 → isGood (judgeVid size h) ≡ true → vidOut size h b ≡ vidBytes h
+vid-made : (size : ℕ) (h : VidHeader) (b : List ℕ) → length b ≡ 64 → isGood (judgeVid size h) ≡ true
+    → vidOut size h b ≡ vidBytes h
 vid-made size h b l g = vid-over size h b (omega arith) g ∙ rw (drop-of-length-le b {i = 64} (omega arith), append-nil)
 
 ec-made : (h : EcHeader) (b : List ℕ) → length b ≡ 64 → isGood (judgeEc h) ≡ true → ecOut h b ≡ ecBytes h
 ec-made h b l g = ec-over h b (omega arith) g ∙ rw (drop-of-length-le b {i = 64} (omega arith), append-nil)
 
 module _ (at : ℕ) (b all : List ℕ) (l : length b ≡ 64) {made y : List ℕ} (stored : y ≡ put at made all) where
-  pub vid-stored : (size : ℕ) (h : VidHeader) → isGood (judgeVid size h) ≡ true → made ≡ vidOut size h b → y ≡ put at (vidBytes h) all
+  pub vid-stored : (size : ℕ) (h : VidHeader) → isGood (judgeVid size h) ≡ true → made ≡ vidOut size h b
+      → y ≡ put at (vidBytes h) all
   vid-stored size h g e = stored ∙ ap (λ (x : List ℕ). put at x all) (e ∙ vid-made size h b l g)
 
   pub ec-stored : (h : EcHeader) → isGood (judgeEc h) ≡ true → made ≡ ecOut h b → y ≡ put at (ecBytes h) all

@@ -78,7 +78,14 @@ outside peb unit sub k e = rw (one-broken (geometryRules peb unit sub) k e)
 pub inside : (peb unit sub vid dat : ℕ) → goodUnit unit ≡ true → goodUnit sub ≡ true → sub ≤ unit → 1024 ≤ peb
     → peb ≤ 262144 → peb % unit ≡ 0
     → vid ≡ roundUp sub 64 → dat ≡ roundUp unit (vid + 64) → dat + 172 ≤ peb
-    → given (record { «peb_size» = peb; unit = unit; «sub_unit» = sub; «vid_start» = vid; «data_start» = dat; «leb_size» = peb - dat }) ≡ geometryOf peb unit sub
+    → given (record {
+      «peb_size» = peb;
+      unit = unit;
+      «sub_unit» = sub;
+      «vid_start» = vid;
+      «data_start» = dat;
+      «leb_size» = peb - dat;
+    }) ≡ geometryOf peb unit sub
 unfolding geometryOf geometryRules makeGeometry lebSize dataStart vidStart
 inside peb unit sub vid dat u s o l h m v d z =
     let w : 172 ≤ peb - dat = omega arith in

@@ -64,7 +64,8 @@ module _ {A : Type 0} (rest : Verdict A) where
   version-one v e = rw e
 
   pub not-version-one : (v : ℕ) → (v ≡ 1 → ⊥) → isGood (byVersion v rest) ≡ false
-  not-version-one v n = rw (ne-eqb _ _ n) (either-way (λ b. isGood {A = A} (cond b bad newer) ≡ false) (eqb v 0) refl refl)
+  not-version-one v n = rw (ne-eqb _ _ n)
+      (either-way (λ b. isGood {A = A} (cond b bad newer) ≡ false) (eqb v 0) refl refl)
 
 module _ {A : Type 0} (h : A) where
   -- good exactly if the test holds
@@ -101,5 +102,6 @@ pub vid-good : (size : ℕ) (s : List ℕ) {h : VidHeader} → readVid size s �
     → (vidFields s ≡ h) × (allOf (vidRules size h) ≡ true)
 unfolding readVid judgeVid
 vid-good size s e =
-    let r = read-good (eqs (part 0 4 s) vidMagic && crcMatches s) (vidFields s .version) (vidRules size (vidFields s)) e in
+    let r = read-good (eqs (part 0 4 s) vidMagic && crcMatches s) (vidFields s .version)
+    (vidRules size (vidFields s)) e in
     (r.0, rw r.0 at r.1)

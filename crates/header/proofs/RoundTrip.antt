@@ -92,8 +92,10 @@ module _ (l : List ℕ) (b : Bytes l) (long : 64 ≤ length l) where
   vid-head-is : VidPadded l → take 4 l ≡ vidMagic → take 60 l ≡ vidHead (vidFields l)
   unfolding vidHead vidFields
   vid-head-is z m =
-      let a : take 16 l ≡ _ = field-on 12 4 tt (field-on 8 4 tt (field-on 7 1 tt (field-on 6 1 tt (field-on 5 1 tt (field-on 4 1 tt m))))) in
-      let d : take 36 l ≡ _ = field-on 32 4 tt (field-on 28 4 tt (field-on 24 4 tt (field-on 20 4 tt (bytes-on 16 4 z.zero-16 a)))) in
+      let a : take 16 l ≡ _ = field-on 12 4 tt
+      (field-on 8 4 tt (field-on 7 1 tt (field-on 6 1 tt (field-on 5 1 tt (field-on 4 1 tt m))))) in
+      let d : take 36 l ≡ _ = field-on 32 4 tt
+      (field-on 28 4 tt (field-on 24 4 tt (field-on 20 4 tt (bytes-on 16 4 z.zero-16 a)))) in
       bytes-on 48 12 z.zero-48 (field-on 40 8 tt (bytes-on 36 4 z.zero-36 d))
 
 -- ---- of both headers, by their magic, version, rules, fields and bytes 0-59
@@ -117,7 +119,8 @@ module _ {A : Type 0} (magic : List ℕ) (version : A → ℕ) (rules : A → Li
       let w = wrote (judge h) (bytes h) out e in
       let t : take 64 (bytes h ++ drop 64 out) ≡ bytes h = rw l at (take-append-seam (bytes h) (drop 64 out)) in
       let b : take 64 s ≡ bytes h = same ∙ ap (take 64) w.1 ∙ t in
-      let q : reads s ≡ judge h = ap reads (sym (take-append-drop 64 s) ∙ ap (λ (x : List ℕ). x ++ drop 64 s) b) ∙ r (drop 64 s) in
+      let q : reads s ≡ judge h = ap reads (sym (take-append-drop 64 s) ∙ ap (λ (x : List ℕ). x ++ drop 64 s) b)
+      ∙ r (drop 64 s) in
       let n : 64 ≤ length s = omega (arith, length-take 64 s, ap length b, l) in
       let g = good-of (judge h) w.0 in
       let f = read-good true (version h) (rules h) g.1 .0 in

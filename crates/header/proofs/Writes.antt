@@ -23,7 +23,8 @@ module _ (t : List ℕ) where
   unfolding crcStored ecHead ecBytes toBeOn
   ec-sum h = refl
 
-  vid-head : (h : VidHeader) → dataStored h (volumeStored h (kindStored h (put 0 vidMagic (replicate 64 0 ++ t)))) ≡ vidHead h ++ (replicate 4 0 ++ t)
+  vid-head : (h : VidHeader) → dataStored h (volumeStored h (kindStored h (put 0 vidMagic (replicate 64 0 ++ t)))) ≡
+      vidHead h ++ (replicate 4 0 ++ t)
   unfolding dataStored volumeStored kindStored vidHead toBeOn
   vid-head h = refl
 

@@ -1,5 +1,5 @@
 -- The fields of both headers by name, as the code goes by them: "One constant table of field offsets and widths serves
--- reader and writer." Only contracts of inner functions cite it; `ecFields`, `vidFields` say the same places. Assumes
+-- reader and writer." No public promise names it; `ecFields`, `vidFields` and `crcMatches` say the same places. Assumes
 -- nothing.
 use mathlib.Core.List.{List, [], _∷_}
 use Rattle.field.specs.Fields.{field}

@@ -52,8 +52,10 @@ module _ (g : Geometry) (n : ℕ) (image : List ℕ) (len : length image ≡ n *
       where
         go : Dec (j < i) → pebAt g (put (pebStart g i + a) bs image) j ≡ pebAt g image j
         go (yes k) =
-            put-before (pebStart g i + a) bs image in-room (pebStart g j) g.«peb_size» (omega (arith, mul-le-mul-right g.«peb_size» k))
+            put-before (pebStart g i + a) bs image in-room (pebStart g j) g.«peb_size»
+            (omega (arith, mul-le-mul-right g.«peb_size» k))
         go (no k) =
             let q : i < j = omega arith in
             ap (take g.«peb_size»)
-            (put-behind (pebStart g i + a) bs image in-room (pebStart g j) (omega (arith, mul-le-mul-right g.«peb_size» q)))
+            (put-behind (pebStart g i + a) bs image in-room (pebStart g j)
+            (omega (arith, mul-le-mul-right g.«peb_size» q)))

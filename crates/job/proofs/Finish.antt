@@ -45,7 +45,8 @@ module _ {P : Type 0} (J : Job P) (L : Lawful J) where
             let c = L.counts p in
             let b = ltb-true (J.ran p) (J.count p image) h in
             goes (J.next p) (rw (m, h)) (rw m (omega arith))
-        go true m false h = ends (inl (rw (m, h))) (rw (m, L.late p image (J.ran p) (ltb-false (J.ran p) (J.count p image) h)))
+        go true m false h = ends (inl (rw (m, h)))
+            (rw (m, L.late p image (J.ran p) (ltb-false (J.ran p) (J.count p image) h)))
         go false m b h = ends (inr (rw m)) (rw m)
 
   over-not-on : {A : Type 0} {q : P} {a : Answer (Progress P)} → Over a → given (on q) ≡ a → A
@@ -54,7 +55,8 @@ module _ {P : Type 0} (J : Job P) (L : Lawful J) where
 
   -- the first step, then the others
   first-step : (p : P) (image : List ℕ) (k : ℕ)
-      → afterSteps J p image (suc k) ≡ afterSteps J (planLeft J p (stepping J p image .answer)) (stepping J p image .image) k
+      → afterSteps J p image (suc k) ≡ afterSteps J (planLeft J p (stepping J p image .answer))
+      (stepping J p image .image) k
   unfolding afterSteps oneStep nextStep
   first-step p image zero = refl
   first-step p image (suc k) = ap (oneStep J) (first-step p image k)
@@ -73,7 +75,8 @@ module _ {P : Type 0} (J : Job P) (L : Lawful J) where
       → (k : ℕ) → afterSteps J p image k ≡ record { plan = p; image = image }
   unfolding afterSteps oneStep nextStep
   none-more p image o i zero = refl
-  none-more p image o i (suc k) = ap (oneStep J) (none-more p image o i k) ∙ (λ j. record { plan = plan-stays p o j; image = i j })
+  none-more p image o i (suc k) = ap (oneStep J) (none-more p image o i k)
+      ∙ (λ j. record { plan = plan-stays p o j; image = i j })
 
   -- ---- for a loop that runs the steps
 
@@ -141,7 +144,8 @@ module _ {P : Type 0} (J : Job P) (L : Lawful J) where
       → Ended p image k
   all-ended zero p image k h l = absurd (omega arith)
   all-ended (suc n) p image k h l =
-      by-next p image k l (next-step p image) (λ q j s e. all-ended n q (stepping J p image .image) j (omega arith) (omega arith))
+      by-next p image k l (next-step p image)
+      (λ q j s e. all-ended n q (stepping J p image .image) j (omega arith) (omega arith))
 
   -- of every plan and image, whatever number of further steps the course has: the image is the one that the course to
   -- the end leaves, and the answer that of a further step: done or refused

@@ -51,7 +51,8 @@ ruled peb unit sub g e =
 
 pub slip-ruled : (slip : List ℕ) (g : Geometry) → slipGeometry slip ≡ given g → Ruled g
 unfolding slipGeometry
-slip-ruled slip g e = ruled (valueAt 0 4 slip) (valueAt 7 2 slip) (valueAt 12 2 slip) g (cond-yes (wellFormed slip) no-geometry e .1)
+slip-ruled slip g e = ruled (valueAt 0 4 slip) (valueAt 7 2 slip) (valueAt 12 2 slip) g
+    (cond-yes (wellFormed slip) no-geometry e .1)
 
 -- images of n PEBs that a request fits
 pub record Chip (req : AttachRequest) (g : Geometry) (n : ℕ) : Type 0 where
@@ -97,7 +98,8 @@ has-attached req image e = go (slipGeometry req.slip) refl e
     some-not m none e = refl
     some-not m (some r) e = absurd (false≢true e)
 
-    go : (a : Answer Geometry) → slipGeometry req.slip ≡ a → attaches (byGeometry image (λ n. true) a) ≡ true → Attached req image
+    go : (a : Answer Geometry) → slipGeometry req.slip ≡ a → attaches (byGeometry image (λ n. true) a) ≡ true
+        → Attached req image
     go (refused k q) s e = absurd (false≢true e)
     go (given g) s e = by (allOf (imageRules g image)) refl e
       where
@@ -105,7 +107,8 @@ has-attached req image e = go (slipGeometry req.slip) refl e
         n = pebCount g image
 
         by : (r : Bool) → allOf (imageRules g image) ≡ r
-            → attaches (cond r (byRefusal (mediumOf g n image) (refusal (mediumOf g n image))) (early 3)) ≡ true → Attached req image
+            → attaches (cond r (byRefusal (mediumOf g n image) (refusal (mediumOf g n image))) (early 3)) ≡ true
+            → Attached req image
         by false q e = absurd (false≢true e)
         by true q e =
             let r : (k : ℕ) → getD (imageRules g image) k true ≡ true = each-holds (imageRules g image) q in

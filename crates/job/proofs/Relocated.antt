@@ -31,7 +31,8 @@ module _ (g : Geometry) (r : Relocation) where
   unfolding relocating
   vid-write k h = rw h
 
-  pub unit-write : (j : ℕ) → j < r.units → relocating g r (suc j) ≡ store (pebStart g r.target + (g.«data_start» + j * g.unit)) (r.unit j)
+  pub unit-write : (j : ℕ) → j < r.units
+      → relocating g r (suc j) ≡ store (pebStart g r.target + (g.«data_start» + j * g.unit)) (r.unit j)
   unfolding relocating
   unit-write j h = rw (lt-ltb j r.units h)
 
@@ -46,17 +47,24 @@ module _ (g : Geometry) (r : Relocation) where
   pub late-write : (k : ℕ) → 3 + r.units ≤ k → relocating g r k ≡ nothing
   unfolding relocating
   late-write zero h = absurd (omega arith)
-  late-write (suc j) h = rw (le-ltb j r.units (omega arith), ne-eqb j r.units (omega arith), ne-eqb j (r.units + 1) (omega arith))
+  late-write (suc j) h = rw (
+    le-ltb j r.units (omega arith),
+    ne-eqb j r.units (omega arith),
+    ne-eqb j (r.units + 1)
+        (omega arith),
+  )
 
   -- a statement on each of the writes holds of the write after any number of steps
   pub each-write : (S : Write → Type 0) → S (store (pebStart g r.target + g.«vid_start») r.vid)
       → ((j : ℕ) → j < r.units → S (store (pebStart g r.target + (g.«data_start» + j * g.unit)) (r.unit j)))
-      → S (erase (pebStart g r.old) g.«peb_size») → S (store (pebStart g r.old) r.ec) → S nothing → (k : ℕ) → S (relocating g r k)
+      → S (erase (pebStart g r.old) g.«peb_size») → S (store (pebStart g r.old) r.ec) → S nothing → (k : ℕ)
+      → S (relocating g r k)
   unfolding relocating
   each-write S v u e c n zero = v
   each-write S v u e c n (suc j) =
       by-test (ltb j r.units) (λ h. rw h (u j (ltb-true j r.units h)))
-      (λ h. rw h (by-test (eqb j r.units) (λ q. rw q e) (λ q. rw q (by-test (eqb j (r.units + 1)) (λ x. rw x c) (λ x. rw x n)))))
+      (λ h. rw h (by-test (eqb j r.units) (λ q. rw q e)
+      (λ q. rw q (by-test (eqb j (r.units + 1)) (λ x. rw x c) (λ x. rw x n)))))
 
 -- ---- the two PEBs
 
@@ -139,7 +147,8 @@ module _ (g : Geometry) (n : ℕ) (image : List ℕ) (R : Relocates g n image) w
   -- after k whole steps
   data At (k : ℕ) (y : List ℕ) : Type 0 where
     fresh : k ≡ 0 → Near y → pebAt g y o ≡ pebAt g image o → At k y
-    going : (j : ℕ) → k ≡ suc j → j ≤ m → Near y → Stored (min (j * g.unit) d) y → pebAt g y o ≡ pebAt g image o → At k y
+    going : (j : ℕ) → k ≡ suc j → j ≤ m → Near y → Stored (min (j * g.unit) d) y → pebAt g y o ≡ pebAt g image o
+        → At k y
     erased : k ≡ m + 2 → Near y → Stored d y → pebAt g y o ≡ replicate g.«peb_size» 0xFF → At k y
     ended : 3 + m ≤ k → Near y → Stored d y → pebAt g y o ≡ put 0 r.ec (replicate g.«peb_size» 0xFF) → At k y
 
@@ -194,7 +203,8 @@ module _ (g : Geometry) (n : ℕ) (image : List ℕ) (R : Relocates g n image) w
       near-old : Near y″
       near-old = record {
         long = rw add-zero at (put-length g n y leny o s.old-there 0 bs (omega arith)) ∙ w .long;
-        elsewhere = λ i no nt. rw add-zero at (put-else g n y leny o s.old-there 0 bs (omega arith) i no) ∙ w .elsewhere i no nt;
+        elsewhere = λ i no nt. rw add-zero at (put-else g n y leny o s.old-there 0 bs (omega arith) i no)
+            ∙ w .elsewhere i no nt;
         same-ec = rw target-stays w.same-ec;
         same-tail = rw target-stays w.same-tail;
       }
@@ -251,7 +261,8 @@ module _ (g : Geometry) (n : ℕ) (image : List ℕ) (R : Relocates g n image) w
       let l = in-X y w (g.«data_start» + c) (unitOf j) (unit-room j h 0 .0) k in
       let Y : List ℕ = put (g.«data_start» + c) (unitOf j) X in
       rw e′ (record {
-        header = rw q (put-before (g.«data_start» + c) (unitOf j) X l g.«vid_start» 64 (omega (arith, P.data-after-vid)) ∙ x .header);
+        header = rw q (put-before (g.«data_start» + c) (unitOf j) X l g.«vid_start» 64 (omega (arith, P.data-after-vid))
+            ∙ x .header);
         run =
             rw q
             (take-add c (size j) (drop g.«data_start» Y)
@@ -287,7 +298,8 @@ module _ (g : Geometry) (n : ℕ) (image : List ℕ) (R : Relocates g n image) w
       let z : take (size j) (unitOf j) ≡ unitOf j = take-all (size j) (unitOf j) (omega (arith, unit-long j k)) in
       let f : place j + length (unitOf j) ≤ g.«data_start» + d = rw z at q.1 in
       rw (unit-here y w eo j k)
-      (going (suc j) refl k (near-target y w (place j) (unitOf j) q.0 f) (stored-unit j y w k x) (old-stays y w (place j) (unitOf j) q.0 f ∙ eo)))
+      (going (suc j) refl k (near-target y w (place j) (unitOf j) q.0 f) (stored-unit j y w k x)
+      (old-stays y w (place j) (unitOf j) q.0 f ∙ eo)))
       (λ (e : j ≡ m).
       let F : List ℕ = replicate g.«peb_size» 0xFF in
       let l : length F ≡ g.«peb_size» = length-replicate g.«peb_size» 0xFF in
@@ -313,7 +325,8 @@ module _ (g : Geometry) (n : ℕ) (image : List ℕ) (R : Relocates g n image) w
       let f = rw (take-whole r.vid) at (vid-room (length r.vid)) in
       let z : min (0 * g.unit) d ≡ 0 = omega arith in
       rw (vid-write g (from y) k e)
-      (going 0 (omega arith) (omega arith) (near-target y w g.«vid_start» r.vid P.vid-after-ec f) (rw z (stored-vid y w))
+      (going 0 (omega arith) (omega arith) (near-target y w g.«vid_start» r.vid P.vid-after-ec f)
+      (rw z (stored-vid y w))
       (old-stays y w g.«vid_start» r.vid P.vid-after-ec f ∙ eo))
   at-next k y (going j e h w x eo) =
       subst (λ c. At (suc c) (appliedWhole (write y c) y)) (sym e) (at-going j y h w x eo)
@@ -356,10 +369,15 @@ module _ (g : Geometry) (n : ℕ) (image : List ℕ) (R : Relocates g n image) w
           near = near-target y w g.«vid_start» bs P.vid-after-ec (vid-room c);
           order = inl (old-stays y w g.«vid_start» bs P.vid-after-ec (vid-room c) ∙ eo);
         })
-    halt-cut k y (going j e h w x eo) = subst (λ i. Halt (appliedCut c set (write y i) y)) (sym e) (halt-going j y h w x eo)
+    halt-cut k y (going j e h w x eo) = subst (λ i. Halt (appliedCut c set (write y i) y)) (sym e)
+        (halt-going j y h w x eo)
     halt-cut k y (erased e w x eo) =
         rw (ec-here y k e)
-        (record { near = near-old y w (take c r.ec) (ec-room c); order = inr (stored-old y w (take c r.ec) (ec-room c) d x) })
+        (record {
+          near = near-old y w (take c r.ec) (ec-room c);
+          order = inr
+              (stored-old y w (take c r.ec) (ec-room c) d x);
+        })
     halt-cut k y (ended h w x eo) = rw (late-write g (from y) k h) (record { near = w; order = inr x })
 
     pub cut-halts : (k : ℕ) → Halt (appliedCut c set (write (written write image k) k) (written write image k))

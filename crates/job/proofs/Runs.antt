@@ -76,7 +76,8 @@ module _ {P : Type 0} (J : Job P) (L : Lawful J) (p : P) where
         where
           go : Dec (k < count) → J.write p i at ≡ J.write p i k
           go (yes h) = let e : at ≡ k = omega arith in rw e
-          go (no h) = let c = L.by-length p i image len .1 in L.late p i at (omega arith) ∙ sym (L.late p i k (omega arith))
+          go (no h) = let c = L.by-length p i image len .1 in L.late p i at (omega arith)
+              ∙ sym (L.late p i k (omega arith))
 
       goes-on : k < count → stepAnswer J (nexts J p at) i ≡ given (on (nexts J p (min (suc k) count)))
       unfolding stepAnswer
@@ -100,7 +101,8 @@ module _ {P : Type 0} (J : Job P) (L : Lawful J) (p : P) where
     write-at : (k : ℕ) → Ran k → stepWrite J (afterSteps J p image k .plan) (im k) ≡ J.write p (im k) k
     write-at k x = rw x.plan (write-is (im k) x.long k)
 
-    answer-at : (k : ℕ) → Ran k → nextStep J (afterSteps J p image k) .answer ≡ stepAnswer J (nexts J p (min k count)) (im k)
+    answer-at : (k : ℕ) → Ran k → nextStep J (afterSteps J p image k) .answer ≡ stepAnswer J (nexts J p (min k count))
+        (im k)
     unfolding nextStep stepping
     answer-at k x = rw x.plan
 
@@ -112,7 +114,8 @@ module _ {P : Type 0} (J : Job P) (L : Lawful J) (p : P) where
     unfolding afterSteps oneStep
     plan-next k x = ap₂ (planLeft J) x.plan (answer-at k x) ∙ go (decLt k count)
       where
-        go : Dec (k < count) → planLeft J (nexts J p (min k count)) (stepAnswer J (nexts J p (min k count)) (im k)) ≡ nexts J p (min (suc k) count)
+        go : Dec (k < count) → planLeft J (nexts J p (min k count))
+            (stepAnswer J (nexts J p (min k count)) (im k)) ≡ nexts J p (min (suc k) count)
         go (yes h) = rw (goes-on (im k) x.long k h)
         go (no h) =
             let e : min k count ≡ min (suc k) count = omega arith in
@@ -135,10 +138,12 @@ module _ {P : Type 0} (J : Job P) (L : Lawful J) (p : P) where
     pub steps : Steps J p image
     unfolding nextStep stepping
     steps = record {
-      go-on = λ k h. answer-at k (ran k) ∙ goes-on (im k) (ran k .long) k h ∙ ap (λ (q : P). given (on q)) (sym (ran (suc k) .plan));
+      go-on = λ k h. answer-at k (ran k) ∙ goes-on (im k) (ran k .long) k h
+          ∙ ap (λ (q : P). given (on q)) (sym (ran (suc k) .plan));
       are-done = λ k h. (
         answer-at k (ran k) ∙ is-done (im k) (ran k .long) k h,
-        image-at k (ran k) ∙ rw (L.late p (im k) k (let c = L.by-length p (im k) image (ran k .long) .1 in omega arith)),
+        image-at k (ran k) ∙ rw (L.late p (im k) k
+            (let c = L.by-length p (im k) image (ran k .long) .1 in omega arith)),
       );
     }
 

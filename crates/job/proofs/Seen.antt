@@ -41,7 +41,8 @@ vid-reads : (size : ℕ) (h : VidHeader) → VidFits h → readVid size (vidByte
 vid-reads size h f = rw append-nil at (vid-judged h [] size f)
 
 -- a header whose CRC does not match is bad
-torn-read : {A : Type 0} (magic : List ℕ) (judge : List ℕ → Verdict A) (s : List ℕ) → crcMatches s ≡ false → readHeader magic judge s ≡ bad
+torn-read : {A : Type 0} (magic : List ℕ) (judge : List ℕ → Verdict A) (s : List ℕ) → crcMatches s ≡ false
+    → readHeader magic judge s ≡ bad
 torn-read {A} magic judge s e = rw (e, and-false (eqs (part 0 4 s) magic))
 
 module _ (g : Geometry) (P : List ℕ) where
@@ -51,7 +52,8 @@ module _ (g : Geometry) (P : List ℕ) where
   unfolding viewOf
   ec-written h f j e = rw (e, ec-shows h, ec-reads h f, j)
 
-  pub ec-torn : allFF (take 64 P) || not (crcMatches (take 64 P)) ≡ true → (viewOf g P .ec ≡ ecBlank) ⊎ (viewOf g P .ec ≡ ecLost)
+  pub ec-torn : allFF (take 64 P) || not (crcMatches (take 64 P)) ≡ true
+      → (viewOf g P .ec ≡ ecBlank) ⊎ (viewOf g P .ec ≡ ecLost)
   unfolding viewOf readEc
   ec-torn e =
       by-test (allFF (take 64 P)) (λ b. inl (rw b))
@@ -65,7 +67,8 @@ module _ (g : Geometry) (P : List ℕ) where
   unfolding viewOf
   vid-written h f j e = rw (e, vid-shows h, vid-reads g.«leb_size» h f, j)
 
-  pub vid-torn : allFF (vidPart g P) || not (crcMatches (vidPart g P)) ≡ true → (viewOf g P .vid ≡ vidBlank) ⊎ (viewOf g P .vid ≡ vidBad)
+  pub vid-torn : allFF (vidPart g P) || not (crcMatches (vidPart g P)) ≡ true
+      → (viewOf g P .vid ≡ vidBlank) ⊎ (viewOf g P .vid ≡ vidBad)
   unfolding viewOf readVid
   vid-torn e =
       by-test (allFF (vidPart g P)) (λ b. inl (rw b))
@@ -103,11 +106,13 @@ unfolding viewOf
 same-header g P Q c r e = rw (e, r.shows, r.reads)
 
 -- a good EC header
-pub ec-seen : (g : Geometry) (P : List ℕ) (h : EcHeader) → goodEc (viewOf g P .ec) ≡ some h → readEc (take 64 P) ≡ good h
+pub ec-seen : (g : Geometry) (P : List ℕ) (h : EcHeader) → goodEc (viewOf g P .ec) ≡ some h
+    → readEc (take 64 P) ≡ good h
 unfolding viewOf
 ec-seen g P h e = go (allFF (take 64 P)) (readEc (take 64 P)) refl e
   where
-    go : (b : Bool) (v : Verdict EcHeader) → readEc (take 64 P) ≡ v → goodEc (cond b ecBlank (ecOf v)) ≡ some h → readEc (take 64 P) ≡ good h
+    go : (b : Bool) (v : Verdict EcHeader) → readEc (take 64 P) ≡ v → goodEc (cond b ecBlank (ecOf v)) ≡ some h
+        → readEc (take 64 P) ≡ good h
     go true v r e = none-some e
     go false (good x) r e = let z : x ≡ h = cc in rw z at r
     go false bad r e = none-some e
@@ -124,7 +129,8 @@ module _ (g : Geometry) (P : Placed g) (Y : List ℕ) (h : EcHeader) (is : Y ≡
       ap (vidPart g) is
       ∙ ap (take 64)
       (put-behind 0 (ecBytes h) (replicate g.«peb_size» 0xFF)
-      (rw length-replicate (omega (arith, P.vid-after-ec, P.data-after-vid, P.leb-fills))) g.«vid_start» (omega (arith, P.vid-after-ec))
+      (rw length-replicate (omega (arith, P.vid-after-ec, P.data-after-vid, P.leb-fills))) g.«vid_start»
+      (omega (arith, P.vid-after-ec))
       ∙ drop-replicate 0xFF g.«vid_start» g.«peb_size»)
       ∙ take-replicate 0xFF 64 (g.«peb_size» - g.«vid_start») (omega (arith, P.data-after-vid, P.leb-fills))
 
@@ -132,7 +138,8 @@ module _ (g : Geometry) (P : Placed g) (Y : List ℕ) (h : EcHeader) (is : Y ≡
 
 module _ (g : Geometry) (O Y : List ℕ) where
   -- the EC header is the one that there was, or the new one, or none
-  pub ec-after : (e : EcHeader) → EcFits e → judgeEc e ≡ good e → (S : EcView → Type 0) → S (viewOf g O .ec) → S (ecGood e) → S ecBlank → S ecLost
+  pub ec-after : (e : EcHeader) → EcFits e → judgeEc e ≡ good e → (S : EcView → Type 0) → S (viewOf g O .ec)
+      → S (ecGood e) → S ecBlank → S ecLost
       → unlike (eqs (take 64 Y) (take 64 O) || eqs (take 64 Y) (ecBytes e)) (take 64 Y) ≡ true → S (viewOf g Y .ec)
   unfolding viewOf
   ec-after e f j S old new blank lost c =
@@ -141,10 +148,12 @@ module _ (g : Geometry) (O Y : List ℕ) where
       (λ q. subst S (sym (ec-written g Y e f j (eqs-true (take 64 Y) (ecBytes e) q))) new)
       (or-true-cases (eqs (take 64 Y) (take 64 O)) (eqs (take 64 Y) (ecBytes e)) w))
       (λ w. ⊎-elim (λ q. subst S (sym q) blank) (λ q. subst S (sym q) lost) (ec-torn g Y w))
-      (or-true-cases (eqs (take 64 Y) (take 64 O) || eqs (take 64 Y) (ecBytes e)) (allFF (take 64 Y) || not (crcMatches (take 64 Y))) c)
+      (or-true-cases (eqs (take 64 Y) (take 64 O) || eqs (take 64 Y) (ecBytes e))
+      (allFF (take 64 Y) || not (crcMatches (take 64 Y))) c)
 
   -- the VID header is the one that there was, or none
-  pub vid-after : (c : Copy) → Read g O c → (S : VidView → Type 0) → S (vidGood (copyOf g Y c.header)) → S vidBlank → S vidBad
+  pub vid-after : (c : Copy) → Read g O c → (S : VidView → Type 0) → S (vidGood (copyOf g Y c.header)) → S vidBlank
+      → S vidBad
       → unlike (eqs (vidPart g Y) (vidPart g O)) (vidPart g Y) ≡ true → S (viewOf g Y .vid)
   vid-after c r S old blank none u =
       ⊎-elim (λ q. subst S (sym (same-header g O Y c r (eqs-true (vidPart g Y) (vidPart g O) q))) old)

@@ -79,7 +79,8 @@ module _ (n : ℕ) (cs cs′ : ℕ → Option Copy) (v l o t : ℕ) (old new : C
       go i j h k (inl p) (inl q) = absurd (omega arith)
       go i j h k (inl p) (inr q) = rw (p, m.is) (new-repeats-none new (cs′ j) (lower j (omega arith) q))
       go i j h k (inr p) (inl q) = rw (q, m.is) (none-repeats-new new (cs′ i) (lower i h p))
-      go i j h k (inr p) (inr q) = repeats-before (cs′ i) (cs′ j) (cs i) (cs j) (from i h p) (from j (omega arith) q) (none9-at n cs e i j h k)
+      go i j h k (inr p) (inr q) = repeats-before (cs′ i) (cs′ j) (cs i) (cs j) (from i h p) (from j (omega arith) q)
+          (none9-at n cs e i j h k)
 
 -- ---- how it can have stopped
 
@@ -108,7 +109,8 @@ pub record Keeps (m : Medium) (vs′ : Views) (v l t : ℕ) (w : Bool) : Type 0 
 
 key-miss : {A : Type 0} (v l v′ l′ : ℕ) → ((v ≡ v′) → (l ≡ l′) → ⊥) → (x y : A) → cond (eqb v v′ && eqb l l′) x y ≡ y
 key-miss {A} v l v′ l′ ne x y =
-    by-test (eqb v v′) (λ p. by-test (eqb l l′) (λ q. absurd (ne (eqb-true v v′ p) (eqb-true l l′ q))) (λ q. rw (p, q))) (λ p. rw p)
+    by-test (eqb v v′) (λ p. by-test (eqb l l′) (λ q. absurd (ne (eqb-true v v′ p) (eqb-true l l′ q))) (λ q. rw (p, q)))
+    (λ p. rw p)
 
 module _ (m : Medium) (vs′ : Views) (v l o t : ℕ) (old : Copy) (h : VidHeader)
     (ok : refusal m ≡ none) (b : Ready m v l o t old h)
@@ -134,9 +136,11 @@ module _ (m : Medium) (vs′ : Views) (v l o t : ℕ) (old : Copy) (h : VidHeade
   seq = let r = first-some n (ecs vs) t b.spare (b.t<n) (rw b.free-ec) in (r.0.1.«image_seq», rw r.1)
 
   -- refusals 5 to 8, from the two PEBs that changed
-  after58 : ecRefusal m.geometry (seqIn m) (vs′ o .ec) ≡ none → vidRefusal (vs′ o .vid) ≡ none → vidRefusal (vs′ t .vid) ≡ none
+  after58 : ecRefusal m.geometry (seqIn m) (vs′ o .ec) ≡ none → vidRefusal (vs′ o .vid) ≡ none
+      → vidRefusal (vs′ t .vid) ≡ none
       → refusal5678 m′ ≡ none
-  after58 eo vo vt = no-5678 m′ seq.0 t b.spare (b.t<n) (rw (t-ec, b.free-ec)) (λ i k. go i k (eq-or-ne i t) (eq-or-ne i o)) .1
+  after58 eo vo vt = no-5678 m′ seq.0 t b.spare (b.t<n) (rw (t-ec, b.free-ec))
+      (λ i k. go i k (eq-or-ne i t) (eq-or-ne i o)) .1
     where
       before : (i : ℕ) → i < n → (ecRefusal m.geometry (some seq.0) (vs i .ec) ≡ none) × (vidRefusal (vs i .vid) ≡ none)
       before i k = rw seq.1 at (none5678-at m P.none5678 i k)
@@ -148,7 +152,8 @@ module _ (m : Medium) (vs′ : Views) (v l o t : ℕ) (old : Copy) (h : VidHeade
       go i k (inr ni) (inr nq) = rw (rest i k ni nq) (before i k)
 
   -- what is left: no refusal 9, the same faces, the places
-  finish : (w : Bool) (i : ℕ) (c : Copy) → i < n → copies vs′ i ≡ some c → refusal5678 m′ ≡ none → refusal9 n (copies vs′) ≡ none
+  finish : (w : Bool) (i : ℕ) (c : Copy) → i < n → copies vs′ i ≡ some c → refusal5678 m′ ≡ none
+      → refusal9 n (copies vs′) ≡ none
       → faces m′ ≡ faces m → places m′ ≡ cond w (placesWith v l t (places m)) (places m) → Keeps m vs′ v l t w
   unfolding tableLeb tableRecords
   finish w i c k q r58 r9 fe pe = record {
@@ -203,7 +208,8 @@ module _ (m : Medium) (vs′ : Views) (v l o t : ℕ) (old : Copy) (h : VidHeade
           (eq-or-ne i t)
 
   -- it is, with data that do not match
-  pub keeps-half : (new : Copy) → vs′ o ≡ vs o → vs′ t .vid ≡ vidGood new → new.header ≡ h → sound new ≡ false → Keeps m vs′ v l t false
+  pub keeps-half : (new : Copy) → vs′ o ≡ vs o → vs′ t .vid ≡ vidGood new → new.header ≡ h → sound new ≡ false
+      → Keeps m vs′ v l t false
   keeps-half new eo et en u =
       let mv = moving new et en in
       let e = by-chosen (chosen-unsound n (copies vs) (copies vs′) v l o t old new mv u b.is-sound (rw eo)) in
@@ -215,7 +221,8 @@ module _ (m : Medium) (vs′ : Views) (v l o t : ℕ) (old : Copy) (h : VidHeade
       left c q = let p : some c ≡ some old = sym q ∙ at-o .1 in let r : c ≡ old = cc in rw r
 
   -- the new copy is whole, and of the old one nothing is left but its header, if that
-  pub keeps-whole : (new : Copy) → vs′ t .vid ≡ vidGood new → new.header ≡ h → sound new ≡ true → faceOf m.geometry new ≡ faceOf m.geometry old
+  pub keeps-whole : (new : Copy) → vs′ t .vid ≡ vidGood new → new.header ≡ h → sound new ≡ true
+      → faceOf m.geometry new ≡ faceOf m.geometry old
       → ecRefusal m.geometry (seqIn m) (vs′ o .ec) ≡ none → vidRefusal (vs′ o .vid) ≡ none
       → ((c : Copy) → copies vs′ o ≡ some c → c.header ≡ old.header) → Keeps m vs′ v l t true
   unfolding facesOf placesOf
@@ -229,12 +236,27 @@ module _ (m : Medium) (vs′ : Views) (v l o t : ℕ) (old : Copy) (h : VidHeade
       mv = moving new et en
 
       face-at : (v′ l′ : ℕ) → ((v ≡ v′) × (l ≡ l′)) ⊎ ((v ≡ v′) → (l ≡ l′) → ⊥) → faces m′ v′ l′ ≡ faces m v′ l′
-      face-at v′ l′ (inl e) = rw (← e.0, ← e.1, chosen-moved n (copies vs) (copies vs′) v l o t old new mv s left, b.is-chosen, fe)
+      face-at v′ l′ (inl e) = rw (
+        ← e.0,
+        ← e.1,
+        chosen-moved n (copies vs)
+            (copies vs′) v l o t old new mv s left,
+        b.is-chosen,
+        fe,
+      )
       face-at v′ l′ (inr ne) = rw (chosen-other n (copies vs) (copies vs′) v l o t old new mv s left v′ l′ ne)
 
-      place-at : (v′ l′ : ℕ) → ((v ≡ v′) × (l ≡ l′)) ⊎ ((v ≡ v′) → (l ≡ l′) → ⊥) → places m′ v′ l′ ≡ placesWith v l t (places m) v′ l′
+      place-at : (v′ l′ : ℕ) → ((v ≡ v′) × (l ≡ l′)) ⊎ ((v ≡ v′) → (l ≡ l′) → ⊥)
+          → places m′ v′ l′ ≡ placesWith v l t (places m) v′ l′
       place-at v′ l′ (inl e) =
-          rw (← e.0, ← e.1, chosen-moved n (copies vs) (copies vs′) v l o t old new mv s left, eq-eqb v v refl, eq-eqb l l refl)
+          rw (
+            ← e.0,
+            ← e.1,
+            chosen-moved n (copies vs) (copies vs′) v l o t old new mv s left,
+            eq-eqb v v refl,
+            eq-eqb l
+                l refl,
+          )
       place-at v′ l′ (inr ne) =
           rw (chosen-other n (copies vs) (copies vs′) v l o t old new mv s left v′ l′ ne)
           (sym (key-miss v l v′ l′ ne (some t) (places m v′ l′)))

@@ -35,14 +35,17 @@ Within (store at bs) image = at + length bs ≤ length image
 Within (erase at n) image = at + n ≤ length image
 Within nothing image = Unit {0}
 
-pub cut-length : (w : Write) (image : List ℕ) → Within w image → (m : ℕ) (set : ℕ → Bool) → length (appliedCut m set w image) ≡ length image
+pub cut-length : (w : Write) (image : List ℕ) → Within w image → (m : ℕ) (set : ℕ → Bool)
+    → length (appliedCut m set w image) ≡ length image
 cut-length (store at bs) image h m set = length-put at (take m bs) image (rw length-take (omega arith))
 cut-length (erase at n) image h m set =
-    length-put at (erasedIn set (part at n image)) image (rw (length-erased set (part at n image), length-part at n image h) h)
+    length-put at (erasedIn set (part at n image)) image
+    (rw (length-erased set (part at n image), length-part at n image h) h)
 cut-length nothing image h m set = refl
 
 -- a whole write is one that is cut after the last of its bytes
-pub whole-is-cut : (w : Write) (image : List ℕ) → Within w image → appliedWhole w image ≡ appliedCut (length image) (λ i. true) w image
+pub whole-is-cut : (w : Write) (image : List ℕ) → Within w image
+    → appliedWhole w image ≡ appliedCut (length image) (λ i. true) w image
 whole-is-cut (store at bs) image h = rw (take-all (length image) bs (omega arith))
 whole-is-cut (erase at n) image h = rw (erased-all (part at n image), length-part at n image h)
 whole-is-cut nothing image h = refl
@@ -91,8 +94,10 @@ whole-octets (store at bs) image b o = bytes-put at bs image o b
 whole-octets (erase at n) image b o = bytes-put at (replicate n 0xFF) image (ff-octets n) b
 whole-octets nothing image b o = b
 
-pub cut-octets : (w : Write) (image : List ℕ) → Bytes image → Octets w → (m : ℕ) (set : ℕ → Bool) → Bytes (appliedCut m set w image)
+pub cut-octets : (w : Write) (image : List ℕ) → Bytes image → Octets w → (m : ℕ) (set : ℕ → Bool)
+    → Bytes (appliedCut m set w image)
 cut-octets (store at bs) image b o m set = bytes-put at (take m bs) image (bytes-take m bs o) b
 cut-octets (erase at n) image b o m set =
-    bytes-put at (erasedIn set (part at n image)) image (erased-octets set (part at n image) (bytes-part at n image b)) b
+    bytes-put at (erasedIn set (part at n image)) image (erased-octets set (part at n image) (bytes-part at n image b))
+    b
 cut-octets nothing image b o m set = b

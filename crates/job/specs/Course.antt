@@ -41,7 +41,7 @@ module _ {P : Type 0} (J : Job P) where
   afterSteps p image zero = record { plan = p; image = image }
   afterSteps p image (suc k) = oneStep (afterSteps p image k)
 
-  -- all steps that are left, and one that answers done
+  -- all steps that are left, and one more, which answers done; where 18 refuses, none changes anything
   unfoldable pub finishing : P → List ℕ → Stepping P
   finishing p image = nextStep (afterSteps p image (J.count p image - J.ran p))
 

@@ -55,7 +55,8 @@ module _ (input : List ℕ) (more : Bool) where
   -- an answer with the tables that attaching leaves is listed as the input
   pub listed-by : (out : List ℕ) {a : Answer Report} {t : Tables} → a ≡ answerOf (judging input more)
       → t ≡ tablesAfter (judging input more) programTables → {x : Answer ℕ} {out′ : List ℕ}
-      → x ≡ rendering a t out → out′ ≡ outAfter a t out → (x ≡ listed input more out) × (out′ ≡ listedOut input more out)
+      → x ≡ rendering a t out → out′ ≡ outAfter a t out
+      → (x ≡ listed input more out) × (out′ ≡ listedOut input more out)
   unfolding rendering outAfter hasRoom listed listedOut listingOf
   listed-by out ea et p q =
       let h = held-always (judging input more) programTables in (p ∙ rw (ea, et, h), q ∙ rw (ea, et, h))

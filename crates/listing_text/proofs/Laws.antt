@@ -29,22 +29,28 @@ clip-fits zero [] [] h = refl
 clip-fits zero (x ∷ t) [] h = absurd (omega arith)
 clip-fits (suc at) t [] h = absurd (omega arith)
 clip-fits zero [] (y ∷ s) h = refl
-clip-fits zero (x ∷ t) (y ∷ s) h = let e : 0 + suc (length t) ≡ suc (0 + length t) = omega arith in rw e (ap (λ (l : List ℕ). x ∷ l) (clip-fits zero t s (omega arith)))
-clip-fits (suc at) t (y ∷ s) h = let e : suc at + length t ≡ suc (at + length t) = omega arith in rw e (ap (λ (l : List ℕ). y ∷ l) (clip-fits at t s (omega arith)))
+clip-fits zero (x ∷ t) (y ∷ s) h = let e : 0 + suc (length t) ≡ suc (0 + length t) = omega arith in rw e
+    (ap (λ (l : List ℕ). x ∷ l) (clip-fits zero t s (omega arith)))
+clip-fits (suc at) t (y ∷ s) h = let e : suc at + length t ≡ suc (at + length t) = omega arith in rw e
+    (ap (λ (l : List ℕ). y ∷ l) (clip-fits at t s (omega arith)))
 
 -- no more is stored than goes in
 pub clip-room : (at : ℕ) (t s : List ℕ) → clipped at (take (length s - at) t) s ≡ clipped at t s
 clip-room at t [] = refl
 clip-room zero [] (y ∷ s) = let e : suc (length s) - 0 ≡ suc (length s) = omega arith in rw e refl
 clip-room zero (x ∷ t) (y ∷ s) =
-    let e : suc (length s) - 0 ≡ suc (length s - 0) = omega arith in rw e (ap (λ (l : List ℕ). x ∷ l) (clip-room zero t s))
-clip-room (suc at) t (y ∷ s) = let e : suc (length s) - suc at ≡ length s - at = omega arith in rw e (ap (λ (l : List ℕ). y ∷ l) (clip-room at t s))
+    let e : suc (length s) - 0 ≡ suc (length s - 0) = omega arith in rw e
+    (ap (λ (l : List ℕ). x ∷ l) (clip-room zero t s))
+clip-room (suc at) t (y ∷ s) = let e : suc (length s) - suc at ≡ length s - at = omega arith in rw e
+    (ap (λ (l : List ℕ). y ∷ l) (clip-room at t s))
 
 clip-join : (at : ℕ) (a b s : List ℕ) → clipped (at + length a) b (clipped at a s) ≡ clipped at (a ++ b) s
 clip-join at a b [] = refl
 clip-join zero [] b (y ∷ s) = refl
-clip-join zero (x ∷ a) b (y ∷ s) = let e : 0 + suc (length a) ≡ suc (0 + length a) = omega arith in rw e (ap (λ (l : List ℕ). x ∷ l) (clip-join zero a b s))
-clip-join (suc at) a b (y ∷ s) = let e : suc at + length a ≡ suc (at + length a) = omega arith in rw e (ap (λ (l : List ℕ). y ∷ l) (clip-join at a b s))
+clip-join zero (x ∷ a) b (y ∷ s) = let e : 0 + suc (length a) ≡ suc (0 + length a) = omega arith in rw e
+    (ap (λ (l : List ℕ). x ∷ l) (clip-join zero a b s))
+clip-join (suc at) a b (y ∷ s) = let e : suc at + length a ≡ suc (at + length a) = omega arith in rw e
+    (ap (λ (l : List ℕ). y ∷ l) (clip-join at a b s))
 
 pub clip-over : (t s : List ℕ) → length t ≤ length s → clipped 0 t s ≡ over t s
 clip-over [] [] h = refl
@@ -53,13 +59,16 @@ clip-over [] (y ∷ s) h = refl
 clip-over (x ∷ t) (y ∷ s) h = ap (λ (l : List ℕ). x ∷ l) (clip-over t s (omega arith))
 
 -- all of t went in, a part of it, or nothing
-pub stored-whole : {at : ℕ} {t s s′ : List ℕ} → at + length t ≤ length s → s′ ≡ put at t s → Written s at t (at + length t) s′
+pub stored-whole : {at : ℕ} {t s s′ : List ℕ} → at + length t ≤ length s → s′ ≡ put at t s
+    → Written s at t (at + length t) s′
 stored-whole {at} {t} {s} {s′} h e = record { after = refl; bytes = e ∙ clip-fits at t s h }
 
-pub stored-part : {at : ℕ} {t s s′ : List ℕ} → at < length s → length s ≤ at + length t → s′ ≡ put at (take (length s - at) t) s → Written s at t (at + length t) s′
+pub stored-part : {at : ℕ} {t s s′ : List ℕ} → at < length s → length s ≤ at + length t
+    → s′ ≡ put at (take (length s - at) t) s → Written s at t (at + length t) s′
 stored-part {at} {t} {s} {s′} h k e = record {
   after = refl;
-  bytes = e ∙ clip-fits at (take (length s - at) t) s (omega (arith, length-take-le (length s - at) t (omega arith))) ∙ clip-room at t s;
+  bytes = e ∙ clip-fits at (take (length s - at) t) s (omega (arith, length-take-le (length s - at) t (omega arith)))
+      ∙ clip-room at t s;
 }
 
 pub stored-nothing : {at : ℕ} {t s : List ℕ} → length s ≤ at → Written s at t (at + length t) s
@@ -75,15 +84,18 @@ written-none at s = record { after = omega arith; bytes = none at s }
     none (suc at) (y ∷ s) = ap (λ (l : List ℕ). y ∷ l) (none at s)
 
 -- b after a
-pub both-written : {at r e : ℕ} {a b s s₁ s₂ : List ℕ} → Written s at a r s₁ → Written s₁ r b e s₂ → Written s at (a ++ b) e s₂
+pub both-written : {at r e : ℕ} {a b s s₁ s₂ : List ℕ} → Written s at a r s₁ → Written s₁ r b e s₂
+    → Written s at (a ++ b) e s₂
 both-written {at} {r} {e} {a} {b} {s} {s₁} {s₂} p q = record {
   after = rw length-append (omega (arith, p.after, q.after));
   bytes = q.bytes ∙ ap₂ (λ (k : ℕ) (l : List ℕ). clipped k b l) p.after p.bytes ∙ clip-join at a b s;
 }
 
 -- one line more
-pub next-written : (f : ℕ → List ℕ) (i : ℕ) {at r e : ℕ} {s s₁ s₂ : List ℕ} → Written s at (concatBelow i f) r s₁ → Written s₁ r (f i) e s₂ → Written s at (concatBelow (i + 1) f) e s₂
-next-written f i {at} {r} {e} {s} {s₁} {s₂} p q = subst (λ (k : ℕ). Written s at (concatBelow k f) e s₂) (sym (add-one i)) (both-written p q)
+pub next-written : (f : ℕ → List ℕ) (i : ℕ) {at r e : ℕ} {s s₁ s₂ : List ℕ} → Written s at (concatBelow i f) r s₁
+    → Written s₁ r (f i) e s₂ → Written s at (concatBelow (i + 1) f) e s₂
+next-written f i {at} {r} {e} {s} {s₁} {s₂} p q = subst (λ (k : ℕ). Written s at (concatBelow k f) e s₂)
+    (sym (add-one i)) (both-written p q)
 
 -- a buffer keeps its length
 pub written-length : {at r : ℕ} {t s s′ : List ℕ} → Written s at t r s′ → length s′ ≡ length s
@@ -120,7 +132,8 @@ fewest-digits (suc k) n (suc (suc r)) h f =
     let less : suc r - 1 ≡ r = omega arith in
     rw (le-ltb n 10 (omega (arith, p.0, p.1)))
     (ap₂ _++_
-    (fewest-digits k (n / 10) (suc r) (omega arith) (omega arith, omega (arith, p.0, q.0, f.1), λ _. rw less (omega (arith, p.0))))
+    (fewest-digits k (n / 10) (suc r) (omega arith)
+    (omega arith, omega (arith, p.0, q.0, f.1), λ _. rw less (omega (arith, p.0))))
     (ap (λ (x : ℕ). x ∷ []) (small-digit (n % 10) (omega arith))))
 
 -- a number below 2^64 has at most 20 digits
@@ -131,13 +144,19 @@ twenty-digits n r h f = go (ltb 20 r) refl
     go false e = ltb-false 20 r e
     go true e =
         let l : 20 < r = ltb-true 20 r e in
-        absurd (omega (arith, pow-le-pow-right {n = 10} (omega arith) {i = 20} {j = r - 1} (omega arith), f.2 (omega arith)))
+        absurd (omega (
+          arith,
+          pow-le-pow-right {n = 10} (omega arith) {i = 20} {j = r - 1} (omega arith),
+          f.2
+              (omega arith),
+        ))
 
 pub few-digits : (k n : ℕ) → length (digitsUpTo k n) ≤ k
 few-digits zero n = omega arith
 few-digits (suc k) n = go (ltb n 10) (few-digits k (n / 10))
   where
-    go : (b : Bool) → length (digitsUpTo k (n / 10)) ≤ k → length (cond b ((48 + n) ∷ []) (digitsUpTo k (n / 10) ++ ((48 + n % 10) ∷ []))) ≤ suc k
+    go : (b : Bool) → length (digitsUpTo k (n / 10)) ≤ k
+        → length (cond b ((48 + n) ∷ []) (digitsUpTo k (n / 10) ++ ((48 + n % 10) ∷ []))) ≤ suc k
     go true h = omega arith
     go false h = rw length-append (omega (arith, h))
 
@@ -146,6 +165,8 @@ unfolding decimal
 decimal-short n = few-digits 20 n
 
 -- digits as the kit gives them
-pub number-written : {at r n e : ℕ} {s s′ : List ℕ} (d : List ℕ) → r ≤ 20 → Fewest 10 1 n r → take r d ≡ digits 10 r n → Written s at (take r d) e s′ → Written s at (decimal n) e s′
+pub number-written : {at r n e : ℕ} {s s′ : List ℕ} (d : List ℕ) → r ≤ 20 → Fewest 10 1 n r → take r d ≡ digits 10 r n
+    → Written s at (take r d) e s′ → Written s at (decimal n) e s′
 unfolding decimal
-number-written {at} {r} {n} {e} {s} {s′} d h f q w = subst (λ (t : List ℕ). Written s at t e s′) (q ∙ fewest-digits 20 n r h f) w
+number-written {at} {r} {n} {e} {s} {s′} d h f q w = subst (λ (t : List ℕ). Written s at t e s′)
+    (q ∙ fewest-digits 20 n r h f) w

@@ -96,7 +96,8 @@ module _ (req : AttachRequest) (image : List ℕ) (room : ℕ → Bool) where
       go (refused k p) e = absurd (let z : _≡_ {A = ℕ} 0 1 = cc in omega arith)
       go (given g) e =
           by-test (allOf (imageRules g image))
-          (λ q. by-test (room (pebCount g image)) (λ h. rw q (rw (q, h) at e)) (λ h. absurd (not-whole 4 m (rw (q, h) at e))))
+          (λ q. by-test (room (pebCount g image)) (λ h. rw q (rw (q, h) at e))
+          (λ h. absurd (not-whole 4 m (rw (q, h) at e))))
           (λ q. absurd (not-whole 3 m (rw q at e)))
 
   module _ (r : Report) (is : given r ≡ answerOf (attaching req image room)) where
@@ -136,7 +137,8 @@ module _ (req : AttachRequest) (image : List ℕ) (room : ℕ → Bool) where
           found = finds m t;
         }
 
-    pub begins : Bytes image → (t : Tables) {t′ : Tables} → t′ ≡ tablesAfter (attaching req image room) t → Begins image r t′.pebs t′.map
+    pub begins : Bytes image → (t : Tables) {t′ : Tables} → t′ ≡ tablesAfter (attaching req image room) t
+        → Begins image r t′.pebs t′.map
     begins bytes t e =
         let k = known in
         let q = e ∙ ap (λ (o : Outcome). tablesAfter o t) k.1 in

@@ -174,16 +174,35 @@ module _ {image : List ℕ} {r : Report} {pebs : List ℕ} (k : Told image r peb
             pub counter-refused : counter ≡ 0x7FFFFFFF → refused 17 0 ≡ answer
             unfolding refusal15 refusal16 refusal17
             counter-refused e =
-                rw (damaged-is, e15, e16, ← highest-is, ne-eqb r.highest (2 ^ 64 - 1) e17, ← is, eq-eqb counter 0x7FFFFFFF e)
+                rw (
+                  damaged-is,
+                  e15,
+                  e16,
+                  ← highest-is,
+                  ne-eqb r.highest
+                      (2 ^ 64 - 1) e17,
+                  ← is,
+                  eq-eqb counter 0x7FFFFFFF e,
+                )
 
             ec-is : ecWith r.geometry counter r.«image_seq» ≡ newEc m o
             unfolding newEc
             ec-is = rw (seq-is, is)
 
             pub planned : counter ≢ 0x7FFFFFFF
-                → given (planWith r.geometry o t (renewedAs h found (r.highest + 1)) (ecWith r.geometry counter r.«image_seq»))
+                → given (planWith r.geometry o t (renewedAs h found (r.highest + 1))
+                (ecWith r.geometry counter r.«image_seq»))
                 ≡ answer
             unfolding refusal15 refusal16 refusal17 makePlan
             planned e =
-                rw (damaged-is, e15, e16, ← highest-is, ne-eqb r.highest (2 ^ 64 - 1) e17, ← is, ne-eqb counter 0x7FFFFFFF e)
+                rw (
+                  damaged-is,
+                  e15,
+                  e16,
+                  ← highest-is,
+                  ne-eqb r.highest
+                      (2 ^ 64 - 1) e17,
+                  ← is,
+                  ne-eqb counter 0x7FFFFFFF e,
+                )
                 (rw (found-is, renewed r.geometry p h r.highest, ec-is))

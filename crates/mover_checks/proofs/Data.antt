@@ -55,7 +55,8 @@ module _ (s : List ℕ) (i : ℕ) (above : 0 < i) (within : i ≤ length s) wher
   end-go e = rw (last-byte, e) (sym (end-snoc (take (i - 1) s)))
 
   pub end-stop : (getD s (i - 1) 0 ≡ 0xFF → ⊥) → i ≡ dataEnd (take i s)
-  end-stop n = rw last-byte (sym (end-broken (take (i - 1) s) (getD s (i - 1) 0) n ∙ rw (length-take-le (i - 1) s (omega arith)) (omega arith)))
+  end-stop n = rw last-byte (sym
+      (end-broken (take (i - 1) s) (getD s (i - 1) 0) n ∙ rw (length-take-le (i - 1) s (omega arith)) (omega arith)))
 
 -- a block is all 0xFF where its data end at 0
 pub clean-end : (l : List ℕ) → allFF l ≡ eqb (dataEnd l) 0
@@ -102,11 +103,14 @@ module _ (h : VidHeader) {m : Bool} where
 -- ---- the new data size
 
 module _ {g : Geometry} {p : List ℕ} {h : VidHeader} (fits : Fits g p h) where
-  pub static-size : h .«vol_type» ≡ 2 → (h.«data_size» ≡ newSize g (copyOf g p h)) × (g.«data_start» + h.«data_size» ≤ length p)
+  pub static-size : h .«vol_type» ≡ 2
+      → (h.«data_size» ≡ newSize g (copyOf g p h)) × (g.«data_start» + h.«data_size» ≤ length p)
   unfolding copyOf newSize
   static-size e = (rw (eq-eqb h.«vol_type» 2 e), fits.data-fits)
 
-  pub dynamic-size : (h.«vol_type» ≡ 2 → ⊥) → {size : ℕ} → size ≡ roundUp g.unit (dataEnd (take (g.«leb_size» - h.«data_pad») (drop g.«data_start» p))) → size ≤ g.«leb_size»
+  pub dynamic-size : (h.«vol_type» ≡ 2 → ⊥) → {size : ℕ}
+      → size ≡ roundUp g.unit (dataEnd (take (g.«leb_size» - h.«data_pad») (drop g.«data_start» p)))
+      → size ≤ g.«leb_size»
       → (size ≡ newSize g (copyOf g p h)) × (g.«data_start» + size ≤ length p)
   unfolding copyOf newSize
   dynamic-size n e k = (rw (ne-eqb h.«vol_type» 2 n) e, omega (arith, fits.whole, fits.placed.leb-fills))
@@ -138,24 +142,35 @@ module _ {g : Geometry} {p : List ℕ} {h : VidHeader} {size old new : ℕ} {dam
 
     pub dynamic-found : (size ≡ 0 → ⊥) → found 1 new ≡ is
     unfolding copyOf newFlag newCrc
-    dynamic-found n = rw (r.damaged-is, r.old-is, r.new-is, ne-eqb h.«vol_type» 2 dynamic, ← r .size-is, ne-eqb size 0 n)
+    dynamic-found n = rw (
+      r.damaged-is,
+      r.old-is,
+      r.new-is,
+      ne-eqb h.«vol_type» 2 dynamic,
+      ← r .size-is,
+      ne-eqb size 0
+          n,
+    )
 
 -- its new header
-pub renewed : (g : Geometry) (p : List ℕ) (h : VidHeader) (highest : ℕ) → renewedAs h (examined g (copyOf g p h)) (highest + 1) ≡ newVid g highest (copyOf g p h)
+pub renewed : (g : Geometry) (p : List ℕ) (h : VidHeader) (highest : ℕ)
+    → renewedAs h (examined g (copyOf g p h)) (highest + 1) ≡ newVid g highest (copyOf g p h)
 unfolding copyOf newVid
 renewed g p h highest = refl
 
 -- the data's end in whole units, of what was read
 module _ (g : Geometry) (p : List ℕ) (pad : ℕ) {at end : ℕ} (a : at ≡ g.«data_start») where
   pub rounded : end ≡ dataEnd (take (at + (g.«leb_size» - pad) - at) (drop at p))
-      → (end + (g.unit - 1)) / g.unit * g.unit ≡ roundUp g.unit (dataEnd (take (g.«leb_size» - pad) (drop g.«data_start» p)))
+      → (end + (g.unit - 1)) / g.unit * g.unit ≡ roundUp g.unit
+      (dataEnd (take (g.«leb_size» - pad) (drop g.«data_start» p)))
   unfolding roundUp
   rounded e =
       let d : at + (g.«leb_size» - pad) - at ≡ g.«leb_size» - pad = omega arith in
       let z : end ≡ dataEnd (take (g.«leb_size» - pad) (drop g.«data_start» p)) = rw (d, a) at e in
       rw z
 
-  pub rounded-within : Placed g → end ≤ length (take (at + (g.«leb_size» - pad) - at) (drop at p)) → (end + (g.unit - 1)) / g.unit * g.unit ≤ g.«leb_size»
+  pub rounded-within : Placed g → end ≤ length (take (at + (g.«leb_size» - pad) - at) (drop at p))
+      → (end + (g.unit - 1)) / g.unit * g.unit ≤ g.«leb_size»
   unfolding roundUp
   rounded-within P h =
       let l = length-take (at + (g.«leb_size» - pad) - at) (drop at p) in

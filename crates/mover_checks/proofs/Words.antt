@@ -41,9 +41,11 @@ use Rattle.mover_checks.proofs.Data.{clean-end}
 
 -- ---- the class word
 
-class-not-5 : (t : List ℕ) (ps : Places) (i : ℕ) (e : EcView) (v : VidView) → (classOf t ps i e v ≡ 5 → ⊥) → false ≡ isInternal 1 (goodVid v)
+class-not-5 : (t : List ℕ) (ps : Places) (i : ℕ) (e : EcView) (v : VidView) → (classOf t ps i e v ≡ 5 → ⊥)
+    → false ≡ isInternal 1 (goodVid v)
 class-not-5 t ps i e (vidGood c) n =
-    go (isMappable c.header.volume) (isPlace (ps c.header.volume c.header.lnum) i) (staysIn t c.header.volume c.header.lnum) (eqb c.header.compat 1) n
+    go (isMappable c.header.volume) (isPlace (ps c.header.volume c.header.lnum) i)
+    (staysIn t c.header.volume c.header.lnum) (eqb c.header.compat 1) n
   where
     go : (a b c d : Bool) → (cond {A = ℕ} a (cond b (cond c 1 5) 2) (cond d 5 6) ≡ 5 → ⊥) → false ≡ not a && d
     go true b c d n = refl
@@ -83,7 +85,8 @@ module _ {g : Geometry} {n : ℕ} {image pebs : List ℕ} (r : Reported g n imag
       let k : g .«peb_size» ≤ length b = simp length-drop (omega (arith, room)) in
       sym
       (sym (rw l at (to-end 64 (take g.«peb_size» b)))
-      ∙ part-take 64 (g.«peb_size» - 64) g.«peb_size» b (omega (arith, r.placed.vid-after-ec, r.placed.data-after-vid, r.placed.leb-fills))
+      ∙ part-take 64 (g.«peb_size» - 64) g.«peb_size» b
+      (omega (arith, r.placed.vid-after-ec, r.placed.data-after-vid, r.placed.leb-fills))
       ∙ ap (take (g.«peb_size» - 64)) (drop-drop 64 (i * g.«peb_size») image))
 
 -- ---- the target

@@ -54,8 +54,10 @@ use Rattle.header.proofs.Writes.{ec-64, vid-64}
 use Rattle.job.proofs.Stage.{Ready, Keeps}
 use Rattle.mover_powercut.proofs.Stops.{stopped, finished}
 
-runnable-by : (p : Plan) (g : Geometry) (image : List ℕ) (n : ℕ) → allOf (geometryRules p.«peb_size» p.unit p.«sub_unit») ≡ true
-    → planGeometry p ≡ g → allOf (imageRules g image) ≡ true → pebCount g image ≡ n → p.old < n → p.target < n → p.old ≢ p.target
+runnable-by : (p : Plan) (g : Geometry) (image : List ℕ) (n : ℕ)
+    → allOf (geometryRules p.«peb_size» p.unit p.«sub_unit») ≡ true
+    → planGeometry p ≡ g → allOf (imageRules g image) ≡ true → pebCount g image ≡ n → p.old < n → p.target < n
+    → p.old ≢ p.target
     → isGood (judgeVid g.«leb_size» p.vid) ≡ true → isGood (judgeEc p.ec) ≡ true → runnable p image ≡ true
 unfolding runnable stepRules
 runnable-by p g image n r geo i c o t ne v e =
@@ -119,7 +121,8 @@ module _ (req : AttachRequest) (g : Geometry) (n : ℕ) (chip : Chip req g n) (i
   unfolding makePlan
   may-run =
       mover-runs p image
-      (runnable-by p g image n R.rules geometry-is (image-ruled req g n chip image f.long) (count-is req g n chip image f.long) at-o.0
+      (runnable-by p g image n R.rules geometry-is (image-ruled req g n chip image f.long)
+      (count-is req g n chip image f.long) at-o.0
       a.target-there apart (rw good.vid-good) (rw good.ec-good))
 
   abbrev d : ℕ
@@ -180,7 +183,8 @@ module _ (req : AttachRequest) (g : Geometry) (n : ℕ) (chip : Chip req g n) (i
       let w = sited.unit-starts j h in
       let z : ℕ = min g.unit (d - j * g.unit) in
       rw geometry-is
-      (sym (part-part (g.«data_start» + j * g.unit) z (p.old * g.«peb_size») g.«peb_size» y (omega (arith, good.data-fits, P.leb-fills)))
+      (sym (part-part (g.«data_start» + j * g.unit) z (p.old * g.«peb_size») g.«peb_size» y
+      (omega (arith, good.data-fits, P.leb-fills)))
       ∙ ap (part (g.«data_start» + j * g.unit) z) e ∙ sym (part-part (j * g.unit) z g.«data_start» d O (omega arith)))
 
   abbrev relocates : Relocates g n image
@@ -191,7 +195,8 @@ module _ (req : AttachRequest) (g : Geometry) (n : ℕ) (chip : Chip req g n) (i
     unit-in = unitBytes p;
     sited = sited;
     long = f.long;
-    long-bytes = length-part g.«data_start» d O (omega (arith, peb-length g n image f.long p.old sited.old-there, good.data-fits, P.leb-fills));
+    long-bytes = length-part g.«data_start» d O
+        (omega (arith, peb-length g n image f.long p.old sited.old-there, good.data-fits, P.leb-fills));
     unit-is = unit-is;
   }
 
@@ -241,7 +246,8 @@ module _ (req : AttachRequest) (g : Geometry) (n : ℕ) (chip : Chip req g n) (i
         → Keeps m vs′ v l p.target (headerWhole p image′ && runWhole p image image′)
     unfolding premiseRules headerWhole runWhole
     kept-cut pr =
-        let r : (k : ℕ) → getD (premiseRules p image image′) k true ≡ true = each-holds (premiseRules p image image′) pr in
+        let r : (k : ℕ) → getD (premiseRules p image image′) k true ≡ true = each-holds
+        (premiseRules p image image′) pr in
         rw geometry-is
         (stopped g n image image′ f.unrefused v l p.old p.target c p ready good read-O ha.near.elsewhere ha.near.same-ec
         (ha.near.same-tail ∙ blank-T) order
@@ -251,13 +257,15 @@ module _ (req : AttachRequest) (g : Geometry) (n : ℕ) (chip : Chip req g n) (i
     module _ (s : Stored g n image relocates d image′) (Y-is : Y ≡ put 0 (ecBytes p.ec) (replicate g.«peb_size» 0xFF)) where
       kept-end : Keeps m vs′ v l p.target true
       kept-end =
-          finished g n image image′ f.unrefused v l p.old p.target c p ready good read-O ha.near.elsewhere ha.near.same-ec
+          finished g n image image′ f.unrefused v l p.old p.target c p ready good read-O ha.near.elsewhere
+          ha.near.same-ec
           (ha.near.same-tail ∙ blank-T) s.header (all-run s) (renewed-ec g P Y p.ec Y-is) (renewed-vid g P Y p.ec Y-is)
 
       end-free : classAt (mediumOf g n image′) p.old ≡ 0
       unfolding classAt
       end-free =
-          let e : vs′ p.old .ec ≡ ecGood p.ec = ec-written g Y p.ec good.ec-fits good.ec-good (renewed-ec g P Y p.ec Y-is) in
+          let e : vs′ p.old .ec ≡ ecGood p.ec = ec-written g Y p.ec good.ec-fits good.ec-good
+          (renewed-ec g P Y p.ec Y-is) in
           let w : vs′ p.old .vid ≡ vidBlank = vid-erased g Y (renewed-vid g P Y p.ec Y-is) in
           rw (e, w)
 
@@ -284,32 +292,34 @@ module _ (req : AttachRequest) (g : Geometry) (n : ℕ) (chip : Chip req g n) (i
 
   module _ (course : Course) (near : Near g n image relocates (left course))
       (kept : Keeps m (viewsOf g (left course)) v l p.target (isWritten p image course (left course)))
-      (freed : outcomeOf req (left course) ≡ whole (mediumOf g n (left course)) → Freed req p course (left course)) where
-    still : Attachable g n (left course)
-    unfolding makePlan
-    still = record {
-      long = near.long ∙ f .long;
-      bytes = left-octets moverJob mover-lawful p image may-run refl f.bytes course;
-      unrefused = kept.attaches;
-    }
+      (freed : outcomeOf req (left course) ≡ whole (mediumOf g n (left course)) → Freed req p course (left course))
+    where
+      still : Attachable g n (left course)
+      unfolding makePlan
+      still = record {
+        long = near.long ∙ f .long;
+        bytes = left-octets moverJob mover-lawful p image may-run refl f.bytes course;
+        unrefused = kept.attaches;
+      }
 
-    after-of : After course
-    unfolding makePlan
-    after-of = record {
-      still = still;
-      same-faces = kept.same-faces;
-      new-map = map-after (left course) (isWritten p image course (left course)) kept;
-      moved = record {
-        same-length = near.long;
-        elsewhere = λ k nq nt.
-            same-byte g (left course) image k (peb-above req g n chip) (near.elsewhere (k / g.«peb_size») nq nt);
-        steps = steps moverJob mover-lawful p image may-run refl;
-        freed = freed (attached req g n chip (left course) still.long still.unrefused);
-      };
-    }
+      after-of : After course
+      unfolding makePlan
+      after-of = record {
+        still = still;
+        same-faces = kept.same-faces;
+        new-map = map-after (left course) (isWritten p image course (left course)) kept;
+        moved = record {
+          same-length = near.long;
+          elsewhere = λ k nq nt.
+              same-byte g (left course) image k (peb-above req g n chip) (near.elsewhere (k / g.«peb_size») nq nt);
+          steps = steps moverJob mover-lawful p image may-run refl;
+          freed = freed (attached req g n chip (left course) still.long still.unrefused);
+        };
+      }
 
   -- any course, with the premise if it was stopped
-  pub after : (course : Course) → premiseOf image course (imageLeft moverJob p image course) (given p) ≡ true → After course
+  pub after : (course : Course) → premiseOf image course (imageLeft moverJob p image course) (given p) ≡ true
+      → After course
   unfolding isWritten
   after (toEnd k) pr =
       let w = wholes k in

@@ -35,7 +35,8 @@ module _ (g : Geometry) (n : ℕ) (image image′ : List ℕ) (ok : refusal (med
     (b : Ready (mediumOf g n image) v l o t old p.vid) (good : Good g (imageSeq n (viewsOf g image)) old p.vid p.ec)
     (read-O : Read g (pebAt g image o) old) (rest : (i : ℕ) → i ≢ o → i ≢ t → pebAt g image′ i ≡ pebAt g image i)
     (same-ec : take 64 (pebAt g image′ t) ≡ take 64 (pebAt g image t))
-    (tail-X : drop (g.«data_start» + p.vid.«data_size») (pebAt g image′ t) ≡ replicate (g.«leb_size» - p.vid.«data_size») 0xFF) where
+    (tail-X : drop (g.«data_start» + p.vid.«data_size») (pebAt g image′ t) ≡ replicate
+    (g.«leb_size» - p.vid.«data_size») 0xFF) where
   abbrev m : Medium
   m = mediumOf g n image
 
@@ -103,11 +104,20 @@ module _ (g : Geometry) (n : ℕ) (image image′ : List ℕ) (ok : refusal (med
   same-face e =
       let r : run ≡ take p.vid.«data_size» old.body = e ∙ sym old-run in
       let s : sound new ≡ sound old = whole-sound e ∙ sym good.old-sound in
-      let q : not (eqb p.vid.«vol_type» 2) || eqb (crcOf run) p.vid.«data_crc» ≡ not (eqb old.header.«vol_type» 2) || old.matches =
+      let q : not (eqb p.vid.«vol_type» 2) || eqb (crcOf run) p.vid.«data_crc» ≡ not
+      (eqb old.header.«vol_type» 2) || old.matches =
       rw r good.new-right ∙ sym good.old-right in
       let c : contentOf g new ≡ contentOf g old =
       good .content (drop g.«data_start» X) r (drop-drop p.vid.«data_size» g.«data_start» X ∙ tail-X) in
-      λ i. record { vol-type = good.same-type i; pad = good.same-pad i; used = good.same-used i; sound = s i; right = q i; content = c i }
+      λ i. record {
+        vol-type = good.same-type i;
+        pad = good.same-pad i;
+        used = good.same-used i;
+        sound = s i;
+        right = q
+            i;
+        content = c i;
+      }
 
   -- ---- the old PEB, whatever is left of it
 
@@ -140,7 +150,8 @@ module _ (g : Geometry) (n : ℕ) (image image′ : List ℕ) (ok : refusal (med
       → OldVid (vs′ o .vid) → Kept true
   unfolding copyOf
   whole-now eh ed ec ov =
-      keeps-whole m vs′ v l o t old p.vid ok b views-rest target-ec new (new-seen eh) refl (whole-sound ed) (same-face ed) ec ov.0 ov.1
+      keeps-whole m vs′ v l o t old p.vid ok b views-rest target-ec new (new-seen eh) refl (whole-sound ed)
+      (same-face ed) ec ov.0 ov.1
 
   abbrev header-whole : Bool
   header-whole = eqs (vidPart g X) (vidBytes p.vid)
@@ -165,14 +176,18 @@ module _ (g : Geometry) (n : ℕ) (image image′ : List ℕ) (ok : refusal (med
 
       go : (h : Bool) → header-whole ≡ h → (d : Bool) → run-whole ≡ d → unlike h (vidPart g X) ≡ true
           → implies h (d || not (eqb (crcOf run) p.vid.«data_crc»)) ≡ true → Kept (h && d)
-      go false eh d ed c1 c2 = keeps-torn m vs′ v l o t old p.vid ok b views-rest target-ec (untouched (rw eh)) (vid-torn g X c1)
+      go false eh d ed c1 c2 = keeps-torn m vs′ v l o t old p.vid ok b views-rest target-ec (untouched (rw eh))
+          (vid-torn g X c1)
       go true eh false ed c1 c2 =
           keeps-half m vs′ v l o t old p.vid ok b views-rest target-ec new (untouched (rw (eh, ed)))
-          (new-seen (eqs-true (vidPart g X) (vidBytes p.vid) eh)) refl (half-unsound ed (not-true (eqb (crcOf run) p.vid.«data_crc») c2))
+          (new-seen (eqs-true (vidPart g X) (vidBytes p.vid) eh)) refl
+          (half-unsound ed (not-true (eqb (crcOf run) p.vid.«data_crc») c2))
       go true eh true ed c1 c2 =
           whole-now (eqs-true (vidPart g X) (vidBytes p.vid) eh) (eqs-true run dataRun ed) (old-ec c3) (old-vid c4)
 
   -- a move that is not cut
-  pub finished : vidPart g X ≡ vidBytes p.vid → run ≡ dataRun → take 64 Y ≡ ecBytes p.ec → vidPart g Y ≡ replicate 64 0xFF → Kept true
+  pub finished : vidPart g X ≡ vidBytes p.vid → run ≡ dataRun → take 64 Y ≡ ecBytes p.ec
+      → vidPart g Y ≡ replicate 64 0xFF → Kept true
   finished eh ed ee ev =
-      whole-now eh ed (rw (ec-written g Y p.ec good.ec-fits good.ec-good ee) good.ec-stands) (rw (vid-erased g Y ev) no-copy)
+      whole-now eh ed (rw (ec-written g Y p.ec good.ec-fits good.ec-good ee) good.ec-stands)
+      (rw (vid-erased g Y ev) no-copy)

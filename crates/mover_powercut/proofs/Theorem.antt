@@ -82,7 +82,8 @@ module _ (req : AttachRequest) (g : Geometry) (n : ℕ) (chip : Chip req g n) wh
       → Held (afterCalls req x calls) × SameFaces x (afterCalls req x calls) × Each req (Done req) x calls
   unfolding SameFaces
   whole-list calls x h pr =
-      all-calls (afterCall req) Held SameFaces (λ x c y. Premise req x.image c y.image) (λ x c y. Done req x.image c y.image)
+      all-calls (afterCall req) Held SameFaces (λ x c y. Premise req x.image c y.image)
+      (λ x c y. Done req x.image c y.image)
       (λ x. refl) (λ x y z e f. f ∙ e) one-call calls x h pr
 
   -- what the faces fix
@@ -110,7 +111,8 @@ module _ (req : AttachRequest) (g : Geometry) (n : ℕ) (chip : Chip req g n) wh
 -- image by itself: after the list the image attaches, with the table, the states and the contents that it had at first;
 -- its map is the place book; each accepted move changed nothing outside its two blocks and, if it was not cut, ended
 -- with its old block free; a refused one changed nothing
-pub no-cut-loses-a-block : (req : AttachRequest) (image : List ℕ) (calls : List Call) → Bytes image → attaches (outcomeOf req image) ≡ true
+pub no-cut-loses-a-block : (req : AttachRequest) (image : List ℕ) (calls : List Call) → Bytes image
+    → attaches (outcomeOf req image) ≡ true
     → Each req (Premise req) (atFirst req image) calls → Claim req image calls
 unfolding atFirst SameFaces
 no-cut-loses-a-block req image calls bytes at pr =

@@ -43,6 +43,7 @@ pub record WithBook : Type 0 where
   pub image : List ℕ
   pub book : List Entry
 
+-- the place book with the call's target for its LEB
 abbrev pub written : Call → List Entry → List Entry
 written c book = placeWritten c.volume c.lnum c.target book
 

@@ -66,7 +66,8 @@ class-free t ps i e vidNewer q = absurd (omega arith)
 
 -- ---- the highest sequence
 
-pub below-next : (n : ℕ) (cs : ℕ → Option Copy) (i : ℕ) (c : Copy) → i < n → cs i ≡ some c → c.header.sequence < highestOf n cs + 1
+pub below-next : (n : ℕ) (cs : ℕ → Option Copy) (i : ℕ) (c : Copy) → i < n → cs i ≡ some c
+    → c.header.sequence < highestOf n cs + 1
 unfolding highestOf
 below-next n cs i c h e =
     let r = max-at n (λ i. sequenceOr0 (cs i)) i h in
@@ -119,15 +120,20 @@ module _ (m : Medium) (v l t : ℕ) (p : Plan) where
         not-false (m.views t .clean) (or-right b c r),
       )
 
-  none17 : (o : ℕ) → refusal17 m o ≡ none → (highestOf m.count (copies m.views) ≢ 2 ^ 64 - 1) × (oldCounter m o ≢ 0x7FFFFFFF)
+  none17 : (o : ℕ) → refusal17 m o ≡ none
+      → (highestOf m.count (copies m.views) ≢ 2 ^ 64 - 1) × (oldCounter m o ≢ 0x7FFFFFFF)
   unfolding refusal17
   none17 o e =
       let a : Bool = eqb (highestOf m.count (copies m.views)) (2 ^ 64 - 1) in
       let b : Bool = eqb (oldCounter m o) 0x7FFFFFFF in
-      let q = when-none (a || b) 17 e in
-      (eqb-false (highestOf m.count (copies m.views)) (2 ^ 64 - 1) (or-left a b q), eqb-false (oldCounter m o) 0x7FFFFFFF (or-right a b q))
+      let q = when-none (a || b) 17 e in (
+        eqb-false (highestOf m.count (copies m.views)) (2 ^ 64 - 1) (or-left a b q),
+        eqb-false
+            (oldCounter m o) 0x7FFFFFFF (or-right a b q),
+      )
 
-  found : (x : ℕ × Copy) → mapped m v l ≡ some x → InMap (records m) v l × (chosen m.count (copies m.views) v l ≡ some x)
+  found : (x : ℕ × Copy) → mapped m v l ≡ some x
+      → InMap (records m) v l × (chosen m.count (copies m.views) v l ≡ some x)
   unfolding mapped
   found x e =
       by-test (isIn v l (entries m)) (λ q. (in-map-is m v l q, rw q at e)) (λ q. none-some (rw q at e))

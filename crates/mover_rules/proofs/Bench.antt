@@ -70,7 +70,8 @@ recordHead =
 -- a layout LEB of 896 bytes: five records, then 0xFF
 layout : List ℕ
 layout =
-    recordHead ++ toBe 4 (crcOf recordHead) ++ emptyRecord ++ emptyRecord ++ emptyRecord ++ emptyRecord ++ replicate 36 0xFF
+    recordHead ++ toBe 4 (crcOf recordHead) ++ emptyRecord ++ emptyRecord ++ emptyRecord ++ emptyRecord ++ replicate 36
+    0xFF
 
 abc : List ℕ
 abc = 0x61 ∷ 0x62 ∷ 0x63 ∷ []
@@ -82,7 +83,8 @@ pebOf counter h leb = ecBytes (ec counter) ++ vidBytes h ++ leb
 -- dynamic, "abc" and then 0xFF) and nothing"
 pub image : List ℕ
 image =
-    pebOf 3 (vid layoutVolume 0 5 1) layout ++ pebOf 5 (vid layoutVolume 1 5 2) layout ++ pebOf 9 (vid 0 0 0 3) (abc ++ replicate 893 0xFF)
+    pebOf 3 (vid layoutVolume 0 5 1) layout ++ pebOf 5 (vid layoutVolume 1 5 2) layout ++ pebOf 9 (vid 0 0 0 3)
+    (abc ++ replicate 893 0xFF)
     ++ (ecBytes (ec 4) ++ replicate 960 0xFF)
 
 -- ---- its move is accepted
@@ -119,7 +121,8 @@ six-steps = refl
 
 -- the beginning, with tables of the words that four PEBs need
 pub move-accepted :
-    beginning (request slip) image (longEnough (lent (replicate 8 0) (replicate 12 0) (replicate 128 0))) 0 0 3 ≡ given plan
+    beginning (request slip) image (longEnough (lent (replicate 8 0) (replicate 12 0) (replicate 128 0))) 0 0 3 ≡ given
+    plan
 unfolding slip ec vid recordHead layout abc pebOf image plan eqs beFrom toBeOn tap crcBit crcBits crcByte
     crcFrom goodUnit roundUp vidStart dataStart lebSize geometryRules makeGeometry geometryOf hasField valueAt
     headRules endsAt wellFormed slipGeometry crcMatches ecFields ecRules judgeEc readEc ecHead ecBytes
@@ -147,7 +150,13 @@ copy g run = copyOf g (peb run) (vid 0 0 0 3)
 -- four PEBs "with counters 3, 5, 9, 4"
 views : Views
 views i = record {
-  ec = ecGood (record { version = 1; counter = getD (3 ∷ 5 ∷ 9 ∷ 4 ∷ []) i 0; «vid_start» = 64; «data_start» = 128; «image_seq» = 7 });
+  ec = ecGood (record {
+    version = 1;
+    counter = getD (3 ∷ 5 ∷ 9 ∷ 4 ∷ []) i 0;
+    «vid_start» = 64;
+    «data_start» = 128;
+    «image_seq» = 7;
+  });
   vid = vidBlank;
   clean = true;
 }
@@ -165,7 +174,8 @@ shown nothing = []
 -- steps"
 bench-headers :
     _≡_ {A = List ℕ}
-    (newSize chip (copy chip abc) ∷ newFlag chip (copy chip abc) ∷ newCrc chip (copy chip abc) ∷ newVid chip 3 (copy chip abc) .sequence
+    (newSize chip (copy chip abc) ∷ newFlag chip (copy chip abc) ∷ newCrc chip (copy chip abc) ∷ newVid chip 3
+    (copy chip abc) .sequence
     ∷ newSize chip128 (copy chip128 abc) ∷ newFlag chip128 (copy chip128 abc)
     ∷ newSize chip (copy chip []) ∷ newFlag chip (copy chip []) ∷ newCrc chip (copy chip [])
     ∷ newEc medium 2 .counter ∷ newEc medium 2 .«image_seq» ∷ stepCount plan ∷ [])
@@ -178,7 +188,8 @@ bench-headers = refl
 bench-writes :
     _≡_ {A = List (List ℕ)}
     (table (λ k. shown (writeAfter plan image k)) 0 7 ++ table (unitBytes plan image) 0 3)
-    ((1 ∷ 3136 ∷ 64 ∷ []) ∷ (1 ∷ 3200 ∷ 1 ∷ []) ∷ (1 ∷ 3201 ∷ 1 ∷ []) ∷ (1 ∷ 3202 ∷ 1 ∷ []) ∷ (2 ∷ 2048 ∷ 1024 ∷ []) ∷ (1 ∷ 2048 ∷ 64 ∷ []) ∷ []
+    ((1 ∷ 3136 ∷ 64 ∷ []) ∷ (1 ∷ 3200 ∷ 1 ∷ []) ∷ (1 ∷ 3201 ∷ 1 ∷ []) ∷ (1 ∷ 3202 ∷ 1 ∷ []) ∷ (2 ∷ 2048 ∷ 1024 ∷ []) ∷
+    (1 ∷ 2048 ∷ 64 ∷ []) ∷ []
     ∷ (0x61 ∷ []) ∷ (0x62 ∷ []) ∷ (0x63 ∷ []) ∷ [])
 unfolding shown plan image pebOf layout recordHead emptyRecord ec vid abc chip roundUp vidStart dataStart lebSize makeGeometry planGeometry dataSteps unitBytes relocating writeAfter
     ecHead ecBytes vidHead vidBytes toBeOn
@@ -187,7 +198,9 @@ bench-writes = refl
 -- a whole store, one cut after two bytes, a whole erase, and one of which the first and the third byte were erased
 bench-cuts :
     _≡_ {A = List ℕ}
-    (appliedWhole (store 1 (7 ∷ 8 ∷ 9 ∷ [])) (replicate 5 0) ++ appliedCut 2 (λ i. true) (store 1 (7 ∷ 8 ∷ 9 ∷ [])) (replicate 5 0)
-    ++ appliedWhole (erase 1 3) (replicate 5 0) ++ appliedCut 0 (λ i. getD (true ∷ false ∷ true ∷ []) i false) (erase 1 3) (replicate 5 0))
+    (appliedWhole (store 1 (7 ∷ 8 ∷ 9 ∷ [])) (replicate 5 0) ++ appliedCut 2 (λ i. true) (store 1 (7 ∷ 8 ∷ 9 ∷ []))
+    (replicate 5 0)
+    ++ appliedWhole (erase 1 3) (replicate 5 0) ++ appliedCut 0 (λ i. getD (true ∷ false ∷ true ∷ []) i false)
+    (erase 1 3) (replicate 5 0))
     (0 ∷ 7 ∷ 8 ∷ 9 ∷ 0 ∷ 0 ∷ 7 ∷ 8 ∷ 0 ∷ 0 ∷ 0 ∷ 0xFF ∷ 0xFF ∷ 0xFF ∷ 0 ∷ 0 ∷ 0xFF ∷ 0 ∷ 0xFF ∷ 0 ∷ [])
 bench-cuts = refl

@@ -93,7 +93,8 @@ module _ (g : Geometry) (P : Placed g) (n : ℕ) (image : List ℕ) (bytes : Byt
     body-is = ap (λ (x : Copy). x.body) read.is
 
     body-long : length c.body ≡ g.«leb_size»
-    body-long = rw body-is (length-drop g.«data_start» (peb i) ∙ omega (arith, peb-length g n image len i i<n, P.leb-fills))
+    body-long = rw body-is (length-drop g.«data_start» (peb i)
+        ∙ omega (arith, peb-length g n image len i i<n, P.leb-fills))
 
     body-bytes : Bytes c.body
     body-bytes = rw body-is (bytes-drop g.«data_start» (peb i) (peb-bytes i))
@@ -108,7 +109,8 @@ module _ (g : Geometry) (P : Placed g) (n : ℕ) (image : List ℕ) (bytes : Byt
     ec-fields = ec-good (take 64 (peb i)) (ec-seen g (peb i) h is) .0
 
     pub ec-widths : EcFits h
-    ec-widths = subst EcFits ec-fields (ec-read-fits (take 64 (peb i)) (bytes-take 64 (peb i) (peb-bytes i)) (ec-long i i<n))
+    ec-widths = subst EcFits ec-fields
+        (ec-read-fits (take 64 (peb i)) (bytes-take 64 (peb i) (peb-bytes i)) (ec-long i i<n))
 
     pub counter-most : h .counter ≤ 0x7FFFFFFF
     counter-most = ec-good (take 64 (peb i)) (ec-seen g (peb i) h is) .1
@@ -117,7 +119,8 @@ module _ (g : Geometry) (P : Placed g) (n : ℕ) (image : List ℕ) (bytes : Byt
   highest-most : highestOf n (copies vs) ≤ 256 ^ 8 - 1
   unfolding highestOf
   highest-most = max-most n (λ i. sequenceOr0 (copies vs i)) (256 ^ 8 - 1)
-      (λ i h. by-option (copies vs i) (λ e. rw e (omega arith)) (λ c e. rw e (let w = copy-widths i h c e .sequence in omega arith)))
+      (λ i h. by-option (copies vs i) (λ e. rw e (omega arith))
+      (λ c e. rw e (let w = copy-widths i h c e .sequence in omega arith)))
 
   -- where one EC header is good: the old PEB's counter, and the image sequence
   module _ (t : ℕ) (t<n : t < n) (s : EcHeader) (is : ecs vs t ≡ some s) where
@@ -152,7 +155,8 @@ module _ (g : Geometry) (P : Placed g) (n : ℕ) (image : List ℕ) (bytes : Byt
         let h = c.header in
         let pad-and-lnum : Bool = eqb h.«data_pad» 0 && leb h.lnum 1 in
         let r = rw (eq-eqb h.volume layoutVolume e) at (rule 9) in
-        let q = and-right (eqb h.compat 5) pad-and-lnum (and-right (eqb h.«vol_type» 1) (eqb h.compat 5 && pad-and-lnum) r) in
+        let q = and-right (eqb h.compat 5) pad-and-lnum
+        (and-right (eqb h.«vol_type» 1) (eqb h.compat 5 && pad-and-lnum) r) in
         eqb-true h.«data_pad» 0 (and-left (eqb h.«data_pad» 0) (leb h.lnum 1) q)
 
     is-face : faces m v l ≡ some (faceOf g c)
@@ -167,11 +171,13 @@ module _ (g : Geometry) (P : Placed g) (n : ℕ) (image : List ℕ) (bytes : Byt
     pad-units (inr h) = rw (layout-pad (at-o.2 ∙ h .0), sub-zero) P.unit-divides
     pad-units (inl h) = go (recordFor t v) refl h.1
       where
-        go : (y : Option VolumeRecord) → recordFor t v ≡ y → l < reservedOf y → (g.«leb_size» - c.header.«data_pad») % g.unit ≡ 0
+        go : (y : Option VolumeRecord) → recordFor t v ≡ y → l < reservedOf y
+            → (g.«leb_size» - c.header.«data_pad») % g.unit ≡ 0
         go none e k = absurd (omega arith)
         go (some r) e k =
             let none12 = no-misfit (tableLeb m (faces m)) t (faces m) (places m) (parts m ok .none1112) in
-            let p : c .header .«data_pad» ≡ r.«data_pad» = entry-fits t (faces m) none12 v l r (faceOf g c) h.0 e k is-face .same-pad in
+            let p : c .header .«data_pad» ≡ r.«data_pad» = entry-fits t (faces m) none12 v l r
+            (faceOf g c) h.0 e k is-face .same-pad in
             let q = record-good _ _ _ _ _ t (table-good m ok) v r e in
             rw (p, q.2) (good-pads g.«leb_size» g.unit (recordAt t v) q.1 P.unit-divides)
 
@@ -182,7 +188,8 @@ module _ (g : Geometry) (P : Placed g) (n : ℕ) (image : List ℕ) (bytes : Byt
         top : ℕ
         top = g.«leb_size» - c.header.«data_pad»
 
-        go : (b : Bool) → cond b c.header.«data_size» (roundUp g.unit (dataEnd (take (cond b c.header.«data_size» top) c.body))) ≤ top
+        go : (b : Bool) → cond b c.header.«data_size»
+            (roundUp g.unit (dataEnd (take (cond b c.header.«data_size» top) c.body))) ≤ top
         go true = leb-true c.header.«data_size» top (rule 6)
         go false =
             let q = end-within (take top c.body) in

@@ -20,7 +20,8 @@ use Rattle.mover_rules.specs.Headers.{dataEnd}
 pub all-ff : (l : List ℕ) → allFF l ≡ true → l ≡ replicate (length l) 0xFF
 unfolding allFF
 all-ff [] e = refl
-all-ff (b ∷ l) e = ap₂ _∷_ (eqb-true b 0xFF (and-left (eqb b 0xFF) (allFF l) e)) (all-ff l (and-right (eqb b 0xFF) (allFF l) e))
+all-ff (b ∷ l) e = ap₂ _∷_ (eqb-true b 0xFF (and-left (eqb b 0xFF) (allFF l) e))
+    (all-ff l (and-right (eqb b 0xFF) (allFF l) e))
 
 pub end-within : (l : List ℕ) → dataEnd l ≤ length l
 unfolding dataEnd
@@ -33,7 +34,8 @@ pub end-rest : (l : List ℕ) (s : ℕ) → dataEnd l ≤ s → drop s l ≡ rep
 unfolding dataEnd
 end-rest [] zero h = refl
 end-rest [] (suc s) h = let e : 0 - suc s ≡ 0 = omega arith in rw e
-end-rest (b ∷ l) zero h = by-test (allFF (b ∷ l)) (λ q. rw sub-zero (all-ff (b ∷ l) q)) (λ q. absurd (omega (arith, rw q at h)))
+end-rest (b ∷ l) zero h = by-test (allFF (b ∷ l)) (λ q. rw sub-zero (all-ff (b ∷ l) q))
+    (λ q. absurd (omega (arith, rw q at h)))
 end-rest (b ∷ l) (suc s) h =
     by-test (allFF (b ∷ l)) (λ q. ap (drop (suc s)) (all-ff (b ∷ l) q) ∙ drop-replicate 0xFF (suc s) (length (b ∷ l)))
     (λ q. let e : suc (length l) - suc s ≡ length l - s = omega arith in rw e (end-rest l s (omega (arith, rw q at h))))

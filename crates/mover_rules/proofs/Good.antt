@@ -84,7 +84,8 @@ module _ (g : Geometry) (P : Placed g) (c : Copy) (m : Moves g c) (highest : ℕ
   flag-is : (newFlag g c ≡ 1) ⊎ ((newFlag g c ≡ 0) × (d ≡ 0))
   unfolding newFlag
   flag-is =
-      by-test (isStatic c) (λ s. inl (rw s)) (λ s. by-test (eqb d 0) (λ z. inr (rw (s, z), eqb-true d 0 z)) (λ z. inl (rw (s, z))))
+      by-test (isStatic c) (λ s. inl (rw s))
+      (λ s. by-test (eqb d 0) (λ z. inr (rw (s, z), eqb-true d 0 z)) (λ z. inl (rw (s, z))))
 
   flag-most : newFlag g c ≤ 1
   flag-most = ⊎-elim (λ q. omega arith) (λ q. omega (arith, q.0)) flag-is
@@ -128,7 +129,8 @@ module _ (g : Geometry) (P : Placed g) (c : Copy) (m : Moves g c) (highest : ℕ
   dynamic-rule = go (eqb c.header.«vol_type» 1) refl (rule 8)
     where
       size : (b : Bool) → eqb d 0 ≡ b
-          → implies (eqb (cond {A = ℕ} b 0 1) 0) (b && eqb (cond b 0 (crcOf (take d c.body))) 0) && implies (eqb (cond {A = ℕ} b 0 1) 1) (ltb 0 d) ≡ true
+          → implies (eqb (cond {A = ℕ} b 0 1) 0) (b && eqb (cond b 0 (crcOf (take d c.body))) 0) && implies
+          (eqb (cond {A = ℕ} b 0 1) 1) (ltb 0 d) ≡ true
       size true e = refl
       size false e = lt-ltb 0 d (let ne : d ≢ 0 = eqb-false d 0 e in omega arith)
 
@@ -140,7 +142,8 @@ module _ (g : Geometry) (P : Placed g) (c : Copy) (m : Moves g c) (highest : ℕ
       go : (a : Bool) → eqb c.header.«vol_type» 1 ≡ a → implies a (eqb c.header.«used_lebs» 0 && was) ≡ true
           → implies a
           (eqb c.header.«used_lebs» 0
-          && (implies (eqb (newFlag g c) 0) (eqb d 0 && eqb (newCrc g c) 0) && implies (eqb (newFlag g c) 1) (ltb 0 d))) ≡ true
+          && (implies (eqb (newFlag g c) 0) (eqb d 0 && eqb (newCrc g c) 0) && implies (eqb (newFlag g c) 1) (ltb 0 d)))
+          ≡ true
       go true e r =
           let s : isStatic c ≡ false = rw (eqb-true c.header.«vol_type» 1 e) refl in
           rw (and-left (eqb c.header.«used_lebs» 0) was r, s) (size (eqb d 0) refl)
@@ -176,7 +179,8 @@ module _ (g : Geometry) (P : Placed g) (c : Copy) (m : Moves g c) (highest : ℕ
   unfolding newCrc
   crc-small =
       by-test (isStatic c) (λ q. rw q m.widths.data-crc)
-      (λ q. by-test (eqb d 0) (λ r. rw (q, r) (lit< tt)) (λ r. rw (q, r) (crcOf-lt (take d c.body) (bytes-take d c.body m.bytes))))
+      (λ q. by-test (eqb d 0) (λ r. rw (q, r) (lit< tt))
+      (λ r. rw (q, r) (crcOf-lt (take d c.body) (bytes-take d c.body m.bytes))))
 
   data-within : d ≤ g.«leb_size»
   data-within = let s = m.size-fits in omega arith

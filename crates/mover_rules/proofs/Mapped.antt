@@ -18,7 +18,8 @@ use Rattle.report.proofs.Map.{in-map}
 use Rattle.mover_rules.specs.Begin.{isIn, mapped}
 
 -- what is in the list has an entry there, and an entry puts its LEB in
-pub in-list : (v l : ℕ) (es : List Entry) → isIn v l es ≡ true → (e : Entry) × List·Memᴰ e es × (e.volume ≡ v) × (e.lnum ≡ l)
+pub in-list : (v l : ℕ) (es : List Entry) → isIn v l es ≡ true
+    → (e : Entry) × List·Memᴰ e es × (e.volume ≡ v) × (e.lnum ≡ l)
 in-list v l [] q = absurd (false≢true q)
 in-list v l (e ∷ es) q =
     ⊎-elim
@@ -35,7 +36,8 @@ pub entry-in : (e : Entry) (es : List Entry) → List·Memᴰ e es → isIn e.vo
 entry-in e [] m = absurd (List·Memᴰ·not-nil m)
 entry-in e (x ∷ es) m = go (List·Memᴰ·cases-cons m) (entry-in e es)
   where
-    go : (e ≡ x) ⊎ List·Memᴰ e es → (List·Memᴰ e es → isIn e.volume e.lnum es ≡ true) → isIn e.volume e.lnum (x ∷ es) ≡ true
+    go : (e ≡ x) ⊎ List·Memᴰ e es → (List·Memᴰ e es → isIn e.volume e.lnum es ≡ true)
+        → isIn e.volume e.lnum (x ∷ es) ≡ true
     go (inl q) f = rw (← q, eq-eqb e.volume e.volume refl, eq-eqb e.lnum e.lnum refl)
     go (inr k) f = or-true-right (eqb x.volume e.volume && eqb x.lnum e.lnum) (isIn e.volume e.lnum es) (f k)
 
@@ -47,9 +49,11 @@ module _ (m : Medium) where
   pub mapped-at : (e : Entry) → List·Memᴰ e (entries m) → (c : Copy) → copies m.views e.peb ≡ some c
       → mapped m e.volume e.lnum ≡ some (e.peb, c)
   unfolding mapped entries mapOf placesOf
-  mapped-at e k c q = rw (entry-in e (entries m) k) (go (picked e.volume e.lnum) refl (in-map 128 2 (records m) (places m) e k .place))
+  mapped-at e k c q = rw (entry-in e (entries m) k)
+      (go (picked e.volume e.lnum) refl (in-map 128 2 (records m) (places m) e k .place))
     where
-      go : (x : Option (ℕ × Copy)) → picked e.volume e.lnum ≡ x → mapO (λ (y : ℕ × Copy). y.0) x ≡ some e.peb → x ≡ some (e.peb, c)
+      go : (x : Option (ℕ × Copy)) → picked e.volume e.lnum ≡ x → mapO (λ (y : ℕ × Copy). y.0) x ≡ some e.peb
+          → x ≡ some (e.peb, c)
       go none p r = none-some r
       go (some x) p r =
           let z : x .0 ≡ e.peb = cc in
@@ -59,7 +63,8 @@ module _ (m : Medium) where
           rw (← z, ← y)
 
   -- a LEB that no entry has is refusal 14
-  pub mapped-none : (v l : ℕ) → ((e : Entry) → List·Memᴰ e (entries m) → e.volume ≡ v → e.lnum ≡ l → ⊥) → mapped m v l ≡ none
+  pub mapped-none : (v l : ℕ) → ((e : Entry) → List·Memᴰ e (entries m) → e.volume ≡ v → e.lnum ≡ l → ⊥)
+      → mapped m v l ≡ none
   unfolding mapped
   mapped-none v l h =
       by-test (isIn v l (entries m)) (λ q. let r = in-list v l (entries m) q in absurd (h r.0 r.1 r.2 r.3)) (λ q. rw q)

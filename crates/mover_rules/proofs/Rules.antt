@@ -64,7 +64,8 @@ good-rules v rules x e = go (eqb v 1) (eqb v 0) (allOf rules) e
 size-most : (size : ℕ) (h : VidHeader) → isGood (judgeVid size h) ≡ true → h.«data_size» ≤ size
 unfolding judgeVid vidRules
 size-most size h e =
-    let r = leb-true h.«data_size» (size - h.«data_pad») (each-holds (vidRules size h) (good-rules h.version (vidRules size h) h e) 6) in
+    let r = leb-true h.«data_size» (size - h.«data_pad»)
+    (each-holds (vidRules size h) (good-rules h.version (vidRules size h) h e) 6) in
     omega arith
 
 room : (i size len : ℕ) → i < len / size → i * size + size ≤ len

@@ -40,7 +40,8 @@ module _ (p : Plan) (image : List ℕ) where
       let P = r.measured.placed in
       each-write g (relocation p image) (λ w. Within w image)
       (omega (arith, vid-64 p.vid, r.target-room, P.data-after-vid, P.leb-fills))
-      (λ j h. let u = unit-within g p image r j h in rw length-take (omega (arith, r.target-room, r.size-fits, P.leb-fills)))
+      (λ j h. let u = unit-within g p image r j h in rw length-take
+      (omega (arith, r.target-room, r.size-fits, P.leb-fills)))
       r.old-room
       (omega (arith, ec-64 p.ec, r.old-room, P.vid-after-ec, P.data-after-vid, P.leb-fills))
       tt
@@ -49,7 +50,8 @@ module _ (p : Plan) (image : List ℕ) where
   unfolding writeAfter unitBytes
   writes-octets k b =
       each-write g (relocation p image) Octets (vid-octets p.vid)
-      (λ j h. bytes-part (pebStart g p.old + (g.«data_start» + j * g.unit)) (min g.unit (p.vid.«data_size» - j * g.unit)) image b)
+      (λ j h. bytes-part (pebStart g p.old + (g.«data_start» + j * g.unit))
+      (min g.unit (p.vid.«data_size» - j * g.unit)) image b)
       tt (ec-octets p.ec) tt k
 
   late : (k : ℕ) → stepCount p ≤ k → writeAfter p image k ≡ nothing
@@ -69,7 +71,8 @@ mover-lawful = record {
 }
 
 -- 18 refuses none of the steps, if it does not refuse the first
-pub mover-runs : (p : Plan) (image : List ℕ) → runnable p image ≡ true → (k : ℕ) → runnable (nexts moverJob p k) image ≡ true
+pub mover-runs : (p : Plan) (image : List ℕ) → runnable p image ≡ true → (k : ℕ)
+    → runnable (nexts moverJob p k) image ≡ true
 unfolding oneOn runnable stepRules planGeometry
 mover-runs p image e zero = e
 mover-runs p image e (suc k) = mover-runs p image e k

@@ -76,7 +76,8 @@ chosenOf l = sequenceOf (chosen 2 (among l) 0 0)
 -- a table of one record, "reserved 1": dynamic, alignment 1, pad 0, marker 0, name "log", flags 0, and its CRC
 recordHead : List ℕ
 recordHead =
-    toBe 4 1 ++ toBe 4 1 ++ toBe 4 0 ++ toBe 1 1 ++ toBe 1 0 ++ toBe 2 3 ++ (0x6C ∷ 0x6F ∷ 0x67 ∷ []) ++ replicate 125 0 ++ toBe 1 0 ++ replicate 23 0
+    toBe 4 1 ++ toBe 4 1 ++ toBe 4 0 ++ toBe 1 1 ++ toBe 1 0 ++ toBe 2 3 ++
+    (0x6C ∷ 0x6F ∷ 0x67 ∷ []) ++ replicate 125 0 ++ toBe 1 0 ++ replicate 23 0
 
 records : List ℕ
 records = recordHead ++ toBe 4 (crcOf recordHead)
@@ -94,7 +95,8 @@ benchTable =
     -- "Counters 3, 5, 9: mean 5."
     ∷ (meanOf (record { geometry = chip; count = 3; views = λ i. freePeb (getD (3 ∷ 5 ∷ 9 ∷ []) i 0) }), 5)
     -- "sequences 7 (flag 0) and 8 (flag 1, CRC wrong): 7. Both unsound: 7. 8 sound: 8."
-    ∷ (chosenOf (plain 7 ∷ wrong 8 ∷ []), 7) ∷ (chosenOf (wrong 7 ∷ wrong 8 ∷ []), 7) ∷ (chosenOf (plain 7 ∷ right 8 ∷ []), 8)
+    ∷ (chosenOf (plain 7 ∷ wrong 8 ∷ []), 7) ∷ (chosenOf (wrong 7 ∷ wrong 8 ∷ []), 7) ∷
+    (chosenOf (plain 7 ∷ right 8 ∷ []), 8)
     -- "One unsound copy alone: chosen, state 3."
     ∷ (chosenOf (wrong 8 ∷ []), 8) ∷ (stateOf records (facesOf chip 1 (among (wrong 8 ∷ []))) 0, 3) ∷ []
 

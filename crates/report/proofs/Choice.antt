@@ -116,7 +116,8 @@ pick-some n f i c h e q = none-some (sym (first-none-at n (λ i. unbeaten n f (f
 
 -- "choose the highest sequence that is sound; if none is sound, the lowest sequence"
 pub record IsChoice (n : ℕ) (f : ℕ → Option Copy) (c : Copy) : Type 0 where
-  pub highest-sound : (j : ℕ) (d : Copy) → j < n → f j ≡ some d → sound d ≡ true → (sound c ≡ true) × (d.header.sequence ≤ c.header.sequence)
+  pub highest-sound : (j : ℕ) (d : Copy) → j < n → f j ≡ some d → sound d ≡ true
+      → (sound c ≡ true) × (d.header.sequence ≤ c.header.sequence)
   pub else-lowest : ((j : ℕ) (d : Copy) → j < n → f j ≡ some d → sound d ≡ false)
       → (j : ℕ) (d : Copy) → j < n → f j ≡ some d → c.header.sequence ≤ d.header.sequence
 
@@ -125,7 +126,8 @@ pub choice-sequence : (n : ℕ) (f : ℕ → Option Copy) (i j : ℕ) (c d : Cop
     → IsChoice n f c → IsChoice n f d → c.header.sequence ≡ d.header.sequence
 choice-sequence n f i j c d hi hj p q x y = go (sound c) (sound d) refl refl
   where
-    none-sound : (e : Copy) → IsChoice n f e → sound e ≡ false → (k : ℕ) (a : Copy) → k < n → f k ≡ some a → sound a ≡ false
+    none-sound : (e : Copy) → IsChoice n f e → sound e ≡ false → (k : ℕ) (a : Copy) → k < n → f k ≡ some a
+        → sound a ≡ false
     none-sound e z s k a h r = not-so (sound a) (λ t. true≢false (sym (z.highest-sound k a h r t .0) ∙ s))
 
     go : (b t : Bool) → sound c ≡ b → sound d ≡ t → c.header.sequence ≡ d.header.sequence
@@ -133,7 +135,12 @@ choice-sequence n f i j c d hi hj p q x y = go (sound c) (sound d) refl refl
         let k = y.highest-sound i c hi p u in
         omega (arith, k.1, x.highest-sound j d hj q k.0 .1)
     go false true u w = clash u (x.highest-sound j d hj q w .0)
-    go false false u w = omega (arith, x.else-lowest (none-sound c x u) j d hj q, y.else-lowest (none-sound d y w) i c hi p)
+    go false false u w = omega (
+      arith,
+      x.else-lowest (none-sound c x u) j d hj q,
+      y.else-lowest
+          (none-sound d y w) i c hi p,
+    )
 
 -- what is unbeaten is the copy, and none beats it
 unbeaten-is : (n : ℕ) (f : ℕ → Option Copy) (x : Option Copy) (c : Copy) → unbeaten n f x ≡ some c
@@ -141,11 +148,13 @@ unbeaten-is : (n : ℕ) (f : ℕ → Option Copy) (x : Option Copy) (c : Copy) �
 unbeaten-is n f none c e = none-some e
 unbeaten-is n f (some d) c e = go (anyBelow n (λ j. beats (f j) d)) refl e
   where
-    go : (b : Bool) → anyBelow n (λ j. beats (f j) d) ≡ b → cond b none (some d) ≡ some c → (some d ≡ some c) × (anyBelow n (λ j. beats (f j) c) ≡ false)
+    go : (b : Bool) → anyBelow n (λ j. beats (f j) d) ≡ b → cond b none (some d) ≡ some c
+        → (some d ≡ some c) × (anyBelow n (λ j. beats (f j) c) ≡ false)
     go true q e = none-some e
     go false q e = let r : d ≡ c = cc in (e, subst (λ y. anyBelow n (λ j. beats (f j) y) ≡ false) r q)
 
-pub pick-literal : (n : ℕ) (f : ℕ → Option Copy) (i : ℕ) (c : Copy) → pick n f ≡ some (i, c) → (i < n) × (f i ≡ some c) × IsChoice n f c
+pub pick-literal : (n : ℕ) (f : ℕ → Option Copy) (i : ℕ) (c : Copy) → pick n f ≡ some (i, c)
+    → (i < n) × (f i ≡ some c) × IsChoice n f c
 unfolding pick
 pick-literal n f i c e =
     let h = first-hit n (λ i. unbeaten n f (f i)) i c e in
@@ -166,7 +175,8 @@ pick-literal n f i c e =
     high d s true q b = (q, ltb-false c.header.sequence d.header.sequence (rw (q, s) at b))
     high d s false q b = absurd (true≢false (rw (q, s) at b))
 
-    low : (d : Copy) → sound c ≡ false → sound d ≡ false → beats (some d) c ≡ false → c.header.sequence ≤ d.header.sequence
+    low : (d : Copy) → sound c ≡ false → sound d ≡ false → beats (some d) c ≡ false
+        → c.header.sequence ≤ d.header.sequence
     low d q s b = ltb-false d.header.sequence c.header.sequence (rw (q, s) at b)
 
 -- ---- a new copy, with a sequence above all others
@@ -208,18 +218,22 @@ module _ (n : ℕ) (f f′ : ℕ → Option Copy) (t : ℕ) (new : Copy) (at-t :
   pick-unsound free same above u o old o<n at-o s = first-cong n _ _ λ i k. go i k (eq-or-ne i t)
     where
       o-stays : f′ o ≡ some old
-      o-stays = ⊎-elim (λ (e : o ≡ t). none-some (sym free ∙ ap f (sym e) ∙ at-o)) (λ (ne : o ≢ t). same o o<n ne ∙ at-o) (eq-or-ne o t)
+      o-stays = ⊎-elim (λ (e : o ≡ t). none-some (sym free ∙ ap f (sym e) ∙ at-o))
+          (λ (ne : o ≢ t). same o o<n ne ∙ at-o) (eq-or-ne o t)
 
       at-target : unbeaten n f′ (some new) ≡ none
       at-target = rw (any-intro n (λ j. beats (f′ j) new) o o<n (rw (o-stays, u, s)))
 
-      one : (c : Copy) → c.header.sequence < new.header.sequence → (j : ℕ) → j < n → (j ≡ t) ⊎ (j ≢ t) → beats (f′ j) c ≡ beats (f j) c
+      one : (c : Copy) → c.header.sequence < new.header.sequence → (j : ℕ) → j < n → (j ≡ t) ⊎ (j ≢ t)
+          → beats (f′ j) c ≡ beats (f j) c
       one c h j k (inl e) = rw (e, at-t, free) (no-beat new c u h)
       one c h j k (inr ne) = rw (same j k ne)
 
-      elsewhere : (x : Option Copy) → ((c : Copy) → x ≡ some c → c.header.sequence < new.header.sequence) → unbeaten n f′ x ≡ unbeaten n f x
+      elsewhere : (x : Option Copy) → ((c : Copy) → x ≡ some c → c.header.sequence < new.header.sequence)
+          → unbeaten n f′ x ≡ unbeaten n f x
       elsewhere none h = refl
-      elsewhere (some c) h = rw (any-cong n (λ j. beats (f′ j) c) (λ j. beats (f j) c) (λ j k. one c (h c refl) j k (eq-or-ne j t)))
+      elsewhere (some c) h = rw (any-cong n (λ j. beats (f′ j) c) (λ j. beats (f j) c)
+          (λ j k. one c (h c refl) j k (eq-or-ne j t)))
 
       go : (i : ℕ) → i < n → (i ≡ t) ⊎ (i ≢ t) → unbeaten n f′ (f′ i) ≡ unbeaten n f (f i)
       go i k (inl e) = rw (e, at-t, free) at-target
@@ -230,9 +244,11 @@ module _ (n : ℕ) (f f′ : ℕ → Option Copy) (t : ℕ) (new : Copy) (at-t :
       → ((i : ℕ) → i < n → i ≢ t → (c : Copy) → f′ i ≡ some c → c.header.sequence < new.header.sequence)
       → pick n f′ ≡ some (t, new)
   unfolding pick
-  pick-sound t<n s above = first-only n (λ i. unbeaten n f′ (f′ i)) t new t<n at-target (λ j k ne. elsewhere (f′ j) (above j k ne))
+  pick-sound t<n s above = first-only n (λ i. unbeaten n f′ (f′ i)) t new t<n at-target
+      (λ j k ne. elsewhere (f′ j) (above j k ne))
     where
-      other : (x : Option Copy) → ((c : Copy) → x ≡ some c → c.header.sequence < new.header.sequence) → beats x new ≡ false
+      other : (x : Option Copy) → ((c : Copy) → x ≡ some c → c.header.sequence < new.header.sequence)
+          → beats x new ≡ false
       other none h = refl
       other (some d) h = not-beaten new d s (let l = h d refl in omega arith)
 
@@ -243,7 +259,8 @@ module _ (n : ℕ) (f f′ : ℕ → Option Copy) (t : ℕ) (new : Copy) (at-t :
       at-target : unbeaten n f′ (f′ t) ≡ some new
       at-target = rw (at-t, none-intro n (λ j. beats (f′ j) new) (λ j k. one j k (eq-or-ne j t)))
 
-      elsewhere : (x : Option Copy) → ((c : Copy) → x ≡ some c → c.header.sequence < new.header.sequence) → unbeaten n f′ x ≡ none
+      elsewhere : (x : Option Copy) → ((c : Copy) → x ≡ some c → c.header.sequence < new.header.sequence)
+          → unbeaten n f′ x ≡ none
       elsewhere none h = refl
       elsewhere (some c) h = rw (any-intro n (λ j. beats (f′ j) c) t t<n (rw at-t (all-beat new c s (h c refl))))
 
@@ -252,7 +269,8 @@ module _ (n : ℕ) (f f′ : ℕ → Option Copy) (t : ℕ) (new : Copy) (at-t :
 pub ofKey-hit : (v l : ℕ) (c : Copy) → c.header.volume ≡ v → c.header.lnum ≡ l → ofKey v l (some c) ≡ some c
 ofKey-hit v l c p q = rw (eq-eqb c.header.volume v p, eq-eqb c.header.lnum l q)
 
-pub ofKey-some : (v l : ℕ) (x : Option Copy) (c : Copy) → ofKey v l x ≡ some c → (x ≡ some c) × (c.header.volume ≡ v) × (c.header.lnum ≡ l)
+pub ofKey-some : (v l : ℕ) (x : Option Copy) (c : Copy) → ofKey v l x ≡ some c
+    → (x ≡ some c) × (c.header.volume ≡ v) × (c.header.lnum ≡ l)
 ofKey-some v l none c e = none-some e
 ofKey-some v l (some d) c e = go (eqb d.header.volume v && eqb d.header.lnum l) refl e
   where
@@ -281,7 +299,8 @@ chosen-at n cs v l o c e =
     let k = ofKey-some v l (cs o) c h.1 in
     (h.0, k.0, k.1, k.2)
 
-pub chosen-cong : (n : ℕ) (cs cs′ : ℕ → Option Copy) → ((i : ℕ) → i < n → cs′ i ≡ cs i) → (v l : ℕ) → chosen n cs′ v l ≡ chosen n cs v l
+pub chosen-cong : (n : ℕ) (cs cs′ : ℕ → Option Copy) → ((i : ℕ) → i < n → cs′ i ≡ cs i) → (v l : ℕ)
+    → chosen n cs′ v l ≡ chosen n cs v l
 unfolding chosen
 chosen-cong n cs cs′ h v l = pick-cong n (λ i. ofKey v l (cs i)) (λ i. ofKey v l (cs′ i)) (λ i k. rw (h i k))
 
@@ -316,14 +335,16 @@ module _ (n : ℕ) (cs cs′ : ℕ → Option Copy) (v l o t : ℕ) (old new : C
   new-elsewhere v′ l′ ne = ofKey-miss v′ l′ new (λ p q. ne (sym m.volume ∙ p) (sym m.lnum ∙ q))
 
   -- while it is unsound nothing changes
-  pub chosen-unsound : sound new ≡ false → sound old ≡ true → cs′ o ≡ cs o → (v′ l′ : ℕ) → chosen n cs′ v′ l′ ≡ chosen n cs v′ l′
+  pub chosen-unsound : sound new ≡ false → sound old ≡ true → cs′ o ≡ cs o → (v′ l′ : ℕ)
+      → chosen n cs′ v′ l′ ≡ chosen n cs v′ l′
   unfolding chosen
   chosen-unsound u s stays v′ l′ = go (key-or v′ l′ v l)
     where
       rest : (i : ℕ) → i < n → i ≢ t → cs′ i ≡ cs i
       rest i k ne = ⊎-elim (λ (e : i ≡ o). rw e stays) (λ (ne′ : i ≢ o). m.rest i k ne ne′) (eq-or-ne i o)
 
-      go : ((v ≡ v′) × (l ≡ l′)) ⊎ ((v ≡ v′) → (l ≡ l′) → ⊥) → pick n (λ i. ofKey v′ l′ (cs′ i)) ≡ pick n (λ i. ofKey v′ l′ (cs i))
+      go : ((v ≡ v′) × (l ≡ l′)) ⊎ ((v ≡ v′) → (l ≡ l′) → ⊥)
+          → pick n (λ i. ofKey v′ l′ (cs′ i)) ≡ pick n (λ i. ofKey v′ l′ (cs i))
       go (inl e) =
           pick-unsound n (λ i. ofKey v′ l′ (cs i)) (λ i. ofKey v′ l′ (cs′ i)) t new
           (rw m.is (ofKey-hit v′ l′ new (m.volume ∙ e .0) (m.lnum ∙ e .1)))
@@ -335,7 +356,8 @@ module _ (n : ℕ) (cs cs′ : ℕ → Option Copy) (v l o t : ℕ) (old new : C
           s
       go (inr ne) =
           pick-cong n (λ i. ofKey v′ l′ (cs i)) (λ i. ofKey v′ l′ (cs′ i))
-          (λ i k. ⊎-elim (λ (e : i ≡ t). rw (e, m.is, m.was) (new-elsewhere v′ l′ ne)) (λ (ni : i ≢ t). rw (rest i k ni)) (eq-or-ne i t))
+          (λ i k. ⊎-elim (λ (e : i ≡ t). rw (e, m.is, m.was) (new-elsewhere v′ l′ ne))
+          (λ (ni : i ≢ t). rw (rest i k ni)) (eq-or-ne i t))
 
   -- once it is sound it is chosen, and the other LEBs' choices stay; the old copy may be gone, but has no other header
   module _ (s : sound new ≡ true) (left : (c : Copy) → cs′ o ≡ some c → c.header ≡ old.header) where
@@ -347,21 +369,25 @@ module _ (n : ℕ) (cs cs′ : ℕ → Option Copy) (v l o t : ℕ) (old new : C
         (m.t<n) s
         (λ i k ne c q. low i k ne c (ofKey-some v l (cs′ i) c q .0) (eq-or-ne i o))
       where
-        low : (i : ℕ) → i < n → i ≢ t → (c : Copy) → cs′ i ≡ some c → (i ≡ o) ⊎ (i ≢ o) → c.header.sequence < new.header.sequence
+        low : (i : ℕ) → i < n → i ≢ t → (c : Copy) → cs′ i ≡ some c → (i ≡ o) ⊎ (i ≢ o)
+            → c.header.sequence < new.header.sequence
         low i k ne c q (inl e) = rw (left c (rw e at q)) (m.above o at-o.0 old at-o.1)
         low i k ne c q (inr nq) = m.above i k c (sym (m.rest i k ne nq) ∙ q)
 
     pub chosen-other : (v′ l′ : ℕ) → ((v ≡ v′) → (l ≡ l′) → ⊥) → chosen n cs′ v′ l′ ≡ chosen n cs v′ l′
     unfolding chosen
-    chosen-other v′ l′ ne = pick-cong n (λ i. ofKey v′ l′ (cs i)) (λ i. ofKey v′ l′ (cs′ i)) (λ i k. go i k (eq-or-ne i t) (eq-or-ne i o))
+    chosen-other v′ l′ ne = pick-cong n (λ i. ofKey v′ l′ (cs i)) (λ i. ofKey v′ l′ (cs′ i))
+        (λ i k. go i k (eq-or-ne i t) (eq-or-ne i o))
       where
         gone : (x : Option Copy) → ((c : Copy) → x ≡ some c → c.header ≡ old.header) → ofKey v′ l′ x ≡ none
         gone none h = refl
         gone (some c) h =
             ofKey-miss v′ l′ c
-            (λ p q. ne (sym at-o.2 ∙ ap (λ x. x.volume) (sym (h c refl)) ∙ p) (sym at-o.3 ∙ ap (λ x. x.lnum) (sym (h c refl)) ∙ q))
+            (λ p q. ne (sym at-o.2 ∙ ap (λ x. x.volume) (sym (h c refl)) ∙ p)
+            (sym at-o.3 ∙ ap (λ x. x.lnum) (sym (h c refl)) ∙ q))
 
         go : (i : ℕ) → i < n → (i ≡ t) ⊎ (i ≢ t) → (i ≡ o) ⊎ (i ≢ o) → ofKey v′ l′ (cs′ i) ≡ ofKey v′ l′ (cs i)
         go i k (inl e) d = rw (e, m.is, m.was) (new-elsewhere v′ l′ ne)
-        go i k (inr ni) (inl e) = rw (e, at-o.1) (gone (cs′ o) left ∙ sym (gone (some old) (λ c q. let r : old ≡ c = cc in rw r)))
+        go i k (inr ni) (inl e) = rw (e, at-o.1)
+            (gone (cs′ o) left ∙ sym (gone (some old) (λ c q. let r : old ≡ c = cc in rw r)))
         go i k (inr ni) (inr nq) = rw (m.rest i k ni nq)

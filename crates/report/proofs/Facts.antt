@@ -114,17 +114,22 @@ imageSeq-is n vs s t h k q all =
 module _ (m : Medium) where
   -- enough for no refusal 5 to 8
   pub no-5678 : (s t : ℕ) (h : EcHeader) → t < m.count → ecs m.views t ≡ some h
-      → ((i : ℕ) → i < m.count → (ecRefusal m.geometry (some s) (m.views i .ec) ≡ none) × (vidRefusal (m.views i .vid) ≡ none))
+      → ((i : ℕ) → i < m.count → (ecRefusal m.geometry (some s) (m.views i .ec) ≡ none) ×
+      (vidRefusal (m.views i .vid) ≡ none))
       → (seqIn m ≡ some s) × (refusal5678 m ≡ none)
   unfolding refusal5678 viewRefusal
   no-5678 s t h k q all =
       let r : seqIn m ≡ some s =
-      imageSeq-is m.count m.views s t h k q (λ i k x p. ec-agrees m.geometry s (m.views i .ec) x (all i k .0) p .2) in
-      (r, rw (first-none m.count (λ i. viewRefusal m.geometry (seqIn m) (m.views i)) (λ i k. rw (r, all i k .0, all i k .1))))
+      imageSeq-is m.count m.views s t h k q (λ i k x p. ec-agrees m.geometry s (m.views i .ec) x (all i k .0) p .2) in (
+        r,
+        rw (first-none m.count (λ i. viewRefusal m.geometry (seqIn m) (m.views i))
+            (λ i k. rw (r, all i k .0, all i k .1))),
+      )
 
   -- every good EC of an image that attaches
   pub good-ec : refusal5678 m ≡ none → (i : ℕ) (h : EcHeader) → i < m.count → ecs m.views i ≡ some h
-      → (h.«vid_start» ≡ m.geometry.«vid_start») × (h.«data_start» ≡ m.geometry.«data_start») × (seqIn m ≡ some h.«image_seq»)
+      → (h.«vid_start» ≡ m.geometry.«vid_start») × (h.«data_start» ≡ m.geometry.«data_start») ×
+      (seqIn m ≡ some h.«image_seq»)
   unfolding imageSeq
   good-ec e i h k q =
       let r = first-some m.count (ecs m.views) i h k q in
@@ -139,7 +144,8 @@ module _ (n : ℕ) (cs : ℕ → Option Copy) where
   unfolding refusal9
   none9-at e i j h k =
       none-at i (λ j. repeats (cs i) (cs j))
-      (when-none _ 9 (first-none-at n (λ i. when (anyBelow i (λ j. repeats (cs i) (cs j))) 9) (mapO-none atPeb _ e) i h)) j k
+      (when-none _ 9 (first-none-at n (λ i. when (anyBelow i (λ j. repeats (cs i) (cs j))) 9)
+      (mapO-none atPeb _ e) i h)) j k
 
   -- enough for no refusal 9
   pub no-9 : ((i j : ℕ) → i < n → j < i → repeats (cs i) (cs j) ≡ false) → refusal9 n cs ≡ none
@@ -193,7 +199,8 @@ module _ (n : ℕ) (cs : ℕ → Option Copy) where
 -- a copy is of class 1, 2, 5 or 6
 pub copy-unused : (e : EcView) (c : Copy) → isUnused e (vidGood c) ≡ false
 copy-unused e c =
-    by-test (isMappable c.header.volume) (λ q. rw q) (λ q. rw q (by-test (eqb c.header.compat 1) (λ r. rw r) (λ r. rw r)))
+    by-test (isMappable c.header.volume) (λ q. rw q)
+    (λ q. rw q (by-test (eqb c.header.compat 1) (λ r. rw r) (λ r. rw r)))
 
 some-not-unused : (e : EcView) (v : VidView) (c : Copy) → goodVid v ≡ some c → isUnused e v ≡ false
 some-not-unused e (vidGood d) c q = copy-unused e d

@@ -36,7 +36,8 @@ module _ {A : Type 0} (f : ℕ → Option A) (before : A → A → Type 0) where
         below = omega arith;
         value = a;
         is = e;
-        leads = step-below (λ i. (x : A) → f i ≡ some x → before a x) n h (λ x q. let r : a ≡ x = cc in rw r (⊎-elim (λ p. p) (λ p. p) (total x x)));
+        leads = step-below (λ i. (x : A) → f i ≡ some x → before a x) n h
+            (λ x q. let r : a ≡ x = cc in rw r (⊎-elim (λ p. p) (λ p. p) (total x x)));
       }
 
       step : (o : Option A) → f n ≡ o → Nothing n ⊎ First n → Nothing (suc n) ⊎ First (suc n)

@@ -65,7 +65,8 @@ module _ {A B : Type 0} (f : A → B) where
 -- ---- lengths
 
 module _ {A : Type 0} where
-  concat-length : (n : ℕ) (f : ℕ → List A) (h : ℕ → ℕ) → ((i : ℕ) → length (f i) ≤ h i) → length (concatBelow n f) ≤ sumBelow n h
+  concat-length : (n : ℕ) (f : ℕ → List A) (h : ℕ → ℕ) → ((i : ℕ) → length (f i) ≤ h i)
+      → length (concatBelow n f) ≤ sumBelow n h
   concat-length zero f h e = omega arith
   concat-length (suc n) f h e = rw length-append (omega (arith, concat-length n f h e, e n))
 
@@ -80,7 +81,8 @@ module _ {A : Type 0} (R : A → A → Type 0) where
   Ascending [] = Unit {0}
   Ascending (x ∷ l) = ((y : A) → List·Memᴰ y l → R x y) × Ascending l
 
-  ascending-append : (s t : List A) → Ascending s → Ascending t → ((x y : A) → List·Memᴰ x s → List·Memᴰ y t → R x y) → Ascending (s ++ t)
+  ascending-append : (s t : List A) → Ascending s → Ascending t → ((x y : A) → List·Memᴰ x s → List·Memᴰ y t → R x y)
+      → Ascending (s ++ t)
   ascending-append [] t a b h = b
   ascending-append (x ∷ s) t a b h = (
     λ y m. ⊎-elim (λ k. a.0 y k) (λ k. h x y (List·Memᴰ·head refl) k) (List·Memᴰ·append-cases s m),
@@ -88,7 +90,8 @@ module _ {A : Type 0} (R : A → A → Type 0) where
   )
 
   ascending-concat : (n : ℕ) (f : ℕ → List A) → ((i : ℕ) → i < n → Ascending (f i))
-      → ((i j : ℕ) → i < j → j < n → (x y : A) → List·Memᴰ x (f i) → List·Memᴰ y (f j) → R x y) → Ascending (concatBelow n f)
+      → ((i j : ℕ) → i < j → j < n → (x y : A) → List·Memᴰ x (f i) → List·Memᴰ y (f j) → R x y)
+      → Ascending (concatBelow n f)
   ascending-concat zero f a h = tt
   ascending-concat (suc n) f a h =
       ascending-append (concatBelow n f) (f n)
@@ -111,7 +114,8 @@ module _ {A : Type 0} (R : A → A → Type 0) where
         heads : x ≡ y
         heads =
             ⊎-elim (λ e. e)
-            (λ m. ⊎-elim (λ e. sym e) (λ k. absurd (asymmetric x y (a.0 y k) (b.0 x m))) (List·Memᴰ·cases-cons (h y (List·Memᴰ·head refl))))
+            (λ m. ⊎-elim (λ e. sym e) (λ k. absurd (asymmetric x y (a.0 y k) (b.0 x m)))
+            (List·Memᴰ·cases-cons (h y (List·Memᴰ·head refl))))
             (List·Memᴰ·cases-cons (f x (List·Memᴰ·head refl)))
 
         fore : (z : A) → List·Memᴰ z s → (z ≡ y) ⊎ List·Memᴰ z t → List·Memᴰ z t
@@ -143,13 +147,15 @@ pub record Listed (k m : ℕ) (t : List ℕ) (ps : Places) (e : Entry) : Type 0 
   pub key : ((e.volume < k) × (e.lnum < reservedOf (recordFor t e.volume))) ⊎ ((e.volume ≡ layoutVolume) × (e.lnum < m))
   pub place : ps e.volume e.lnum ≡ some e.peb
 
-entry-mem : (v l : ℕ) (o : Option ℕ) (e : Entry) → List·Memᴰ e (entryAt v l o) → (e.volume ≡ v) × (e.lnum ≡ l) × (o ≡ some e.peb)
+entry-mem : (v l : ℕ) (o : Option ℕ) (e : Entry) → List·Memᴰ e (entryAt v l o)
+    → (e.volume ≡ v) × (e.lnum ≡ l) × (o ≡ some e.peb)
 entry-mem v l none e m = absurd (List·Memᴰ·not-nil m)
 entry-mem v l (some p) e m =
     let q = List·Memᴰ·eq-of-singleton m in
     (ap (λ (x : Entry). x.volume) q, ap (λ (x : Entry). x.lnum) q, sym (ap (λ (x : Entry). some x.peb) q))
 
-entry-in : (v l : ℕ) (o : Option ℕ) (p : ℕ) → o ≡ some p → List·Memᴰ (record { volume = v; lnum = l; peb = p }) (entryAt v l o)
+entry-in : (v l : ℕ) (o : Option ℕ) (p : ℕ) → o ≡ some p
+    → List·Memᴰ (record { volume = v; lnum = l; peb = p }) (entryAt v l o)
 entry-in v l o p e = rw e (List·Memᴰ·head refl)
 
 -- the entries of one volume, of its LEBs below r
@@ -171,8 +177,10 @@ module _ (ps : Places) (v r : ℕ) where
           → (e.volume ≡ v) × (e.lnum < r) × (ps v e.lnum ≡ some e.peb)
       at l h q = (q.0, rw q.1 h, rw q.1 q.2)
 
-  volume-has : (l p : ℕ) → l < r → ps v l ≡ some p → List·Memᴰ (record { volume = v; lnum = l; peb = p }) (entriesOf ps v r)
-  volume-has l p h q = concat-mem r (λ l. entryAt v l (ps v l)) (record { volume = v; lnum = l; peb = p }) l h (entry-in v l (ps v l) p q)
+  volume-has : (l p : ℕ) → l < r → ps v l ≡ some p
+      → List·Memᴰ (record { volume = v; lnum = l; peb = p }) (entriesOf ps v r)
+  volume-has l p h q = concat-mem r (λ l. entryAt v l (ps v l)) (record { volume = v; lnum = l; peb = p }) l h
+      (entry-in v l (ps v l) p q)
 
   volume-length : length (entriesOf ps v r) ≤ r
   volume-length = concat-ones r (λ l. entryAt v l (ps v l)) (λ l. one l (ps v l))
@@ -199,11 +207,13 @@ module _ (k m : ℕ) (t : List ℕ) (ps : Places) where
   unfolding mapUpTo
   in-map e h =
       ⊎-elim
-      (λ a. let r = mem-concat k (users t ps) e a in user r.0 r.1 (in-volume ps r.0 (reservedOf (recordFor t r.0)) e r.2))
+      (λ a. let r = mem-concat k (users t ps) e a in user r.0 r.1
+      (in-volume ps r.0 (reservedOf (recordFor t r.0)) e r.2))
       (λ a. let q = in-volume ps layoutVolume m e a in record { key = inr (q.0, q.1); place = rw q.0 q.2 })
       (List·Memᴰ·append-cases (concatBelow k (users t ps)) h)
     where
-      user : (v : ℕ) → v < k → (e.volume ≡ v) × (e.lnum < reservedOf (recordFor t v)) × (ps v e.lnum ≡ some e.peb) → Listed k m t ps e
+      user : (v : ℕ) → v < k → (e.volume ≡ v) × (e.lnum < reservedOf (recordFor t v)) × (ps v e.lnum ≡ some e.peb)
+          → Listed k m t ps e
       user v hv q = record { key = inl (rw q.0 hv, rw q.0 q.1); place = rw q.0 q.2 }
 
   pub map-has : (e : Entry) → Listed k m t ps e → List·Memᴰ e (mapUpTo k m t ps)
@@ -224,7 +234,8 @@ module _ (k m : ℕ) (t : List ℕ) (ps : Places) where
       rw length-append
       (omega (
         arith,
-        concat-length k (users t ps) (λ v. reservedOf (recordFor t v)) (λ v. volume-length ps v (reservedOf (recordFor t v))),
+        concat-length k (users t ps) (λ v. reservedOf (recordFor t v))
+            (λ v. volume-length ps v (reservedOf (recordFor t v))),
         volume-length ps layoutVolume m,
       ))
 
@@ -246,7 +257,8 @@ module _ (k m : ℕ) (t : List ℕ) (ps : Places) where
 
   -- whatever makes an ascending list of just the entries makes the map
   pub map-unique : k ≤ layoutVolume → (es : List Entry) → Ascending Before es
-      → ((e : Entry) → List·Memᴰ e es → Listed k m t ps e) → ((e : Entry) → Listed k m t ps e → List·Memᴰ e es) → es ≡ mapUpTo k m t ps
+      → ((e : Entry) → List·Memᴰ e es → Listed k m t ps e) → ((e : Entry) → Listed k m t ps e → List·Memᴰ e es)
+      → es ≡ mapUpTo k m t ps
   map-unique h es ascends only all =
       ascending-unique Before before-irreflexive before-asymmetric es (mapUpTo k m t ps) ascends (map-ascends h)
       (λ e q. map-has e (only e q)) (λ e q. all e (in-map e q))

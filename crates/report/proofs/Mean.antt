@@ -35,13 +35,15 @@ module _ (f : ℕ → Option EcHeader) where
   number-some : (n i : ℕ) (h : EcHeader) → i < n → f i ≡ some h → 0 < number n
   number-some zero i h k e = absurd (omega arith)
   number-some (suc n) i h k e =
-      ⊎-elim (λ (l : i < n). let p = number-some n i h l e in omega arith) (λ (q : i ≡ n). rw (← q, e) (omega arith)) (below-suc n i k)
+      ⊎-elim (λ (l : i < n). let p = number-some n i h l e in omega arith) (λ (q : i ≡ n). rw (← q, e) (omega arith))
+      (below-suc n i k)
 
   at-least : (m n : ℕ) → Each (λ c. m ≤ c) n → m * number n ≤ sum n
   at-least m zero h = omega arith
   at-least m (suc n) h = go (f n) refl (at-least m n (λ i k. h i (omega arith)))
     where
-      go : (x : Option EcHeader) → f n ≡ x → m * number n ≤ sum n → m * (number n + cond (hasCounter x) 1 0) ≤ sum n + counterOr 0 x
+      go : (x : Option EcHeader) → f n ≡ x → m * number n ≤ sum n
+          → m * (number n + cond (hasCounter x) 1 0) ≤ sum n + counterOr 0 x
       go none e l = rw mul-add (omega arith)
       go (some x) e l = rw mul-add (omega (arith, h n (omega arith) x e))
 
@@ -49,7 +51,8 @@ module _ (f : ℕ → Option EcHeader) where
   at-most m zero h = omega arith
   at-most m (suc n) h = go (f n) refl (at-most m n (λ i k. h i (omega arith)))
     where
-      go : (x : Option EcHeader) → f n ≡ x → sum n ≤ m * number n → sum n + counterOr 0 x ≤ m * (number n + cond (hasCounter x) 1 0)
+      go : (x : Option EcHeader) → f n ≡ x → sum n ≤ m * number n
+          → sum n + counterOr 0 x ≤ m * (number n + cond (hasCounter x) 1 0)
       go none e l = rw mul-add (omega arith)
       go (some x) e l = rw mul-add (omega (arith, h n (omega arith) x e))
 
@@ -64,12 +67,15 @@ module _ (m : Medium) where
 
   -- the lowest good counter, and the highest
   pub mean-between : (i : ℕ) (h : EcHeader) → i < m.count → good i ≡ some h
-      → (a : First good (λ x y. x.counter ≤ y.counter) m.count) × (b : First good (λ x y. y.counter ≤ x.counter) m.count)
+      → (a : First good (λ x y. x.counter ≤ y.counter) m.count) ×
+      (b : First good (λ x y. y.counter ≤ x.counter) m.count)
       × (a.value.counter ≤ meanOf m) × (meanOf m ≤ b.value.counter)
   unfolding meanOf
   mean-between i h k e =
-      let a = first good (λ x y. x.counter ≤ y.counter) (λ x y. le-or x.counter y.counter) (λ x y z p q. omega arith) m.count i h k e in
-      let b = first good (λ x y. y.counter ≤ x.counter) (λ x y. le-or y.counter x.counter) (λ x y z p q. omega arith) m.count i h k e in
+      let a = first good (λ x y. x.counter ≤ y.counter) (λ x y. le-or x.counter y.counter)
+      (λ x y z p q. omega arith) m.count i h k e in
+      let b = first good (λ x y. y.counter ≤ x.counter) (λ x y. le-or y.counter x.counter)
+      (λ x y z p q. omega arith) m.count i h k e in
       let p = number-some good m.count i h k e in (
         a,
         b,

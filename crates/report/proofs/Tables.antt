@@ -101,7 +101,8 @@ module _ (t : List ℕ) (fs : Faces) (e : misfitAt t fs ≡ none) (v l : ℕ) (r
       record {
         same-type = eqb-true _ _ (and-left (eqb f.vol-type r.«vol_type») (eqb f.pad r.«data_pad») a);
         same-pad = eqb-true _ _ (and-right (eqb f.vol-type r.«vol_type») (eqb f.pad r.«data_pad») a);
-        same-used = λ s. u ∙ ap some (sym (differs-false _ f.used (rw u at (or-left (differs (usedOf t fs v) f.used) _ (good-used s)))));
+        same-used = λ s. u ∙ ap some (sym
+            (differs-false _ f.used (rw u at (or-left (differs (usedOf t fs v) f.used) _ (good-used s)))));
         used-within = λ s. ltb-false r.reserved f.used (or-right (differs (usedOf t fs v) f.used) _ (good-used s));
       }
 
@@ -119,7 +120,8 @@ module _ (f : ℕ → ℕ) where
   sum-most : (c : ℕ) → ((i : ℕ) → c ≤ i → f i ≡ 0) → (k : ℕ) → sumBelow k f ≤ sumBelow c f
   sum-most c h zero = omega arith
   sum-most c h (suc k) =
-      ⊎-elim (λ (l : k < c). sum-grows f (suc k) c l) (λ (l : c ≤ k). omega (arith, h k l, sum-most c h k)) (lt-or-le k c)
+      ⊎-elim (λ (l : k < c). sum-grows f (suc k) c l) (λ (l : c ≤ k). omega (arith, h k l, sum-most c h k))
+      (lt-or-le k c)
 
 -- t are the records of the table taken from one of two copies, which is good
 pub record TakenFrom (size unit pebs : ℕ) (copy0 copy1 t : List ℕ) : Type 0 where
@@ -129,12 +131,14 @@ pub record TakenFrom (size unit pebs : ℕ) (copy0 copy1 t : List ℕ) : Type 0 
   pub is : t ≡ recordsPart size content
 
 module _ (size unit pebs : ℕ) (copy0 copy1 : List ℕ) where
-  pub taken : (k : ℕ) → takenLeb size unit pebs copy0 copy1 ≡ given k → TakenFrom size unit pebs copy0 copy1 (takenRecords size unit pebs copy0 copy1)
+  pub taken : (k : ℕ) → takenLeb size unit pebs copy0 copy1 ≡ given k
+      → TakenFrom size unit pebs copy0 copy1 (takenRecords size unit pebs copy0 copy1)
   unfolding takenLeb takenRecords
   taken k e = go (tableGood size unit pebs copy0) refl (tableGood size unit pebs copy1) refl e
     where
       go : (b : Bool) → tableGood size unit pebs copy0 ≡ b → (c : Bool) → tableGood size unit pebs copy1 ≡ c
-          → cond b (given 0) (cond c (given 1) (refused 11 0)) ≡ given k → TakenFrom size unit pebs copy0 copy1 (takenRecords size unit pebs copy0 copy1)
+          → cond b (given 0) (cond c (given 1) (refused 11 0)) ≡ given k
+          → TakenFrom size unit pebs copy0 copy1 (takenRecords size unit pebs copy0 copy1)
       go true p c q e = record { content = copy0; from = inl refl; good = p; is = rw p }
       go false p true q e = record { content = copy1; from = inr refl; good = q; is = rw (p, q) }
       go false p false q e = absurd (let z : _≡_ {A = ℕ} 0 1 = cc in omega arith)
@@ -143,11 +147,13 @@ module _ (size unit pebs : ℕ) (copy0 copy1 : List ℕ) where
     past-count : (v : ℕ) → recordCount size ≤ v → recordOf (recordAt t v) .reserved ≡ 0
     unfolding recordOf recordsPart beFrom
     past-count v h =
-        let l : length t ≤ 172 * v = rw (T.is, length-take) (omega (arith, min-le-left (172 * recordCount size) (length T.content))) in
+        let l : length t ≤ 172 * v = rw (T.is, length-take)
+        (omega (arith, min-le-left (172 * recordCount size) (length T.content))) in
         rw (drop-of-length-le t l)
 
     -- a record that is not empty is one of the LEB's, and good
-    reserves-good : (v : ℕ) → 0 < recordOf (recordAt t v) .reserved → (v < recordCount size) × (recordGood size unit (recordAt t v) ≡ true)
+    reserves-good : (v : ℕ) → 0 < recordOf (recordAt t v) .reserved
+        → (v < recordCount size) × (recordGood size unit (recordAt t v) ≡ true)
     reserves-good v h =
         ⊎-elim
         (λ (k : v < recordCount size). (

@@ -17,12 +17,14 @@ use Rattle.transfer.specs.Transfer.{begun, afterBytes, afterInterruption
 
 -- ---- an answer's sign
 
-pub negative : (room : ℕ) (p : Progress) (z : ℤ) (i : Bool) → ltZ z (pos 0) ≡ true → afterError p i ≡ afterCall room p z i
+pub negative : (room : ℕ) (p : Progress) (z : ℤ) (i : Bool) → ltZ z (pos 0) ≡ true
+    → afterError p i ≡ afterCall room p z i
 unfolding afterCall
 negative room p (pos n) i h = absurd (omega (arith, ltb-true n 0 h))
 negative room p (negsuc n) i h = refl
 
-pub not-negative : (room : ℕ) (p : Progress) (z : ℤ) (i : Bool) → ltZ z (pos 0) ≡ false → afterBytes room p (natAbs z) ≡ afterCall room p z i
+pub not-negative : (room : ℕ) (p : Progress) (z : ℤ) (i : Bool) → ltZ z (pos 0) ≡ false
+    → afterBytes room p (natAbs z) ≡ afterCall room p z i
 unfolding afterCall
 not-negative room p (pos n) i h = refl
 not-negative room p (negsuc n) i h = absurd (subst T h tt)
@@ -47,7 +49,8 @@ Told room p z Full = p.moved + bytesOf z ≡ room
 Told room p z (Ended n) = (z ≡ pos 0) × (n ≡ p.moved)
 Told room p z Failed = Unit {0}
 
-told-bytes : (room : ℕ) (p : Progress) (n : ℕ) (a b d : Bool) → eqb n 0 ≡ a → ltb (p.moved + n) room ≡ b → eqb (p.moved + n) room ≡ d
+told-bytes : (room : ℕ) (p : Progress) (n : ℕ) (a b d : Bool) → eqb n 0 ≡ a → ltb (p.moved + n) room ≡ b
+    → eqb (p.moved + n) room ≡ d
     → Told room p (pos n)
     (cond a (Ended p.moved) (cond b (On (record { moved = p.moved + n; tries = p.tries })) (cond d Full Failed)))
 told-bytes room p n true b d ea eb ed = (ap pos (eqb-true n 0 ea), refl)
@@ -106,7 +109,8 @@ goes-first room z cs p q goes (Ended n) k e =
 goes-first room z cs p q goes Failed k e =
     let s = sym (stays room Failed (λ c. refl) cs) ∙ e in absurd (let o : _≡_ {A = ℕ} 0 1 = cc in omega arith)
 
-goes : (room : ℕ) (cs : List Call) (p q : Progress) → p.moved < room → afterCalls room (On p) cs ≡ On q → Goes room (On p) p.moved cs q
+goes : (room : ℕ) (cs : List Call) (p q : Progress) → p.moved < room → afterCalls room (On p) cs ≡ On q
+    → Goes room (On p) p.moved cs q
 unfolding afterCalls total
 goes room [] p q h e =
     let k : p ≡ q = cc in

@@ -78,7 +78,18 @@ module _ (size unit : ℕ) (v : VolumeRecord) where
       → eqb (bitAnd v.flags 0xFC) 0 ≡ allOf (recordRules size unit v)
   unfolding recordRules
   flags-decide r a z m p t u n l e =
-      rw (above-zero _ r, above-zero _ a, le-leb _ _ z, m, eq-eqb _ _ p, t, le-leb _ _ u, above-zero _ n, le-leb _ _ l, e)
+      rw (
+        above-zero _ r,
+        above-zero _ a,
+        le-leb _ _ z,
+        m,
+        eq-eqb _ _ p,
+        t,
+        le-leb _ _ u,
+        above-zero _ n,
+        le-leb _ _ l,
+        e,
+      )
       (sym (and-true (eqb (bitAnd v.flags 0xFC) 0)))
 
 -- ---- what a record is

@@ -47,10 +47,15 @@ module _ (v : VolumeRecord) (long : length v.name ≡ 128) where
   unfolding recordTail toBeOn
   head-length = ap length head-is ∙ rw (length-append, length-append, numbers-length, long)
 
-  head-stored : (t : List ℕ) → nameStored v.name (kindStored v (sizesStored v (replicate 172 0 ++ t))) ≡ recordHead v ++ (replicate 4 0 ++ t)
+  head-stored : (t : List ℕ) → nameStored v.name (kindStored v (sizesStored v (replicate 172 0 ++ t))) ≡ recordHead v ++
+      (replicate 4 0 ++ t)
   unfolding nameStored recordHead recordNumbers recordTail
   head-stored t =
-      rw (numbers-stored t, put-middle 16 v.name (recordNumbers v) (replicate 128 0) (recordTail v ++ (replicate 4 0 ++ t)) numbers-length long)
+      rw (
+        numbers-stored t,
+        put-middle 16 v.name (recordNumbers v) (replicate 128 0)
+            (recordTail v ++ (replicate 4 0 ++ t)) numbers-length long,
+      )
       (sym (simp append-assoc))
 
   crc-stored : (t : List ℕ) → crcStored (recordHead v ++ (replicate 4 0 ++ t)) ≡ recordBytes v ++ t
@@ -98,11 +103,17 @@ module _ (v : VolumeRecord) (f : RecordFits v) where
   record-crc =
       let c : ℕ = crcOf (recordHead v) in
       let l = head-length v f.name-long in
-      rw (take-at (recordHead v) (toBe 4 c) 168 l, drop-at (recordHead v) (toBe 4 c) 168 l, take-all 4 (toBe 4 c) (omega (arith, length-toBe 4 c)))
+      rw (
+        take-at (recordHead v) (toBe 4 c) 168 l,
+        drop-at (recordHead v) (toBe 4 c) 168 l,
+        take-all 4 (toBe 4 c)
+            (omega (arith, length-toBe 4 c)),
+      )
       (eq-eqb _ _ (sym (read-back-fits 4 c (crcOf-lt (recordHead v) head-bytes))))
 
   -- behind the 16 bytes of the numbers
-  behind : (t : List ℕ) → (take 128 (v.name ++ recordTail v ++ t) ≡ v.name) × (drop 128 (v.name ++ recordTail v ++ t) ≡ recordTail v ++ t)
+  behind : (t : List ℕ) → (take 128 (v.name ++ recordTail v ++ t) ≡ v.name) ×
+      (drop 128 (v.name ++ recordTail v ++ t) ≡ recordTail v ++ t)
   behind t =
       rw (append-assoc v.name (recordTail v) t)
       (take-at v.name (recordTail v ++ t) 128 f.name-long, drop-at v.name (recordTail v ++ t) 128 f.name-long)

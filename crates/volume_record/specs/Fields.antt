@@ -1,5 +1,5 @@
--- The fields of a volume record by name, as the code goes by them. Only contracts of inner functions cite it; `recordOf`
--- says the same places. Assumes nothing.
+-- The fields of a volume record by name, as the code goes by them. No public promise names it; `recordOf` and
+-- `recordCrcMatches` say the same places. Assumes nothing.
 use mathlib.Core.List.{List, [], _∷_}
 use Rattle.field.specs.Fields.{field}
 use Rattle.field.specs.declared.Field.{Field}

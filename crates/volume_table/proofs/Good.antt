@@ -77,6 +77,7 @@ module _ (size unit pebs : ℕ) (content : List ℕ) (g : tableGood size unit pe
   records-fine =
       all-at (recordCount size) (λ (i : ℕ). emptyOrGood size unit (recordAt (recordsPart size content) i)) (rule 2)
 
-  pub reserved-within : sumBelow (recordCount size) (λ (i : ℕ). recordOf (recordAt (recordsPart size content) i) .reserved) ≤ pebs - 2
+  pub reserved-within : sumBelow (recordCount size)
+      (λ (i : ℕ). recordOf (recordAt (recordsPart size content) i) .reserved) ≤ pebs - 2
   unfolding tableTests tableRules
   reserved-within = leb-true _ _ (rule 5)

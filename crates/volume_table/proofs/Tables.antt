@@ -109,7 +109,8 @@ fine-other size unit r p t g = g ∙ rw (← p, t)
 
 pub tallied-as : (size unit : ℕ) (s : Tally) (r : List ℕ) {v : VolumeRecord} {f : Bool} → v ≡ recordOf r
     → f ≡ emptyOrGood size unit r
-    → record { good = f; reserved = s.reserved + v.reserved; autoresize = s.autoresize + bitAnd v.flags 1 } ≡ tallied size unit s r
+    → record { good = f; reserved = s.reserved + v.reserved; autoresize = s.autoresize + bitAnd v.flags 1 } ≡ tallied
+    size unit s r
 unfolding tallied
 tallied-as size unit s r p q = rw (p, q)
 
@@ -137,7 +138,12 @@ module _ (size unit : ℕ) (t : List ℕ) where
       reserved = λ _. ap (λ (x : Tally). x.reserved) e ∙ rw (add-one, h.reserved f);
       autoresize = λ _.
           ap (λ (x : Tally). x.autoresize) e
-          ∙ rw (add-one, h.autoresize f, ← (bit-counts (bitAnd (recordOf (recordAt t i) .flags) 1) (and-le-r (recordOf (recordAt t i) .flags) 1)));
+          ∙ rw (
+            add-one,
+            h.autoresize f,
+            ←
+                (bit-counts (bitAnd (recordOf (recordAt t i) .flags) 1) (and-le-r (recordOf (recordAt t i) .flags) 1)),
+          );
     }
 
     -- it is neither: the rest does not matter
@@ -199,7 +205,19 @@ module _ (size unit pebs : ℕ) (content : List ℕ) {n : ℕ} {t : List ℕ} {s
     unfolding tableGood tableTests tableRules
     names-decide z l a r d =
         d
-        ∙ rw (← h.count, ← h.records, above-zero _ z, le-leb _ _ l, ← h.sums.good, f, ← (h.sums.autoresize f), le-leb _ _ a, ← (h.sums.reserved f), le-leb _ _ r)
+        ∙ rw (
+          ← h.count,
+          ← h.records,
+          above-zero _ z,
+          le-leb _ _ l,
+          ← h.sums.good,
+          f,
+          ←
+              (h.sums.autoresize f),
+          le-leb _ _ a,
+          ← (h.sums.reserved f),
+          le-leb _ _ r,
+        )
         (sym (and-true (not (anyBelow n (λ (j : ℕ). anyBelow j (repeats t j))))))
 
 -- ---- the table taken

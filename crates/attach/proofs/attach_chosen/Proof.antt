@@ -11,7 +11,8 @@ returns c =
     let at-enum-told = at-refuse.before.before.before.before in let t = at-enum-told.before.before in
     let at-layout-content = t.before.before.before.before in
     let start = at-layout-content.before.before.before.before.before.before.before in
-    let q = no-table start.pre at-layout-content.layout-content.ensures t.before.layout-content2.ensures t.choose-table.result.taken in
+    let q = no-table start.pre at-layout-content.layout-content.ensures t.before.layout-content2.ensures
+    t.choose-table.result.taken in
     ended-refused _ (q t.choose-table.ensures.0 at-enum-told.enum-told.given.1) at-refuse.refuse.ensures
 
 report-on-requires : tie.Need-report-on-requires

@@ -22,8 +22,14 @@ loop-holds c = (omega arith, (refl, paste-zero c.args.out.now c.args.at c.args.b
 loop-again : tie.Need-loop-again Inv-loop μ-loop
 loop-again c =
     let l = c.before.before.loop in
-    let a = c.before.before.before.args in
-    (omega arith, (rw length-set l.inv.1.0, rw (l.inv.1.1, add-one) (paste-suc a.out.now a.at a.bytes.now l.i 0 (omega arith) (omega arith))))
+    let a = c.before.before.before.args in (
+      omega arith,
+      (
+        rw length-set l.inv.1.0,
+        rw (l.inv.1.1, add-one)
+            (paste-suc a.out.now a.at a.bytes.now l.i 0 (omega arith) (omega arith)),
+      ),
+    )
 
 same-length : tie.Need-same-length Inv-loop μ-loop
 same-length c = c.before.loop.inv.1.0

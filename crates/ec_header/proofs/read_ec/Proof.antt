@@ -20,7 +20,12 @@ returns-3 : tie.Need-returns-3
 unfolding ecRead readEc
 returns-3 c =
     let at-is-header = c.before.before.before in let at-if1 = at-is-header.before.before in
-    c .judge-ec .ensures ∙ rw (le-ltb _ _ at-if1.if1.left, was-true at-is-header.is-header.ensures c.before.before.if2.left, c.before.ec-fields.ensures)
+    c .judge-ec .ensures ∙ rw (
+      le-ltb _ _ at-if1.if1.left,
+      was-true at-is-header.is-header.ensures
+          c.before.before.if2.left,
+      c.before.ec-fields.ensures,
+    )
 
 pub read-ec-spec : {M : Type 1} → statement M
 read-ec-spec =

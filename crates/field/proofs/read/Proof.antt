@@ -34,8 +34,14 @@ add-v-2 c =
 loop-again : tie.Need-loop-again Inv-loop μ-loop
 loop-again c =
     let i = c.before.before.loop.i in
-    let a = c.before.before.before.args in
-    (omega arith, (grows c.before.before.loop.v i _ (omega arith) (omega (arith, byte c)), cc (beOf-next a.s.now a.at i (omega arith))))
+    let a = c.before.before.before.args in (
+      omega arith,
+      (
+        grows c.before.before.loop.v i _ (omega arith) (omega (arith, byte c)),
+        cc
+            (beOf-next a.s.now a.at i (omega arith)),
+      ),
+    )
 
 returns : tie.Need-returns Inv-loop μ-loop
 returns c =

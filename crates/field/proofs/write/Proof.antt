@@ -20,8 +20,14 @@ loop-holds c = (omega arith, (refl, refl))
 
 loop-again : tie.Need-loop-again Inv-loop μ-loop
 loop-again c =
-    let l = c.before.loop in
-    (omega arith, (rw length-set l.inv.1.0, store-step c.before.before.args.at l.i l.v l.s (omega arith) (omega arith) ∙ l .inv .1 .1))
+    let l = c.before.loop in (
+      omega arith,
+      (
+        rw length-set l.inv.1.0,
+        store-step c.before.before.args.at l.i l.v l.s (omega arith) (omega arith)
+            ∙ l .inv .1 .1,
+      ),
+    )
 
 same-length : tie.Need-same-length Inv-loop μ-loop
 same-length c = c.before.loop.inv.1.0

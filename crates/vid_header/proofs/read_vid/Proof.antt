@@ -21,7 +21,11 @@ unfolding vidRead readVid
 returns-3 c =
     let at-is-header = c.before.before.before in let at-if1 = at-is-header.before.before in
     c .judge-vid .ensures
-    ∙ rw (le-ltb _ _ at-if1.if1.left, was-true at-is-header.is-header.ensures c.before.before.if2.left, c.before.vid-fields.ensures)
+    ∙ rw (
+      le-ltb _ _ at-if1.if1.left,
+      was-true at-is-header.is-header.ensures c.before.before.if2.left,
+      c.before.vid-fields.ensures,
+    )
 
 pub read-vid-spec : {M : Type 1} → statement M
 read-vid-spec =

@@ -31,8 +31,11 @@ returns-3 c =
     let at-vid-readable = at-if2.before in let a = at-vid-readable.before.before.before.args in
     let s : 64 ≤ length a.out.now = omega arith in
     let g = was-true at-vid-readable.vid-readable.ensures at-if2.if2.left in
-    let w = vid-wrote a.out.now s a.leb-size a.h g at-begin.begin.ensures at-set-kind.set-kind.ensures in
-    (rw (le-ltb _ _ s, g), w at-set-volume.set-volume.ensures at-set-data.set-data.ensures c.before.before.finish.ensures)
+    let w = vid-wrote a.out.now s a.leb-size a.h g at-begin.begin.ensures at-set-kind.set-kind.ensures in (
+      rw (le-ltb _ _ s, g),
+      w at-set-volume.set-volume.ensures at-set-data.set-data.ensures
+          c.before.before.finish.ensures,
+    )
 
 pub write-vid-spec : {M : Type 1} → statement M
 write-vid-spec =

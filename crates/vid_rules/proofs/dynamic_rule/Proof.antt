@@ -24,7 +24,13 @@ returns-4 : tie.Need-returns-4
 unfolding dynamicRule
 returns-4 c =
     let at-if2 = c.before.before.before.before.before in let at-if1 = at-if2.before.before in
-    rw (eq-eqb _ _ at-if1.if1.left, eq-eqb _ _ at-if2.if2.left, c.before.before.before.if3.taken, eq-eqb _ _ c.before.if4.left) (sym (and-true _))
+    rw (
+      eq-eqb _ _ at-if1.if1.left,
+      eq-eqb _ _ at-if2.if2.left,
+      c.before.before.before.if3.taken,
+      eq-eqb _ _
+          c.before.if4.left,
+    ) (sym (and-true _))
 
 returns-5 : tie.Need-returns-5
 unfolding dynamicRule
@@ -36,7 +42,13 @@ returns-6 : tie.Need-returns-6
 unfolding dynamicRule
 returns-6 c =
     let at-if2 = c.before.before.before.before in let at-if1 = at-if2.before.before in
-    rw (eq-eqb _ _ at-if1.if1.left, eq-eqb _ _ at-if2.if2.left, ne-eqb _ _ c.before.before.if3.left, ne-eqb _ _ c.if5.left)
+    rw (
+      eq-eqb _ _ at-if1.if1.left,
+      eq-eqb _ _ at-if2.if2.left,
+      ne-eqb _ _ c.before.before.if3.left,
+      ne-eqb _ _
+          c.if5.left,
+    )
 
 pub dynamic-rule-spec : {M : Type 1} → statement M
 dynamic-rule-spec = tie.close (tie.spec returns returns-2 returns-3 returns-4 returns-5 returns-6)

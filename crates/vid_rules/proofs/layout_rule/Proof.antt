@@ -22,13 +22,25 @@ returns-4 : tie.Need-returns-4
 unfolding layoutRule
 returns-4 c =
     let at-if2 = c.before.before.before.before in let at-if1 = at-if2.before.before in
-    rw (eq-eqb _ _ at-if1.if1.left, eq-eqb _ _ at-if2.if2.left, eq-eqb _ _ c.before.before.if3.left, ne-eqb _ _ c.if4.taken)
+    rw (
+      eq-eqb _ _ at-if1.if1.left,
+      eq-eqb _ _ at-if2.if2.left,
+      eq-eqb _ _ c.before.before.if3.left,
+      ne-eqb _ _
+          c.if4.taken,
+    )
 
 returns-5 : tie.Need-returns-5
 unfolding layoutRule
 returns-5 c =
     let at-if2 = c.before.before.before.before.before in let at-if1 = at-if2.before.before in
-    rw (eq-eqb _ _ at-if1.if1.left, eq-eqb _ _ at-if2.if2.left, eq-eqb _ _ c.before.before.before.if3.left, eq-eqb _ _ c.before.if4.left)
+    rw (
+      eq-eqb _ _ at-if1.if1.left,
+      eq-eqb _ _ at-if2.if2.left,
+      eq-eqb _ _ c.before.before.before.if3.left,
+      eq-eqb _ _
+          c.before.if4.left,
+    )
 
 pub layout-rule-spec : {M : Type 1} → statement M
 layout-rule-spec = tie.close (tie.spec returns returns-2 returns-3 returns-4 returns-5)

@@ -22,8 +22,14 @@ loop-holds c = (omega arith, (c.pre, sym (append-nil (take 137 c.args.kept.now))
 
 loop-again : tie.Need-loop-again Inv-loop μ-loop
 loop-again c =
-    let l = c.before.loop in
-    (omega arith, (simp length-set l.inv.1.0, clear-turn 137 l.j (take 137 c.before.before.args.kept.now) l.kept (omega arith) l.inv.1.1))
+    let l = c.before.loop in (
+      omega arith,
+      (
+        simp length-set l.inv.1.0,
+        clear-turn 137 l.j (take 137 c.before.before.args.kept.now) l.kept
+            (omega arith) l.inv.1.1,
+      ),
+    )
 
 returns : tie.Need-returns Inv-loop μ-loop
 returns c =

@@ -28,15 +28,30 @@ loop-again : tie.Need-loop-again Inv-loop μ-loop
 loop-again c =
     let at-block-length = c.before.before.before.before.before in let at-loop = at-block-length.before.before in
     let start = at-loop.before.before in let l = at-loop.loop in let s = start.args.bytes.now in
-    let n = at-block-length.block-length.result in let f = c.before.before.fold-block in
-    (omega arith, (c.slide.ensures.0, block-done s l.kept f.last.0 c.slide.last.0 l.i n c.slide.ensures.1 (rw to-end at f.ensures.1) ∙ l .inv .1 .1))
+    let n = at-block-length.block-length.result in let f = c.before.before.fold-block in (
+      omega arith,
+      (
+        c.slide.ensures.0,
+        block-done s l.kept f.last.0 c.slide.last.0 l.i n c.slide.ensures.1
+            (rw to-end at f.ensures.1) ∙ l .inv .1 .1,
+      ),
+    )
 
 reduce-requires : tie.Need-reduce-requires Inv-loop μ-loop
 reduce-requires c κs =
     let at-loop = c.before.before.before.before.before in let start = at-loop.before.before in
     let b = at-loop.loop.kept in let d = c.before.before.clear in
-    let h : length (take 137 b) ≡ 137 = length-take-le 137 b (omega arith) in
-    (start.pre.0, (d.ensures.0, (cleared (take 137 b) (take 222 d.last.0) h d.ensures.1 .0, rw (to-end, length-drop) (omega arith))))
+    let h : length (take 137 b) ≡ 137 = length-take-le 137 b (omega arith) in (
+      start.pre.0,
+      (
+        d.ensures.0,
+        (
+          cleared (take 137 b) (take 222 d.last.0) h d.ensures.1 .0,
+          rw (to-end, length-drop)
+              (omega arith),
+        ),
+      ),
+    )
 
 returns : tie.Need-returns Inv-loop μ-loop
 returns c =

@@ -18,7 +18,15 @@ returns c =
     let w84 : getD b (a.j + 84) 0 < 2 ^ 32 = omega (arith, c.before.before.before.word-at4.ensures) in
     let w80 : getD b (a.j + 80) 0 < 2 ^ 32 = omega (arith, c.before.before.word-at5.ensures) in
     let w70 : getD b (a.j + 70) 0 < 2 ^ 32 = omega (arith, c.before.word-at6.ensures) in
-    cc (pending-word a.j b, mod-eq-of-lt w84, mod-eq-of-lt w80, mod-eq-of-lt w70, mod-eq-of-lt w29, mod-eq-of-lt w8, mod-eq-of-lt w0)
+    cc (
+      pending-word a.j b,
+      mod-eq-of-lt w84,
+      mod-eq-of-lt w80,
+      mod-eq-of-lt w70,
+      mod-eq-of-lt w29,
+      mod-eq-of-lt w8,
+      mod-eq-of-lt w0,
+    )
 
 pub sum-at-spec : {M : Type 1} → statement M
 sum-at-spec =

@@ -19,8 +19,15 @@ abbrev μ-loop : tie.MeasureT-loop
 loop-again : tie.Need-loop-again Inv-loop μ-loop
 loop-again c =
     let at-loop = c.before.before.before.before.before in let s = at-loop.before in let l = at-loop.loop in
-    let e = crcFrom-three l.c l.i s.before.args.bytes.now (λ k. s.shared-slice-known.given k .fits) (omega arith) in
-    (omega arith, rw (c.three.ensures, c.before.before.before.read-four.ensures, c.before.before.read-four2.ensures, c.before.read-four3.ensures) (e ∙ l .inv .1))
+    let e = crcFrom-three l.c l.i s.before.args.bytes.now (λ k. s.shared-slice-known.given k .fits) (omega arith) in (
+      omega arith,
+      rw (
+        c.three.ensures,
+        c.before.before.before.read-four.ensures,
+        c.before.before.read-four2.ensures,
+        c.before.read-four3.ensures,
+      ) (e ∙ l .inv .1),
+    )
 
 returns : tie.Need-returns Inv-loop μ-loop
 returns c = c.by-four.ensures ∙ rw to-end c.before.before.before.loop.inv.1

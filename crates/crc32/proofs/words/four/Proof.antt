@@ -28,8 +28,14 @@ loop-again c =
     let row = c.before.before.before.args.row in
     let n = l.k - 1 in
     let e : 4 * l.k ≡ 4 * n + 4 = omega arith in
-    let f : row + l.k ≡ row + n + 1 = omega arith in
-    (omega arith, (shr-lt (4 * n) 4 (rw e at l.inv.1.0), rw c.entry.ensures (nibble-more l.c (row + n) l.rest ∙ rw f at l.inv.1.1)))
+    let f : row + l.k ≡ row + n + 1 = omega arith in (
+      omega arith,
+      (
+        shr-lt (4 * n) 4 (rw e at l.inv.1.0),
+        rw c.entry.ensures
+            (nibble-more l.c (row + n) l.rest ∙ rw f at l.inv.1.1),
+      ),
+    )
 
 returns : tie.Need-returns Inv-loop μ-loop
 returns c =

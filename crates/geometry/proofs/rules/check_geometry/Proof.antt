@@ -21,7 +21,8 @@ unit-good c =
 sub-unit-good : (c : tie.Else2) → goodUnit c.before.before.before.before.args.sub-unit ≡ true
 sub-unit-good c = was-true c.before.is-unit2.ensures c.if2.left
 
-unit-small : (c : tie.Else2) → (0 < c.before.before.before.before.args.unit) × (c.before.before.before.before.args.unit < 8192)
+unit-small : (c : tie.Else2) → (0 < c.before.before.before.before.args.unit) ×
+    (c.before.before.before.before.args.unit < 8192)
 unit-small c =
     let start = c.before.before.before.before in
     unit-range start.args.unit (unit-good c)

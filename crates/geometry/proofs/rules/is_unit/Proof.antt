@@ -24,7 +24,13 @@ returns c = sym (power-found c.before.before.before.args.n c.before.before.loop.
 
 mul-power : tie.Need-mul-power Inv-loop μ-loop
 mul-power c =
-    record { fits = omega (arith, pow-le-pow-right {n = 2} (lit< tt) {i = c.before.before.loop.k} {j = 12} (omega arith)) }
+    record {
+      fits = omega (
+        arith,
+        pow-le-pow-right {n = 2} (lit< tt) {i = c.before.before.loop.k} {j = 12}
+            (omega arith),
+      );
+    }
 
 loop-again : tie.Need-loop-again Inv-loop μ-loop
 loop-again c =

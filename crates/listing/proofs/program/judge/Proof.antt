@@ -9,7 +9,8 @@ use Rattle.listing.proofs.program.judge.Tie as tie
 slice-aggregate-refuse-long : tie.Need-slice-aggregate-refuse-long
 slice-aggregate-refuse-long c =
     let d = c.before.before.before.slip-end in
-    sym (length-take-le d.result c.before.before.before.before.before.before.before.before.args.input.now d.ensures.within)
+    sym (length-take-le d.result c.before.before.before.before.before.before.before.before.args.input.now
+    d.ensures.within)
 
 returns : tie.Need-returns
 returns c =
@@ -22,7 +23,8 @@ returns c =
 slice-aggregate-attach : tie.Need-slice-aggregate-attach
 slice-aggregate-attach c =
     let d = c.before.before.before.slip-end in
-    sym (length-take-le d.result c.before.before.before.before.before.before.before.before.args.input.now d.ensures.within)
+    sym (length-take-le d.result c.before.before.before.before.before.before.before.before.args.input.now
+    d.ensures.within)
 
 returns-2 : tie.Need-returns-2
 returns-2 c =

@@ -10,13 +10,16 @@ use Rattle.listing.proofs.program.refuse_long.Statement.{statement}
 use Rattle.listing.proofs.program.refuse_long.Tie as tie
 
 returns : tie.Need-returns
-returns c = ap (λ (x : Answer Geometry). answerOf (afterSlip x)) (sym (ap geometryRead c.before.r.given.1) ∙ c .before .before .before .read-slip .ensures)
+returns c = ap (λ (x : Answer Geometry). answerOf (afterSlip x))
+    (sym (ap geometryRead c.before.r.given.1) ∙ c .before .before .before .read-slip .ensures)
 
 returns-2 : tie.Need-returns-2
-returns-2 c = ap (λ (x : Answer Geometry). answerOf (afterSlip x)) (sym (ap geometryRead c.enum-told.given.1) ∙ c .before .before .read-slip .ensures)
+returns-2 c = ap (λ (x : Answer Geometry). answerOf (afterSlip x))
+    (sym (ap geometryRead c.enum-told.given.1) ∙ c .before .before .read-slip .ensures)
 
 returns-3 : tie.Need-returns-3
-returns-3 c = ap (λ (x : Answer Geometry). answerOf (afterSlip x)) (sym (ap geometryRead c.enum-told2.given.1) ∙ c .before .before .read-slip .ensures)
+returns-3 c = ap (λ (x : Answer Geometry). answerOf (afterSlip x))
+    (sym (ap geometryRead c.enum-told2.given.1) ∙ c .before .before .read-slip .ensures)
 
 pub refuse-long-spec : {M : Type 1} → statement M
 refuse-long-spec =

@@ -25,7 +25,8 @@ returns c =
     let at-attach = at-r.before.before.before.before.before.before.before.before in
     let a = at-attach.before.before.before.before.before.before.before.before.before.args in
     let e = at-attach.attach.ensures in let r = at-r.r.given in
-    let b = begun (request a.slip.now) a.image.now (longEnough (lent a.pebs.now a.map.now a.states.now)) r.0.0 (sym (ap attachedAnswer r.1) ∙ e .0) in
+    let b = begun (request a.slip.now) a.image.now (longEnough (lent a.pebs.now a.map.now a.states.now)) r.0.0
+    (sym (ap attachedAnswer r.1) ∙ e .0) in
     (b a.volume a.lnum a.target c.plan-move.ensures, e.1)
 
 returns-2 : tie.Need-returns-2

@@ -22,8 +22,12 @@ returns-2 c =
 plan-peb-requires : tie.Need-plan-peb-requires
 plan-peb-requires c κs =
     let start = c.before.before.before.before.before.before.before.before.before.before.before.before in
-    let a = start.args in let t = start.pre.told in
-    (t, found-copy t a.volume a.lnum a.target c.before.place.given.0.0 (sym (start.pre.found a.volume a.lnum) ∙ sym c.before.before.before.find-leb.ensures ∙ ap placeAnswer c.before.place.given.1))
+    let a = start.args in let t = start.pre.told in (
+      t,
+      found-copy t a.volume a.lnum a.target c.before.place.given.0.0
+          (sym (start.pre.found a.volume a.lnum) ∙ sym c.before.before.before.find-leb.ensures
+          ∙ ap placeAnswer c.before.place.given.1),
+    )
 
 returns-3 : tie.Need-returns-3
 returns-3 c =

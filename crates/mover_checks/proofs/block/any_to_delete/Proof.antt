@@ -28,8 +28,11 @@ returns c =
 
 loop-again : tie.Need-loop-again Inv-loop μ-loop
 loop-again c =
-    let at-loop = c.before.before.before in let a = at-loop.before.before.before.args in
-    (omega arith, one-more (λ (j : ℕ). isInternal 1 (copies (viewsOf a.g a.image.now) j) ≡ false) at-loop.loop.i at-loop.loop.inv.1 (sym c.before.to-delete-at.ensures ∙ c .if1 .left))
+    let at-loop = c.before.before.before in let a = at-loop.before.before.before.args in (
+      omega arith,
+      one-more (λ (j : ℕ). isInternal 1 (copies (viewsOf a.g a.image.now) j) ≡ false) at-loop.loop.i
+          at-loop.loop.inv.1 (sym c.before.to-delete-at.ensures ∙ c .if1 .left),
+    )
 
 returns-2 : tie.Need-returns-2 Inv-loop μ-loop
 returns-2 c =

@@ -9,7 +9,9 @@ use Rattle.mover_checks.proofs.copy.content_size.Tie as tie
 
 -- whole units stay within the LEB
 within : (c : tie.After-struct-known3)
-    → (c.before.data-end.result + (c.before.before.before.before.before.before.args.g.unit - 1)) / c.before.before.before.before.before.before.args.g.unit * c.before.before.before.before.before.before.args.g.unit ≤ c.before.before.before.before.before.before.args.g.«leb_size»
+    → (c.before.data-end.result + (c.before.before.before.before.before.before.args.g.unit - 1)) /
+    c.before.before.before.before.before.before.args.g.unit * c.before.before.before.before.before.before.args.g.unit ≤
+    c.before.before.before.before.before.before.args.g.«leb_size»
 within c =
     let d = c.before.before.before.before.before.before in
     rounded-within d.args.g d.args.p.now d.args.pad refl d.pre.0 c.before.data-end.ensures.1

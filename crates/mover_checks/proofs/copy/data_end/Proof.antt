@@ -21,8 +21,11 @@ loop-holds c = let s = c.args.s.now in (omega arith, ap dataEnd (take-all (lengt
 
 returns : tie.Need-returns Inv-loop μ-loop
 returns c =
-    let at-loop = c.before.before.before in let start = at-loop.before in
-    (end-stop start.args.s.now at-loop.loop.i (omega arith) (omega arith) c.if1.taken ∙ at-loop .loop .inv .1, omega arith)
+    let at-loop = c.before.before.before in let start = at-loop.before in (
+      end-stop start.args.s.now at-loop.loop.i (omega arith) (omega arith) c.if1.taken
+          ∙ at-loop .loop .inv .1,
+      omega arith,
+    )
 
 loop-again : tie.Need-loop-again Inv-loop μ-loop
 loop-again c =

@@ -5,7 +5,11 @@ use Rattle.mover_checks.proofs.copy.examine.Statement.{statement}
 use Rattle.mover_checks.proofs.copy.examine.Tie as tie
 
 read : (d : tie.After-struct-known3)
-    → Read d.before.before.before.before.before.before.before.args.g d.before.before.before.before.before.before.before.args.p.now d.before.before.before.before.before.before.before.args.h d.before.before.before.before.before.new-size.result d.before.before.before.before.both-crcs.result.old d.before.before.before.before.both-crcs.result.new d.before.is-damaged.result
+    → Read d.before.before.before.before.before.before.before.args.g
+    d.before.before.before.before.before.before.before.args.p.now
+    d.before.before.before.before.before.before.before.args.h d.before.before.before.before.before.new-size.result
+    d.before.before.before.before.both-crcs.result.old d.before.before.before.before.both-crcs.result.new
+    d.before.is-damaged.result
 read d = search needs
 
 returns : tie.Need-returns

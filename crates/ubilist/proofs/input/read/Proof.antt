@@ -35,7 +35,8 @@ returns : tie.Need-returns Inv-loop μ-loop
 returns c =
     let below : (n : ℕ) → c.before.before.after-call.result ≡ Ended n → n < 61441 =
     λ n e. ended-below _ _ _ _ (omega arith) c.before.before.after-call.ensures e in
-    subst (λ (i : Input). within i 61440) (sym c.input-of.ensures) (ended-within c.before.before.after-call.result below)
+    subst (λ (i : Input). within i 61440) (sym c.input-of.ensures)
+    (ended-within c.before.before.after-call.result below)
 
 loop-less : tie.Need-loop-less Inv-loop μ-loop
 loop-less c =

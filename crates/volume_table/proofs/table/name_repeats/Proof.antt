@@ -42,8 +42,10 @@ returns c =
 
 names-clash-requires : tie.Need-names-clash-requires Inv-loop μ-loop
 names-clash-requires c κs =
-    let l = c.before.before in let d = l.before.before.before.before.before.before in let a = d.args in
-    (lent-length (172 * l.loop.i) 172 a.t.now (omega arith), (lent-length (172 * a.j) 172 a.t.now (omega arith), d.pre.1.1))
+    let l = c.before.before in let d = l.before.before.before.before.before.before in let a = d.args in (
+      lent-length (172 * l.loop.i) 172 a.t.now (omega arith),
+      (lent-length (172 * a.j) 172 a.t.now (omega arith), d.pre.1.1),
+    )
 
 returns-2 : tie.Need-returns-2 Inv-loop μ-loop
 returns-2 c =

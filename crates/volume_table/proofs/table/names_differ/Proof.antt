@@ -26,8 +26,11 @@ returns c =
 loop-again : tie.Need-loop-again Inv-loop μ-loop
 loop-again c =
     let at-loop = c.before.before.before in let start = at-loop.before.before.before in
-    let t = start.args.t.now in
-    (omega arith, any-more (λ (k : ℕ). anyBelow k (repeats t k)) at-loop.loop.j at-loop.loop.inv.1 (sym c.before.name-repeats.ensures ∙ c .if1 .left))
+    let t = start.args.t.now in (
+      omega arith,
+      any-more (λ (k : ℕ). anyBelow k (repeats t k)) at-loop.loop.j at-loop.loop.inv.1
+          (sym c.before.name-repeats.ensures ∙ c .if1 .left),
+    )
 
 returns-2 : tie.Need-returns-2 Inv-loop μ-loop
 returns-2 c =
