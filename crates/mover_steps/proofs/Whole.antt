@@ -27,11 +27,13 @@ module _ (g : Geometry) (p : Plan) (is : g ≡ planGeometry p) (image : List ℕ
   abbrev pub Left : List ℕ → Type 0
   Left y = y ≡ appliedWhole (writeAfter p image (p .steps)) image
 
-  by : {y : List ℕ} (k : ℕ) (w : Write) → p .steps ≡ k → relocating g (relocation p image) k ≡ w → y ≡ appliedWhole w image → Left y
+  pub after : {w : Write} (k : ℕ) → p .steps ≡ k → relocating g (relocation p image) k ≡ w
+      → writeAfter p image (p .steps) ≡ w
   unfolding writeAfter
-  by k w h e q =
-      let z : writeAfter p image (p .steps) ≡ w = ap (writeAfter p image) h ∙ (λ i. relocating (sym is i) (relocation p image) k) ∙ e in
-      q ∙ sym (ap (λ (x : Write). appliedWhole x image) z)
+  after k h e = ap (writeAfter p image) h ∙ (λ i. relocating (sym is i) (relocation p image) k) ∙ e
+
+  by : {y : List ℕ} (k : ℕ) (w : Write) → p .steps ≡ k → relocating g (relocation p image) k ≡ w → y ≡ appliedWhole w image → Left y
+  by k w h e q = q ∙ sym (ap (λ (x : Write). appliedWhole x image) (after k h e))
 
   pub left-vid : {y : List ℕ} {s : ℕ} → p .steps ≡ 0 → s ≡ p .target * g .«peb_size»
       → y ≡ put (s + g .«vid_start») (vidBytes (p .vid)) image → Left y
