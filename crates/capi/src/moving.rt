@@ -5,10 +5,12 @@ use crate::ON;
 use crate::UNFIT;
 use crate::attaching::store_refusal;
 use capi_words::PLAN_WORDS;
+use capi_words::WRITE_WORDS;
 use capi_words::store_words;
 use mover_rules::Begun;
 use mover_rules::Plan;
 use mover_rules::Stepped;
+use mover_steps::NextWrite;
 use report::refusal::SHORT_BUFFER;
 
 const MAY_NOT_RUN: u32 = 18;
@@ -105,4 +107,41 @@ pub extern "C" fn choduljin_finish(plan: &[u64], image: &mut [u8]) -> u32 {
     let p = capi_words::plan_in(plan);
     let s = mover_steps::finish(p, image);
     stepped_code(s)
+}
+
+fn store_write(kind: u64, at: usize, count: usize, write: &mut [u64])
+    requires { ⌜ 3 ≤ length (now write) ⌝ }
+{
+    let words = capi_words::write_words(kind, at, count);
+    store_words(write, &words)
+}
+
+#[no_mangle]
+pub extern "C" fn choduljin_next_write(plan: &[u64], image: &[u8], write: &mut [u64]) -> u32 {
+    if plan.len() < PLAN_WORDS {
+        return SHORT_BUFFER;
+    }
+    if write.len() < WRITE_WORDS {
+        return SHORT_BUFFER;
+    }
+    if !capi_words::fits(plan, &PLAN_MOST) {
+        return UNFIT;
+    }
+    let p = capi_words::plan_in(plan);
+    let w = mover_steps::next_write(p, image);
+    match w {
+        NextWrite::Store { at, length } => {
+            store_write(1, at, length, write);
+            return 0;
+        }
+        NextWrite::Erase { at, length } => {
+            store_write(2, at, length, write);
+            return 0;
+        }
+        NextWrite::Nothing => {
+            store_write(0, 0, 0, write);
+            return 0;
+        }
+        NextWrite::Refused => return MAY_NOT_RUN,
+    }
 }

@@ -16,6 +16,7 @@ pub use write::record_words;
 pub use write::refusal_words;
 pub use write::report_words;
 pub use write::vid_words;
+pub use write::write_words;
 
 // How many words each struct has.
 pub const REPORT_WORDS: usize = 17;
@@ -29,3 +30,5 @@ pub const EC_WORDS: usize = 5;
 pub const VID_WORDS: usize = 11;
 
 pub const RECORD_WORDS: usize = 7;
+
+pub const WRITE_WORDS: usize = 3;

@@ -123,3 +123,8 @@ pub fn record_words(r: VolumeRecord) -> [u64; 7] {
         r.flags as u64,
     ]
 }
+
+// A write that a step will do.
+pub fn write_words(kind: u64, at: usize, count: usize) -> [u64; 3] {
+    [kind, at as u64, count as u64]
+}
