@@ -4,9 +4,12 @@ mod store;
 mod write;
 
 pub use read::ec_in;
-pub use read::fits;
+pub use read::plan_fits;
+pub use read::vid_fits;
+pub use read::ec_fits;
+pub use read::attached_fits;
+pub use read::attached_in;
 pub use read::plan_in;
-pub use read::report_in;
 pub use read::vid_in;
 pub use store::store_words;
 pub use write::ec_words;

@@ -1,4 +1,10 @@
 // The words of each struct.
+ghost use mathlib.Core.Path.{_≡_};
+ghost use mathlib.Core.Bool.{cond};
+ghost use mathlib.Core.List.{[], _∷_};
+ghost use Rattle.base.specs.Answers.{given};
+ghost use Rattle.capi_words.specs.Structs.{geometryWords, ecWords, vidWords, recordWords, reportWords, planWords};
+ghost use Rattle.capi_words.specs.Structs.{answerWords};
 use geometry::Geometry;
 use header::EcHeader;
 use header::VidHeader;
@@ -6,7 +12,9 @@ use mover_rules::Plan;
 use report::Report;
 use volume_record::VolumeRecord;
 
-fn bit(b: bool) -> u64 {
+fn bit(b: bool) -> u64
+    ensures { λ r. ⌜ r ≡ cond b 1 0 ⌝ }
+{
     if b {
         return 1;
     }
@@ -14,11 +22,22 @@ fn bit(b: bool) -> u64 {
 }
 
 // A refusal: its number and place.
-pub fn refusal_words(number: u32, place: u32) -> [u64; 2] {
+pub fn refusal_words(number: u32, place: u32) -> [u64; 2]
+    ensures { λ w. ⌜ w ≡ number ∷ place ∷ [] ⌝ }
+{
     [number as u64, place as u64]
 }
 
-pub fn geometry_words(g: Geometry) -> [u64; 6] {
+// A write: which kind it is, from which byte of the image on, and how many bytes.
+pub fn write_words(kind: u64, at: usize, count: usize) -> [u64; 3]
+    ensures { λ w. ⌜ w ≡ kind ∷ at ∷ count ∷ [] ⌝ }
+{
+    [kind, at as u64, count as u64]
+}
+
+pub fn geometry_words(g: Geometry) -> [u64; 6]
+    ensures { λ w. ⌜ w ≡ geometryWords g ⌝ }
+{
     [
         g.peb_size as u64,
         g.unit as u64,
@@ -30,7 +49,9 @@ pub fn geometry_words(g: Geometry) -> [u64; 6] {
 }
 
 // A report, after the number and the place of no refusal.
-pub fn report_words(r: Report) -> [u64; 17] {
+pub fn report_words(r: Report) -> [u64; 17]
+    ensures { λ w. ⌜ w ≡ answerWords reportWords (given r) ⌝ }
+{
     let g = r.geometry;
     [
         0,
@@ -53,7 +74,9 @@ pub fn report_words(r: Report) -> [u64; 17] {
     ]
 }
 
-pub fn ec_words(h: EcHeader) -> [u64; 5] {
+pub fn ec_words(h: EcHeader) -> [u64; 5]
+    ensures { λ w. ⌜ w ≡ ecWords h ⌝ }
+{
     [
         h.version as u64,
         h.counter,
@@ -63,7 +86,9 @@ pub fn ec_words(h: EcHeader) -> [u64; 5] {
     ]
 }
 
-pub fn vid_words(h: VidHeader) -> [u64; 11] {
+pub fn vid_words(h: VidHeader) -> [u64; 11]
+    ensures { λ w. ⌜ w ≡ vidWords h ⌝ }
+{
     [
         h.version as u64,
         h.vol_type as u64,
@@ -80,7 +105,9 @@ pub fn vid_words(h: VidHeader) -> [u64; 11] {
 }
 
 // A plan, after the number and the place of no refusal.
-pub fn plan_words(p: Plan) -> [u64; 24] {
+pub fn plan_words(p: Plan) -> [u64; 24]
+    ensures { λ w. ⌜ w ≡ answerWords planWords (given p) ⌝ }
+{
     let v = p.vid;
     let e = p.ec;
     [
@@ -112,19 +139,16 @@ pub fn plan_words(p: Plan) -> [u64; 24] {
 }
 
 // The numbers of a volume record; its name stands beside them.
-pub fn record_words(r: VolumeRecord) -> [u64; 7] {
+pub fn record_words(v: VolumeRecord) -> [u64; 7]
+    ensures { λ w. ⌜ w ≡ recordWords v ⌝ }
+{
     [
-        r.reserved as u64,
-        r.alignment as u64,
-        r.data_pad as u64,
-        r.vol_type as u64,
-        r.update_marker as u64,
-        r.name_length as u64,
-        r.flags as u64,
+        v.reserved as u64,
+        v.alignment as u64,
+        v.data_pad as u64,
+        v.vol_type as u64,
+        v.update_marker as u64,
+        v.name_length as u64,
+        v.flags as u64,
     ]
-}
-
-// A write that a step will do.
-pub fn write_words(kind: u64, at: usize, count: usize) -> [u64; 3] {
-    [kind, at as u64, count as u64]
 }

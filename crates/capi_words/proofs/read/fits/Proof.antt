@@ -4,7 +4,7 @@ use Prim.Native.Nat.{_≤_, _-_}
 use native.Mathlib.Omega.{arith}
 use borrow.Author.Needs.{needs}
 use lib.ListN.{length, drop}
-use Rattle.capi_words.specs.Words.{fits}
+use Rattle.capi_words.specs.Lent.{fits}
 use Rattle.capi_words.proofs.Laws.{fits-go, fits-stop, fits-end, fits-short}
 use Rattle.capi_words.proofs.read.fits.Statement.{statement}
 use Rattle.capi_words.proofs.read.fits.Tie as tie
