@@ -1,47 +1,25 @@
-// A move: its beginning, its steps, and what the next one writes.
-ghost use Prim.Native.Nat.{_≤_};
-ghost use lib.ListN.{length};
+// A move: its beginning, its steps, and what the next one will write.
+ghost use mathlib.Core.Path.{_≡_};
+ghost use mathlib.Core.Bool.{true, _||_};
+ghost use Rattle.report.specs.Attach.{lent, request, attachingInto, longEnough, tablesAfter, over};
+ghost use Rattle.job.specs.Job.{stepping, finishing};
+ghost use Rattle.mover_rules.specs.Begin.{beginning};
+ghost use Rattle.mover_rules.specs.Step.{moverJob, steppedAnswer};
+ghost use Rattle.mover_steps.specs.Upcoming.{nextWrite};
+ghost use Rattle.capi_words.specs.Lent.{fits};
+ghost use Rattle.capi_words.specs.Structs.{planWords, answerWords, planMost, planIn};
+ghost use Rattle.capi.specs.Calls.{short, judged, changed, numberOf, progressNumber, progressWords};
+ghost use Rattle.capi.specs.Calls.{nextNumber, nextWords};
+use crate::MAY_NOT_RUN;
 use crate::ON;
 use crate::UNFIT;
-use crate::attaching::store_refusal;
+use crate::store::store_begun;
+use crate::store::store_next;
+use crate::store::store_stepped;
 use capi_words::PLAN_WORDS;
 use capi_words::WRITE_WORDS;
-use capi_words::store_words;
-use mover_rules::Begun;
-use mover_rules::Plan;
 use mover_rules::Stepped;
-use mover_steps::NextWrite;
 use report::refusal::SHORT_BUFFER;
-
-const MAY_NOT_RUN: u32 = 18;
-
-const PLAN_MOST: [u64; 24] = [
-    0, 0, 0xFFFFFFFF, 0xFFFFFFFF, 0xFFFFFFFF, 0xFFFFFFFF, 0xFFFFFFFF, 0xFF, 0xFF, 0xFF, 0xFF, 0xFFFFFFFF, 0xFFFFFFFF,
-    0xFFFFFFFF, 0xFFFFFFFF, 0xFFFFFFFF, 0xFFFFFFFF, 0xFFFFFFFFFFFFFFFF, 0xFF, 0xFFFFFFFFFFFFFFFF, 0xFFFFFFFF,
-    0xFFFFFFFF, 0xFFFFFFFF, 0xFFFFFFFF,
-];
-
-fn store_plan(p: Plan, plan: &mut [u64])
-    requires { ⌜ 24 ≤ length (now plan) ⌝ }
-{
-    let words = capi_words::plan_words(p);
-    store_words(plan, &words)
-}
-
-fn store_begun(b: Begun, plan: &mut [u64]) -> u32
-    requires { ⌜ 24 ≤ length (now plan) ⌝ }
-{
-    match b {
-        Begun::Planned(p) => {
-            store_plan(p, plan);
-            return 0;
-        }
-        Begun::Refused { number, place } => {
-            store_refusal(number, place, plan);
-            return number;
-        }
-    }
-}
 
 #[no_mangle]
 pub extern "C" fn choduljin_begin(
@@ -54,7 +32,23 @@ pub extern "C" fn choduljin_begin(
     leb: u32,
     target: u32,
     plan: &mut [u64],
-) -> u32 {
+) -> u32
+    ensures answer { λ r. ⌜ r ≡ judged (short 24 (now (plan .entry))) true
+        (numberOf (beginning (request (now (slip .entry))) (now (image .entry))
+        (longEnough (lent (now (pebs .entry)) (now (map .entry)) (now (states .entry)))) volume leb target)) ⌝ }
+    ensures tables { λ _. ⌜ lent (now (pebs .exit)) (now (map .exit)) (now (states .exit))
+        ≡ changed (short 24 (now (plan .entry))) true
+        (tablesAfter
+        (attachingInto (request (now (slip .entry))) (now (image .entry))
+        (lent (now (pebs .entry)) (now (map .entry)) (now (states .entry))))
+        (lent (now (pebs .entry)) (now (map .entry)) (now (states .entry))))
+        (lent (now (pebs .entry)) (now (map .entry)) (now (states .entry))) ⌝ }
+    ensures plan { λ _. ⌜ now (plan .exit) ≡ changed (short 24 (now (plan .entry))) true
+        (over (answerWords planWords (beginning (request (now (slip .entry))) (now (image .entry))
+        (longEnough (lent (now (pebs .entry)) (now (map .entry)) (now (states .entry)))) volume leb target))
+        (now (plan .entry)))
+        (now (plan .entry)) ⌝ }
+{
     if plan.len() < PLAN_WORDS {
         return SHORT_BUFFER;
     }
@@ -62,25 +56,23 @@ pub extern "C" fn choduljin_begin(
     store_begun(b, plan)
 }
 
-fn store_stepped(s: Stepped, plan: &mut [u64]) -> u32
-    requires { ⌜ 24 ≤ length (now plan) ⌝ }
-{
-    match s {
-        Stepped::On(next) => {
-            store_plan(next, plan);
-            return ON;
-        }
-        Stepped::Done => return 0,
-        Stepped::Refused => return MAY_NOT_RUN,
-    }
-}
-
 #[no_mangle]
-pub extern "C" fn choduljin_step(plan: &mut [u64], image: &mut [u8]) -> u32 {
+pub extern "C" fn choduljin_step(plan: &mut [u64], image: &mut [u8]) -> u32
+    ensures answer { λ r. ⌜ r ≡ judged (short 24 (now (plan .entry))) (fits (now (plan .entry)) planMost)
+        (progressNumber (stepping moverJob (planIn (now (plan .entry))) (now (image .entry)) .answer)) ⌝ }
+    ensures plan { λ _. ⌜ now (plan .exit)
+        ≡ changed (short 24 (now (plan .entry))) (fits (now (plan .entry)) planMost)
+        (over (progressWords (stepping moverJob (planIn (now (plan .entry))) (now (image .entry)) .answer))
+        (now (plan .entry)))
+        (now (plan .entry)) ⌝ }
+    ensures image { λ _. ⌜ now (image .exit)
+        ≡ changed (short 24 (now (plan .entry))) (fits (now (plan .entry)) planMost)
+        (stepping moverJob (planIn (now (plan .entry))) (now (image .entry)) .image) (now (image .entry)) ⌝ }
+{
     if plan.len() < PLAN_WORDS {
         return SHORT_BUFFER;
     }
-    if !capi_words::fits(plan, &PLAN_MOST) {
+    if !capi_words::plan_fits(plan) {
         return UNFIT;
     }
     let p = capi_words::plan_in(plan);
@@ -88,7 +80,9 @@ pub extern "C" fn choduljin_step(plan: &mut [u64], image: &mut [u8]) -> u32 {
     store_stepped(s, plan)
 }
 
-fn stepped_code(s: Stepped) -> u32 {
+fn stepped_number(s: Stepped) -> u32
+    ensures { λ r. ⌜ r ≡ progressNumber (steppedAnswer s) ⌝ }
+{
     match s {
         Stepped::On(next) => return ON,
         Stepped::Done => return 0,
@@ -97,51 +91,44 @@ fn stepped_code(s: Stepped) -> u32 {
 }
 
 #[no_mangle]
-pub extern "C" fn choduljin_finish(plan: &[u64], image: &mut [u8]) -> u32 {
+pub extern "C" fn choduljin_finish(plan: &[u64], image: &mut [u8]) -> u32
+    ensures answer { λ r. ⌜ r ≡ judged (short 24 (now (plan .entry))) (fits (now (plan .entry)) planMost)
+        (progressNumber (finishing moverJob (planIn (now (plan .entry))) (now (image .entry)) .answer)) ⌝ }
+    ensures image { λ _. ⌜ now (image .exit)
+        ≡ changed (short 24 (now (plan .entry))) (fits (now (plan .entry)) planMost)
+        (finishing moverJob (planIn (now (plan .entry))) (now (image .entry)) .image) (now (image .entry)) ⌝ }
+{
     if plan.len() < PLAN_WORDS {
         return SHORT_BUFFER;
     }
-    if !capi_words::fits(plan, &PLAN_MOST) {
+    if !capi_words::plan_fits(plan) {
         return UNFIT;
     }
     let p = capi_words::plan_in(plan);
     let s = mover_steps::finish(p, image);
-    stepped_code(s)
-}
-
-fn store_write(kind: u64, at: usize, count: usize, write: &mut [u64])
-    requires { ⌜ 3 ≤ length (now write) ⌝ }
-{
-    let words = capi_words::write_words(kind, at, count);
-    store_words(write, &words)
+    stepped_number(s)
 }
 
 #[no_mangle]
-pub extern "C" fn choduljin_next_write(plan: &[u64], image: &[u8], write: &mut [u64]) -> u32 {
+pub extern "C" fn choduljin_next_write(plan: &[u64], image: &[u8], write: &mut [u64]) -> u32
+    ensures answer { λ r. ⌜ r
+        ≡ judged (short 24 (now (plan .entry)) || short 3 (now (write .entry))) (fits (now (plan .entry)) planMost)
+        (nextNumber (nextWrite (planIn (now (plan .entry))) (now (image .entry)))) ⌝ }
+    ensures write { λ _. ⌜ now (write .exit)
+        ≡ changed (short 24 (now (plan .entry)) || short 3 (now (write .entry))) (fits (now (plan .entry)) planMost)
+        (over (nextWords (nextWrite (planIn (now (plan .entry))) (now (image .entry)))) (now (write .entry)))
+        (now (write .entry)) ⌝ }
+{
     if plan.len() < PLAN_WORDS {
         return SHORT_BUFFER;
     }
     if write.len() < WRITE_WORDS {
         return SHORT_BUFFER;
     }
-    if !capi_words::fits(plan, &PLAN_MOST) {
+    if !capi_words::plan_fits(plan) {
         return UNFIT;
     }
     let p = capi_words::plan_in(plan);
     let w = mover_steps::next_write(p, image);
-    match w {
-        NextWrite::Store { at, length } => {
-            store_write(1, at, length, write);
-            return 0;
-        }
-        NextWrite::Erase { at, length } => {
-            store_write(2, at, length, write);
-            return 0;
-        }
-        NextWrite::Nothing => {
-            store_write(0, 0, 0, write);
-            return 0;
-        }
-        NextWrite::Refused => return MAY_NOT_RUN,
-    }
+    store_next(w, write)
 }

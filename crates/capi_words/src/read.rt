@@ -24,18 +24,65 @@ const MOST_64: u64 = 0xFFFFFFFFFFFFFFFF;
 const EC_MOST: [u64; 5] = [MOST_8, MOST_64, MOST_32, MOST_32, MOST_32];
 
 const VID_MOST: [u64; 11] = [
-    MOST_8, MOST_8, MOST_8, MOST_8, MOST_32, MOST_32, MOST_32, MOST_32, MOST_32, MOST_32, MOST_64,
+    MOST_8,
+    MOST_8,
+    MOST_8,
+    MOST_8,
+    MOST_32,
+    MOST_32,
+    MOST_32,
+    MOST_32,
+    MOST_32,
+    MOST_32,
+    MOST_64,
 ];
 
 // After the 0 and 0 of a report, of a plan: the number and place of no refusal.
 const REPORT_MOST: [u64; 17] = [
-    0, 0, MOST_32, MOST_32, MOST_32, MOST_32, MOST_32, MOST_32, MOST_32, MOST_32, MOST_32, MOST_64, MOST_32, 1, MOST_32,
-    MOST_32, MOST_32,
+    0,
+    0,
+    MOST_32,
+    MOST_32,
+    MOST_32,
+    MOST_32,
+    MOST_32,
+    MOST_32,
+    MOST_32,
+    MOST_32,
+    MOST_32,
+    MOST_64,
+    MOST_32,
+    1,
+    MOST_32,
+    MOST_32,
+    MOST_32,
 ];
 
 const PLAN_MOST: [u64; 24] = [
-    0, 0, MOST_32, MOST_32, MOST_32, MOST_32, MOST_32, MOST_8, MOST_8, MOST_8, MOST_8, MOST_32, MOST_32, MOST_32,
-    MOST_32, MOST_32, MOST_32, MOST_64, MOST_8, MOST_64, MOST_32, MOST_32, MOST_32, MOST_32,
+    0,
+    0,
+    MOST_32,
+    MOST_32,
+    MOST_32,
+    MOST_32,
+    MOST_32,
+    MOST_8,
+    MOST_8,
+    MOST_8,
+    MOST_8,
+    MOST_32,
+    MOST_32,
+    MOST_32,
+    MOST_32,
+    MOST_32,
+    MOST_32,
+    MOST_64,
+    MOST_8,
+    MOST_64,
+    MOST_32,
+    MOST_32,
+    MOST_32,
+    MOST_32,
 ];
 
 const REFUSAL_MOST: [u64; 2] = [MOST_32, MOST_32];

@@ -1,7 +1,6 @@
 // The words of each struct.
 ghost use mathlib.Core.Path.{_≡_};
 ghost use mathlib.Core.Bool.{cond};
-ghost use mathlib.Core.List.{[], _∷_};
 ghost use Rattle.base.specs.Answers.{given};
 ghost use Rattle.capi_words.specs.Structs.{geometryWords, ecWords, vidWords, recordWords, reportWords, planWords};
 ghost use Rattle.capi_words.specs.Structs.{answerWords};
@@ -19,20 +18,6 @@ fn bit(b: bool) -> u64
         return 1;
     }
     0
-}
-
-// A refusal: its number and place.
-pub fn refusal_words(number: u32, place: u32) -> [u64; 2]
-    ensures { λ w. ⌜ w ≡ number ∷ place ∷ [] ⌝ }
-{
-    [number as u64, place as u64]
-}
-
-// A write: which kind it is, from which byte of the image on, and how many bytes.
-pub fn write_words(kind: u64, at: usize, count: usize) -> [u64; 3]
-    ensures { λ w. ⌜ w ≡ kind ∷ at ∷ count ∷ [] ⌝ }
-{
-    [kind, at as u64, count as u64]
 }
 
 pub fn geometry_words(g: Geometry) -> [u64; 6]
