@@ -23,5 +23,8 @@ pub record-told : (words name : List ℕ) {n : ℕ} {w b : List ℕ} {k j : Answ
     → k ≡ j → v ≡ u → Read words name n w b k v → Read words name n w b j u
 record-told words name q r p = (
   p .0 ∙ ap recordNumber q,
-  (p .1 .0 ∙ (λ i. over (ifGood (q i) (recordWords (r i))) words), p .1 .1 ∙ (λ i. over (ifGood (q i) (r i .name)) name)),
+  (
+    p .1 .0 ∙ (λ i. over (ifGood (q i) (recordWords (r i))) words),
+    p .1 .1 ∙ (λ i. over (ifGood (q i) (r i .name)) name),
+  ),
 )

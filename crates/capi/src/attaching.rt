@@ -54,28 +54,28 @@ pub extern "C" fn choduljin_listing(
     map: &[u32],
     states: &[u32],
     out: &mut [u8],
-    text_length: &mut [u64],
+    count: &mut [u64],
 ) -> u32
     ensures answer { λ r. ⌜ r
-        ≡ judged (short 17 (now (report .entry)) || short 1 (now («text_length» .entry))) (attachedFits (now (report .entry)))
+        ≡ judged (short 17 (now (report .entry)) || short 1 (now (count .entry))) (attachedFits (now (report .entry)))
         (numberOf (rendering (attachedIn (now (report .entry)))
         (lent (now (pebs .entry)) (now (map .entry)) (now (states .entry))) (now (out .entry)))) ⌝ }
     ensures out { λ _. ⌜ now (out .exit)
-        ≡ changed (short 17 (now (report .entry)) || short 1 (now («text_length» .entry))) (attachedFits (now (report .entry)))
+        ≡ changed (short 17 (now (report .entry)) || short 1 (now (count .entry))) (attachedFits (now (report .entry)))
         (outAfter (attachedIn (now (report .entry)))
         (lent (now (pebs .entry)) (now (map .entry)) (now (states .entry))) (now (out .entry)))
         (now (out .entry)) ⌝ }
-    ensures length { λ _. ⌜ now («text_length» .exit)
-        ≡ changed (short 17 (now (report .entry)) || short 1 (now («text_length» .entry))) (attachedFits (now (report .entry)))
+    ensures length { λ _. ⌜ now (count .exit)
+        ≡ changed (short 17 (now (report .entry)) || short 1 (now (count .entry))) (attachedFits (now (report .entry)))
         (over (givenWords (λ (n : ℕ). n ∷ []) (rendering (attachedIn (now (report .entry)))
         (lent (now (pebs .entry)) (now (map .entry)) (now (states .entry))) (now (out .entry))))
-        (now («text_length» .entry)))
-        (now («text_length» .entry)) ⌝ }
+        (now (count .entry)))
+        (now (count .entry)) ⌝ }
 {
     if report.len() < REPORT_WORDS {
         return SHORT_BUFFER;
     }
-    if text_length.len() < 1 {
+    if count.len() < 1 {
         return SHORT_BUFFER;
     }
     if !capi_words::attached_fits(report) {
@@ -83,7 +83,7 @@ pub extern "C" fn choduljin_listing(
     }
     let a = capi_words::attached_in(report);
     let r = listing_text::render(a, pebs, map, states, out);
-    store_rendered(r, text_length)
+    store_rendered(r, count)
 }
 
 #[no_mangle]

@@ -25,7 +25,8 @@ const NAME_BYTES: usize = 128;
 
 #[no_mangle]
 pub extern "C" fn choduljin_read_ec(header: &[u8], ec: &mut [u64]) -> u32
-    ensures answer { λ r. ⌜ r ≡ judged (short 5 (now (ec .entry))) true (verdictNumber (ecRead (now (header .entry)))) ⌝ }
+    ensures answer { λ r. ⌜ r ≡ judged (short 5 (now (ec .entry))) true
+        (verdictNumber (ecRead (now (header .entry)))) ⌝ }
     ensures ec { λ _. ⌜ now (ec .exit) ≡ changed (short 5 (now (ec .entry))) true
         (over (verdictWords ecWords (ecRead (now (header .entry)))) (now (ec .entry))) (now (ec .entry)) ⌝ }
 {
@@ -109,7 +110,9 @@ pub extern "C" fn choduljin_read_record(
         (recordNumber (judgeRecord «leb_size» unit (now («record» .entry)))) ⌝ }
     ensures words { λ _. ⌜ now (words .exit)
         ≡ changed (short 7 (now (words .entry)) || short 128 (now (name .entry))) true
-        (over (ifGood (judgeRecord «leb_size» unit (now («record» .entry))) (recordWords (shownRecord (now («record» .entry)))))
+        (over
+        (ifGood (judgeRecord «leb_size» unit (now («record» .entry)))
+        (recordWords (shownRecord (now («record» .entry)))))
         (now (words .entry)))
         (now (words .entry)) ⌝ }
     ensures name { λ _. ⌜ now (name .exit)

@@ -23,7 +23,8 @@ use Rattle.mover_rules.specs.declared.Plan.{Plan}
 use Rattle.capi_words.specs.Lent.{fits}
 use Rattle.capi_words.specs.Structs.{ecWords, vidWords, reportWords, planWords, answerWords}
 use Rattle.capi_words.specs.Structs.{ecMost, vidMost, reportMost, planMost, refusalMost, most32}
-use Rattle.capi_words.specs.Structs.{ecIn, vidIn, reportIn, planIn, attachedFits, attachedIn, ReportFits, PlanFits}
+use Rattle.capi_words.specs.Structs.{ecIn, vidIn, reportIn, planIn, attachedFits, attachedIn}
+use Rattle.capi_words.specs.Structs.{ReportFits, PlanFits}
 use Rattle.capi_words.proofs.Laws.{within, within-fits}
 
 -- ---- a struct's words, whatever follows them: they fit, and are read back
@@ -68,7 +69,8 @@ refusal-back k p t n h l = (rw (ne-eqb k 0 n) (within-fits (k ∷ p ∷ t) refus
 front : (n k : ℕ) (ws : List ℕ) → k + n ≤ length ws → drop k ws ≡ table (λ (i : ℕ). getD ws i 0) k n ++ drop (k + n) ws
 front zero k ws h = rw add-zero
 front (suc n) k ws h =
-    rw (drop-cons ws k 0 (omega arith)) (ap (λ (l : List ℕ). getD ws k 0 ∷ l) (rw (add-suc, ← suc-add) (front n (suc k) ws (omega arith))))
+    rw (drop-cons ws k 0 (omega arith))
+    (ap (λ (l : List ℕ). getD ws k 0 ∷ l) (rw (add-suc, ← suc-add) (front n (suc k) ws (omega arith))))
 
 pub one-on-words : (ws : List ℕ) → fits ws planMost ≡ true
     → over (answerWords planWords (given (oneOn (planIn ws)))) ws ≡ set ws 23 (getD ws 23 0 + 1)

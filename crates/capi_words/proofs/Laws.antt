@@ -51,8 +51,10 @@ unfolding fits
 fits-from ws [] k e = tt
 fits-from ws (m ∷ ms) k e =
     let h : k < length ws = omega (arith, fits-length (drop k ws) (m ∷ ms) e, length-drop k ws) in
-    let q : leb (getD ws k 0) m && fits (drop (suc k) ws) ms ≡ true = rw (drop-cons ws k 0 h) at e in
-    (leb-true _ _ (and-left (leb (getD ws k 0) m) (fits (drop (suc k) ws) ms) q), fits-from ws ms (suc k) (and-right (leb (getD ws k 0) m) (fits (drop (suc k) ws) ms) q))
+    let q : leb (getD ws k 0) m && fits (drop (suc k) ws) ms ≡ true = rw (drop-cons ws k 0 h) at e in (
+      leb-true _ _ (and-left (leb (getD ws k 0) m) (fits (drop (suc k) ws) ms) q),
+      fits-from ws ms (suc k) (and-right (leb (getD ws k 0) m) (fits (drop (suc k) ws) ms) q),
+    )
 
 pub within : (ws ms : List ℕ) → fits ws ms ≡ true → Within ws ms
 within ws ms e = (fits-length ws ms e, fits-from ws ms 0 e)

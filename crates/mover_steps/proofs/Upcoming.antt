@@ -35,7 +35,8 @@ module _ (g : Geometry) (p : Plan) (image : List ℕ) (r : Running g p image) (m
   unfolding nextWrite stepWrite
   by k h e q = rw may (q ∙ rw (after g p (r .measured .is) image k h e))
 
-  pub next-vid : {s : ℕ} → p .steps ≡ 0 → s ≡ p .target * g .«peb_size» → Store (s + g .«vid_start») 64 ≡ nextWrite p image
+  pub next-vid : {s : ℕ} → p .steps ≡ 0 → s ≡ p .target * g .«peb_size»
+      → Store (s + g .«vid_start») 64 ≡ nextWrite p image
   next-vid h z = by 0 h (vid-write g (relocation p image) 0 refl) (rw (z, vid-64))
 
   module _ (started : p .steps ≡ 0 → ⊥) {d : ℕ} (is-d : d ≡ dataSteps p) where
@@ -48,7 +49,8 @@ module _ (g : Geometry) (p : Plan) (image : List ℕ) (r : Running g p image) (m
     unit-length j h =
         let m = r .measured in
         rw (← (m .is), m .same-unit)
-        (length-part (pebStart g (p .old) + (g .«data_start» + j * g .unit)) (min (g .unit) (p .vid .«data_size» - j * g .unit)) image
+        (length-part (pebStart g (p .old) + (g .«data_start» + j * g .unit))
+        (min (g .unit) (p .vid .«data_size» - j * g .unit)) image
         (omega (arith, unit-within g p image r j h, r .size-fits, r .old-room, m .placed .leb-fills)))
 
     pub next-unit : {x : NextWrite} → p .steps - 1 < d
@@ -60,13 +62,16 @@ module _ (g : Geometry) (p : Plan) (image : List ℕ) (r : Running g p image) (m
         by (suc (p .steps - 1)) started-as (unit-write g (relocation p image) (p .steps - 1) l)
         (e ∙ rw (unit-length (p .steps - 1) l))
 
-    pub next-erase : {s : ℕ} → p .steps - 1 ≡ d → s ≡ p .old * g .«peb_size» → Erase s (g .«peb_size») ≡ nextWrite p image
+    pub next-erase : {s : ℕ} → p .steps - 1 ≡ d → s ≡ p .old * g .«peb_size»
+        → Erase s (g .«peb_size») ≡ nextWrite p image
     next-erase h z =
         by (suc (p .steps - 1)) started-as (erase-write g (relocation p image) (p .steps - 1) (omega arith)) (rw z)
 
     pub next-ec : {s : ℕ} → p .steps - 1 ≡ d + 1 → s ≡ p .old * g .«peb_size» → Store s 64 ≡ nextWrite p image
     next-ec h z =
-        by (suc (p .steps - 1)) started-as (ec-write g (relocation p image) (p .steps - 1) (omega arith)) (rw (z, ec-64))
+        by (suc (p .steps - 1)) started-as (ec-write g (relocation p image) (p .steps - 1) (omega arith))
+        (rw (z, ec-64))
 
-    pub next-nothing : d ≤ p .steps - 1 → (p .steps - 1 ≡ d → ⊥) → (p .steps - 1 ≡ d + 1 → ⊥) → Nothing ≡ nextWrite p image
+    pub next-nothing : d ≤ p .steps - 1 → (p .steps - 1 ≡ d → ⊥) → (p .steps - 1 ≡ d + 1 → ⊥)
+        → Nothing ≡ nextWrite p image
     next-nothing h n m = by (p .steps) refl (late-write g (relocation p image) (p .steps) (omega arith)) refl

@@ -17,9 +17,11 @@ returns c = rw (lt-ltb _ _ (c .if1 .taken)) (refl, (refl, refl))
 returns-2 : tie.Need-returns-2
 returns-2 c =
     let s = c .before .before in let t = s .before .before .before .before .before .before .before .before in
-    let l = t .before .before .before .before in let a = l .before .before .before .before .before .before .before .args in
+    let l = t .before .before .before .before in
+    let a = l .before .before .before .before .before .before .before .args in
     let u =
-    told numberOf (λ (x : Answer Report). over (answerWords reportWords x) (a .report .now)) (t .attach .ensures .0) (s .store-attached .ensures) in
+    told numberOf (λ (x : Answer Report). over (answerWords reportWords x) (a .report .now))
+    (t .attach .ensures .0) (s .store-attached .ensures) in
     rw (le-ltb _ _ (l .if1 .left)) (u .0, (t .attach .ensures .1, u .1))
 
 pub choduljin-attach-spec : {M : Type 1} → statement M

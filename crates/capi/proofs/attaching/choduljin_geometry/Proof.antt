@@ -18,7 +18,8 @@ returns-2 : tie.Need-returns-2
 returns-2 c =
     let s = c .before .before in let r = s .before .before in let l = r .before in let a = l .before .before .args in
     rw (le-ltb _ _ (l .if1 .left))
-    (told numberOf (λ (x : Answer Geometry). over (givenWords geometryWords x) (a .geometry .now)) (r .check-geometry .ensures) (s .store-geometry .ensures))
+    (told numberOf (λ (x : Answer Geometry). over (givenWords geometryWords x) (a .geometry .now))
+    (r .check-geometry .ensures) (s .store-geometry .ensures))
 
 pub choduljin-geometry-spec : {M : Type 1} → statement M
 choduljin-geometry-spec =

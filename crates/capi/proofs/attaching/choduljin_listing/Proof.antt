@@ -22,9 +22,8 @@ returns-2 c = rw (le-ltb _ _ (c .before .if1 .left), lt-ltb _ _ (c .if2 .taken))
 
 returns-3 : tie.Need-returns-3
 returns-3 c =
-    let f = c .before in let l = f .before in
-    rw (le-ltb _ _ (l .before .if1 .left), le-ltb _ _ (l .if2 .left), was-false (f .attached-fits .ensures) (c .if3 .taken))
-    (refl, (refl, refl))
+    let f = c .before in let l = f .before in let n = was-false (f .attached-fits .ensures) (c .if3 .taken) in
+    rw (le-ltb _ _ (l .before .if1 .left), le-ltb _ _ (l .if2 .left), n) (refl, (refl, refl))
 
 attached-in-requires : tie.Need-attached-in-requires
 attached-in-requires c κs = (search needs, was-true (c .before .attached-fits .ensures) (c .if3 .left))
@@ -39,10 +38,10 @@ returns-4 c =
     told (λ (x : Answer Report). rendering x b (a .out .now)) (λ (x : Answer Report). outAfter x b (a .out .now))
     (i .attached-in .ensures) (d .render .ensures .0, d .render .ensures .1 .0) in
     let u =
-    told numberOf (λ (x : Answer ℕ). over (givenWords (λ (n : ℕ). n ∷ []) x) (a .text-length .now)) (t .0)
+    told numberOf (λ (x : Answer ℕ). over (givenWords (λ (n : ℕ). n ∷ []) x) (a .count .now)) (t .0)
     (s .store-rendered .ensures) in
-    rw (le-ltb _ _ (l .before .if1 .left), le-ltb _ _ (l .if2 .left), was-true (f .attached-fits .ensures) (e .if3 .left))
-    (u .0, (t .1, u .1))
+    let y = was-true (f .attached-fits .ensures) (e .if3 .left) in
+    rw (le-ltb _ _ (l .before .if1 .left), le-ltb _ _ (l .if2 .left), y) (u .0, (t .1, u .1))
 
 pub choduljin-listing-spec : {M : Type 1} → statement M
 choduljin-listing-spec =

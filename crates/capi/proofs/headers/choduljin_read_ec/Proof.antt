@@ -17,9 +17,11 @@ returns c = rw (lt-ltb _ _ (c .if1 .taken)) (refl, refl)
 
 returns-2 : tie.Need-returns-2
 returns-2 c =
-    let s = c .before .before in let r = s .before .before in let l = r .before in let a = l .before .before .before .args in
+    let s = c .before .before in let r = s .before .before in let l = r .before in
+    let a = l .before .before .before .args in
     rw (le-ltb _ _ (l .if1 .left))
-    (told verdictNumber (λ (x : Answer (Verdict EcHeader)). over (verdictWords ecWords x) (a .ec .now)) (r .read-ec .ensures) (s .store-ec .ensures))
+    (told verdictNumber (λ (x : Answer (Verdict EcHeader)). over (verdictWords ecWords x) (a .ec .now))
+    (r .read-ec .ensures) (s .store-ec .ensures))
 
 pub choduljin-read-ec-spec : {M : Type 1} → statement M
 choduljin-read-ec-spec =

@@ -17,7 +17,8 @@ returns-3 c =
     let s = c .before .before .before .before in let r = s .before .before .before in let l = r .before in
     let a = l .before .before .before .before .before .args in
     rw (le-ltb _ _ (l .before .if1 .left), le-ltb _ _ (l .if2 .left))
-    (record-told (a .words .now) (a .name .now) (r .read-record .ensures .0) (r .read-record .ensures .1) (s .store-record .ensures))
+    (record-told (a .words .now) (a .name .now) (r .read-record .ensures .0) (r .read-record .ensures .1)
+    (s .store-record .ensures))
 
 pub choduljin-read-record-spec : {M : Type 1} → statement M
 choduljin-read-record-spec =

@@ -17,9 +17,11 @@ returns c = rw (lt-ltb _ _ (c .if1 .taken)) (refl, refl)
 
 returns-2 : tie.Need-returns-2
 returns-2 c =
-    let s = c .before .before in let r = s .before .before in let l = r .before in let a = l .before .before .before .args in
+    let s = c .before .before in let r = s .before .before in let l = r .before in
+    let a = l .before .before .before .args in
     rw (le-ltb _ _ (l .if1 .left))
-    (told verdictNumber (λ (x : Answer (Verdict VidHeader)). over (verdictWords vidWords x) (a .vid .now)) (r .read-vid .ensures) (s .store-vid .ensures))
+    (told verdictNumber (λ (x : Answer (Verdict VidHeader)). over (verdictWords vidWords x) (a .vid .now))
+    (r .read-vid .ensures) (s .store-vid .ensures))
 
 pub choduljin-read-vid-spec : {M : Type 1} → statement M
 choduljin-read-vid-spec =

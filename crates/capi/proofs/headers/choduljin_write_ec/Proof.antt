@@ -28,7 +28,9 @@ returns-3 : tie.Need-returns-3
 returns-3 c =
     let w = c .before .before .before in let i = w .before .before in let e = i .before in let f = e .before in
     let l = f .before in let a = l .before .before .before .args in
-    let t = told (λ (h : EcHeader). ecWritten h (a .out .now)) (λ (h : EcHeader). ecOut h (a .out .now)) (i .ec-in .ensures) (w .write-ec .ensures) in
+    let t =
+    told (λ (h : EcHeader). ecWritten h (a .out .now)) (λ (h : EcHeader). ecOut h (a .out .now))
+    (i .ec-in .ensures) (w .write-ec .ensures) in
     rw (le-ltb _ _ (l .if1 .left), was-true (f .ec-fits .ensures) (e .if2 .left))
     (c .written-number .ensures ∙ ap numberOf (t .0), t .1)
 

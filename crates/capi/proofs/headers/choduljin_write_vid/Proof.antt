@@ -17,7 +17,8 @@ returns c = rw (lt-ltb _ _ (c .if1 .taken)) (refl, refl)
 
 returns-2 : tie.Need-returns-2
 returns-2 c =
-    rw (le-ltb _ _ (c .before .before .if1 .left), was-false (c .before .vid-fits .ensures) (c .if2 .taken)) (refl, refl)
+    rw (le-ltb _ _ (c .before .before .if1 .left), was-false (c .before .vid-fits .ensures) (c .if2 .taken))
+    (refl, refl)
 
 vid-in-requires : tie.Need-vid-in-requires
 vid-in-requires c κs =
@@ -28,7 +29,10 @@ returns-3 : tie.Need-returns-3
 returns-3 c =
     let w = c .before .before .before in let i = w .before .before in let e = i .before in let f = e .before in
     let l = f .before in let a = l .before .before .before .args in
-    let t = told (λ (h : VidHeader). vidWritten (a .leb-size) h (a .out .now)) (λ (h : VidHeader). vidOut (a .leb-size) h (a .out .now)) (i .vid-in .ensures) (w .write-vid .ensures) in
+    let t =
+    told (λ (h : VidHeader). vidWritten (a .leb-size) h (a .out .now))
+    (λ (h : VidHeader). vidOut (a .leb-size) h (a .out .now))
+    (i .vid-in .ensures) (w .write-vid .ensures) in
     rw (le-ltb _ _ (l .if1 .left), was-true (f .vid-fits .ensures) (e .if2 .left))
     (c .written-number .ensures ∙ ap numberOf (t .0), t .1)
 

@@ -17,9 +17,11 @@ returns c = rw (lt-ltb _ _ (c .if1 .taken)) (refl, (refl, refl))
 returns-2 : tie.Need-returns-2
 returns-2 c =
     let s = c .before .before in let t = s .before .before .before .before .before .before .before .before in
-    let l = t .before .before .before .before in let a = l .before .before .before .before .before .before .before .args in
+    let l = t .before .before .before .before in
+    let a = l .before .before .before .before .before .before .before .args in
     let u =
-    told numberOf (λ (x : Answer Plan). over (answerWords planWords x) (a .plan .now)) (t .begin .ensures .0) (s .store-begun .ensures) in
+    told numberOf (λ (x : Answer Plan). over (answerWords planWords x) (a .plan .now))
+    (t .begin .ensures .0) (s .store-begun .ensures) in
     rw (le-ltb _ _ (l .if1 .left)) (u .0, (t .begin .ensures .1, u .1))
 
 pub choduljin-begin-spec : {M : Type 1} → statement M

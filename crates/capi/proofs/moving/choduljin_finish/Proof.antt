@@ -24,14 +24,16 @@ returns-2 c =
 plan-in-requires : tie.Need-plan-in-requires
 plan-in-requires c κs =
     let f = c .before in
-    within (f .before .before .before .before .args .plan .now) planMost (was-true (f .plan-fits .ensures) (c .if2 .left))
+    within (f .before .before .before .before .args .plan .now) planMost
+    (was-true (f .plan-fits .ensures) (c .if2 .left))
 
 returns-3 : tie.Need-returns-3
 returns-3 c =
     let p = c .before .before .before in let i = p .before .before in let e = i .before in let f = e .before in
     let l = f .before in let a = l .before .before .before .args in
     let t =
-    told (λ (x : Plan). finishing moverJob x (a .image .now) .answer) (λ (x : Plan). finishing moverJob x (a .image .now) .image)
+    told (λ (x : Plan). finishing moverJob x (a .image .now) .answer)
+    (λ (x : Plan). finishing moverJob x (a .image .now) .image)
     (i .plan-in .ensures) (p .finish .ensures) in
     rw (le-ltb _ _ (l .if1 .left), was-true (f .plan-fits .ensures) (e .if2 .left))
     (c .stepped-number .ensures ∙ ap progressNumber (t .0), t .1)

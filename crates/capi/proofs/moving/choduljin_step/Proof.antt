@@ -21,12 +21,14 @@ returns c = rw (lt-ltb _ _ (c .if1 .taken)) (refl, (refl, refl))
 returns-2 : tie.Need-returns-2
 returns-2 c =
     let f = c .before in
-    rw (le-ltb _ _ (f .before .before .if1 .left), was-false (f .plan-fits .ensures) (c .if2 .taken)) (refl, (refl, refl))
+    rw (le-ltb _ _ (f .before .before .if1 .left), was-false (f .plan-fits .ensures) (c .if2 .taken))
+    (refl, (refl, refl))
 
 plan-in-requires : tie.Need-plan-in-requires
 plan-in-requires c κs =
     let e = c .before in let f = e .before in
-    within (f .before .before .before .before .before .args .plan .now) planMost (was-true (f .plan-fits .ensures) (e .if2 .left))
+    within (f .before .before .before .before .before .args .plan .now) planMost
+    (was-true (f .plan-fits .ensures) (e .if2 .left))
 
 returns-3 : tie.Need-returns-3
 returns-3 c =
@@ -34,7 +36,8 @@ returns-3 c =
     let e = i .before .before in let f = e .before in let l = f .before .before in
     let a = l .before .before .before .args in
     let t =
-    told (λ (x : Plan). stepping moverJob x (a .image .now) .answer) (λ (x : Plan). stepping moverJob x (a .image .now) .image)
+    told (λ (x : Plan). stepping moverJob x (a .image .now) .answer)
+    (λ (x : Plan). stepping moverJob x (a .image .now) .image)
     (i .plan-in .ensures) (p .step .ensures) in
     let u =
     told progressNumber (λ (x : Answer (Progress Plan)). over (progressWords x) (a .plan .now)) (t .0)

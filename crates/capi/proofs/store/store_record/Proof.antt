@@ -6,7 +6,8 @@ use Rattle.capi.proofs.store.store_record.Tie as tie
 
 returns : tie.Need-returns
 returns c =
-    let n = c .before .before in let w = n .before .before .before .before .before in let g = w .before .before .before in
+    let n = c .before .before in let w = n .before .before .before .before .before in
+    let g = w .before .before .before in
     rw (g .before .before .enum-told .given .1)
     (refl, (rw (g .record-words .ensures) at (w .store-words .ensures), n .store-name .ensures))
 

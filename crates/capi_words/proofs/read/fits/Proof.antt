@@ -29,7 +29,8 @@ loop-again : tie.Need-loop-again Inv-loop μ-loop
 loop-again c =
     let l = c .before .before .before .before .loop in
     let a = c .before .before .before .before .before .before .args in
-    (l .inv .0, (omega arith, sym (fits-go (a .words .now) (a .most .now) (l .i) (omega arith) (omega arith) (c .if2 .left)) ∙ l .inv .1 .1))
+    let e = fits-go (a .words .now) (a .most .now) (l .i) (omega arith) (omega arith) (c .if2 .left) in
+    (l .inv .0, (omega arith, sym e ∙ l .inv .1 .1))
 
 returns-3 : tie.Need-returns-3 Inv-loop μ-loop
 returns-3 c =

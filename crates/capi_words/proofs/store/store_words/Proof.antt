@@ -10,7 +10,8 @@ use Rattle.capi_words.proofs.store.store_words.Statement.{statement}
 use Rattle.capi_words.proofs.store.store_words.Tie as tie
 
 abbrev Inv-loop : tie.InvT-loop
-Inv-loop lent₀ words i₀ lent i = (i ≤ length words) × ((length lent ≡ length lent₀) × (lent ≡ take i words ++ drop i lent₀))
+Inv-loop lent₀ words i₀ lent i =
+    (i ≤ length words) × ((length lent ≡ length lent₀) × (lent ≡ take i words ++ drop i lent₀))
 
 abbrev μ-loop : tie.MeasureT-loop
 μ-loop lent₀ words i₀ lent i = length words - i
@@ -21,8 +22,13 @@ loop-holds c = (omega arith, (refl, refl))
 loop-again : tie.Need-loop-again Inv-loop μ-loop
 loop-again c =
     let l = c .before .before .loop in
-    let a = c .before .before .before .args in
-    (omega arith, (rw length-set (l .inv .1 .0), rw (l .inv .1 .1) (store-more (a .words .now) (a .lent .now) (l .i) (omega arith) (omega arith))))
+    let a = c .before .before .before .args in (
+      omega arith,
+      (
+        rw length-set (l .inv .1 .0),
+        rw (l .inv .1 .1) (store-more (a .words .now) (a .lent .now) (l .i) (omega arith) (omega arith)),
+      ),
+    )
 
 same-length : tie.Need-same-length Inv-loop μ-loop
 same-length c = c .before .loop .inv .1 .0

@@ -33,7 +33,13 @@ peb-start-requires c κs =
 add-t11 : tie.Need-add-t11
 add-t11 c =
     let r = runs (c .before .before .before .before) in
-    omega (arith, c .before .peb-start .ensures, r .target-room, r .measured .placed .leb-fills, r .measured .placed .data-after-vid)
+    omega (
+      arith,
+      c .before .peb-start .ensures,
+      r .target-room,
+      r .measured .placed .leb-fills,
+      r .measured .placed .data-after-vid,
+    )
 
 returns-2 : tie.Need-returns-2
 returns-2 c =

@@ -9,7 +9,8 @@ use Rattle.mover_steps.proofs.next.next_unit.Tie as tie
 
 -- unit j lies within a block
 unit : (s : tie.Start)
-    → let a = s .args in (a .j * a .g .unit < a .plan .vid .«data_size») × (a .g .«data_start» + a .j * a .g .unit ≤ 262144)
+    → let a = s .args in
+    (a .j * a .g .unit < a .plan .vid .«data_size») × (a .g .«data_start» + a .j * a .g .unit ≤ 262144)
 unit s =
     let a = s .args in (
       unit-within (a .g) (a .plan) (a .image .now) (s .pre .0) (a .j) (s .pre .1),
