@@ -2,3 +2,4 @@
 pub mod Rules
 pub mod Units
 pub mod Whole
+pub mod Upcoming

@@ -16,7 +16,8 @@ use Rattle.mover_rules.specs.declared.Plan.{Plan}
 use Rattle.mover_rules.proofs.Steps.{unit-within}
 
 -- runs at one place of two blocks do not overlap
-apart : (a b size at n : ℕ) → a ≢ b → at + n ≤ size → (a * size + at + n ≤ b * size + at) ⊎ (b * size + at + n ≤ a * size + at)
+apart : (a b size at n : ℕ) → a ≢ b → at + n ≤ size
+    → (a * size + at + n ≤ b * size + at) ⊎ (b * size + at + n ≤ a * size + at)
 apart a b size at n ne h = go (decLt a b)
   where
     go : Dec (a < b) → (a * size + at + n ≤ b * size + at) ⊎ (b * size + at + n ≤ a * size + at)
@@ -25,26 +26,37 @@ apart a b size at n ne h = go (decLt a b)
 
 module _ (g : Geometry) (p : Plan) (image : List ℕ) (r : Running g p image) (j : ℕ) (h : j < dataSteps p) where
   abbrev size : ℕ
-  size = p .vid .«data_size»
+  size = p.vid.«data_size»
 
   abbrev at : ℕ
-  at = g .«data_start» + j * g .unit
+  at = g.«data_start» + j * g.unit
 
   pub at-within : at ≤ 262144
-  at-within = omega (arith, unit-within g p image r j h, r .size-fits, r .measured .placed .leb-fills, r .measured .placed .peb-most)
+  at-within = omega (
+    arith,
+    unit-within g p image r j h,
+    r.size-fits,
+    r.measured.placed.leb-fills,
+    r.measured.placed.peb-most,
+  )
 
-  module _ {f t n : ℕ} (is-f : f ≡ p .old * g .«peb_size») (is-t : t ≡ p .target * g .«peb_size»)
-      (is-n : n ≡ min (p .unit) (size - j * g .unit)) where
-    end-within : at + n ≤ g .«peb_size»
-    end-within = omega (arith, unit-within g p image r j h, r .size-fits, r .measured .placed .leb-fills)
+  module _ {f t n : ℕ} (is-f : f ≡ p.old * g.«peb_size») (is-t : t ≡ p.target * g.«peb_size»)
+      (is-n : n ≡ min p.unit (size - j * g.unit)) where
+    end-within : at + n ≤ g.«peb_size»
+    end-within = omega (arith, unit-within g p image r j h, r.size-fits, r.measured.placed.leb-fills)
 
-    pub copyable : (f + at + n ≤ length image) × ((t + at + n ≤ length image) × ((f + at + n ≤ t + at) ⊎ (t + at + n ≤ f + at)))
+    pub copyable : (f + at + n ≤ length image) ×
+        ((t + at + n ≤ length image) × ((f + at + n ≤ t + at) ⊎ (t + at + n ≤ f + at)))
     copyable = (
-      omega (arith, end-within, r .old-room),
-      (omega (arith, end-within, r .target-room), rw (is-f, is-t) (apart (p .old) (p .target) (g .«peb_size») at n (r .apart) end-within)),
+      omega (arith, end-within, r.old-room),
+      (
+        omega (arith, end-within, r.target-room),
+        rw (is-f, is-t)
+            (apart p.old p.target g.«peb_size» at n r.apart end-within),
+      ),
     )
 
     pub unit-stored : {y : List ℕ} → y ≡ put (t + at) (part (f + at) n image) image
-        → y ≡ put (pebStart g (p .target) + at) (unitBytes p image j) image
+        → y ≡ put (pebStart g p.target + at) (unitBytes p image j) image
     unfolding unitBytes
-    unit-stored e = rw (← (r .measured .is)) (rw (is-f, is-t, is-n, r .measured .same-unit) at e)
+    unit-stored e = rw (← r.measured.is) (rw (is-f, is-t, is-n, r.measured.same-unit) at e)

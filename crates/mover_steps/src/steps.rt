@@ -13,7 +13,7 @@ use mover_rules::Plan;
 use mover_rules::Stepped;
 
 // May the plan's steps run on the image? Refusal 18 past the geometry.
-fn may_run(plan: Plan, g: Geometry, image: &[u8]) -> bool
+pub fn may_run(plan: Plan, g: Geometry, image: &[u8]) -> bool
     requires { ⌜ Measured g plan ⌝ }
     ensures { λ r. ⌜ r ≡ runnable plan (now (image .entry)) ⌝ }
 {
@@ -37,7 +37,7 @@ fn may_run(plan: Plan, g: Geometry, image: &[u8]) -> bool
 }
 
 // Where PEB i starts.
-fn peb_start(g: Geometry, i: u32) -> usize
+pub fn peb_start(g: Geometry, i: u32) -> usize
     requires { ⌜ (i < 4096) × (g .«peb_size» ≤ 262144) ⌝ }
     ensures { λ r. ⌜ r ≡ i * g .«peb_size» ⌝ }
 {
@@ -45,7 +45,7 @@ fn peb_start(g: Geometry, i: u32) -> usize
 }
 
 // The steps that store data.
-fn data_steps(plan: Plan) -> u32
+pub fn data_steps(plan: Plan) -> u32
     requires { ⌜ (plan .vid .«data_size» ≤ 262144) × ((0 < plan .unit) × (plan .unit ≤ 262144)) ⌝ }
     ensures { λ r. ⌜ (r ≡ dataSteps plan) × (r ≤ 262144) ⌝ }
 {
@@ -53,7 +53,7 @@ fn data_steps(plan: Plan) -> u32
 }
 
 // The length of the unit that starts `done` bytes into the data: the last may be short.
-fn unit_length(plan: Plan, done: usize) -> usize
+pub fn unit_length(plan: Plan, done: usize) -> usize
     requires { ⌜ done ≤ plan .vid .«data_size» ⌝ }
     ensures { λ r. ⌜ r ≡ min (plan .unit) (plan .vid .«data_size» - done) ⌝ }
 {

@@ -17,41 +17,41 @@ Inv-loop image₀ p₀ image p =
     (length image ≡ length image₀) × (finishing moverJob p image ≡ finishing moverJob p₀ image₀)
 
 abbrev μ-loop : tie.MeasureT-loop
-μ-loop image₀ p₀ image p = stepCount p - p .steps
+μ-loop image₀ p₀ image p = stepCount p - p.steps
 
 loop-holds : tie.Need-loop-holds Inv-loop μ-loop
 loop-holds c = (refl, refl)
 
 loop-less : tie.Need-loop-less Inv-loop μ-loop
 loop-less c =
-    let s = c .before .before .before .before .before in let l = s .before .before .loop in
-    let q = c .before .s .given in
-    fewer moverJob mover-lawful (l .p) (q .0 .0) (l .image) (sym (ap steppedAnswer (q .1)) ∙ s .step .ensures .0)
-    (s .step .ensures .1)
+    let s = c.before.before.before.before.before in let l = s.before.before.loop in
+    let q = c.before.s.given in
+    fewer moverJob mover-lawful l.p q.0.0 l.image (sym (ap steppedAnswer q.1) ∙ s .step .ensures .0)
+    s.step.ensures.1
 
 loop-again : tie.Need-loop-again Inv-loop μ-loop
 loop-again c =
-    let at-image = c .before .before .before .before in let s = at-image .before in let l = s .before .before .loop in
-    let q = c .before .s .given in (
+    let at-image = c.before.before.before.before in let s = at-image.before in let l = s.before.before.loop in
+    let q = c.before.s.given in (
       at-image .image .given ∙ l .inv .0,
-      finish-on moverJob mover-lawful (l .p) (q .0 .0) (l .image) (sym (ap steppedAnswer (q .1)) ∙ s .step .ensures .0)
-          (s .step .ensures .1)
+      finish-on moverJob mover-lawful l.p q.0.0 l.image (sym (ap steppedAnswer q.1) ∙ s .step .ensures .0)
+          s.step.ensures.1
           ∙ l .inv .1,
     )
 
 returns : tie.Need-returns Inv-loop μ-loop
 returns c =
-    let s = c .before .before .before .before in let l = s .before .before .loop in
-    finish-last moverJob mover-lawful (l .p) (l .image)
-    (sym (ap steppedAnswer (c .enum-told .given .1)) ∙ s .step .ensures .0)
-    (s .step .ensures .1) (inl refl) (l .inv .1)
+    let s = c.before.before.before.before in let l = s.before.before.loop in
+    finish-last moverJob mover-lawful l.p l.image
+    (sym (ap steppedAnswer c.enum-told.given.1) ∙ s .step .ensures .0)
+    s.step.ensures.1 (inl refl) l.inv.1
 
 returns-2 : tie.Need-returns-2 Inv-loop μ-loop
 returns-2 c =
-    let s = c .before .before .before .before in let l = s .before .before .loop in
-    finish-last moverJob mover-lawful (l .p) (l .image)
-    (sym (ap steppedAnswer (c .enum-told2 .given .1)) ∙ s .step .ensures .0)
-    (s .step .ensures .1) (inr refl) (l .inv .1)
+    let s = c.before.before.before.before in let l = s.before.before.loop in
+    finish-last moverJob mover-lawful l.p l.image
+    (sym (ap steppedAnswer c.enum-told2.given.1) ∙ s .step .ensures .0)
+    s.step.ensures.1 (inr refl) l.inv.1
 
 pub finish-spec : {M : Type 1} → statement M
 finish-spec =

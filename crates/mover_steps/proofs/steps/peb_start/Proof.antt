@@ -8,8 +8,8 @@ use Rattle.mover_steps.proofs.steps.peb_start.Tie as tie
 
 mul-result : tie.Need-mul-result
 mul-result c =
-    let a = c .before .args in
-    let z : a .i * a .g .«peb_size» ≤ 4096 * 262144 = mul-le-mul {n₂ = 4096} {m₂ = 262144} (omega arith) (omega arith) in
+    let a = c.before.args in
+    let z : a .i * a.g.«peb_size» ≤ 4096 * 262144 = mul-le-mul {n₂ = 4096} {m₂ = 262144} (omega arith) (omega arith) in
     omega arith
 
 pub peb-start-spec : {M : Type 1} → statement M

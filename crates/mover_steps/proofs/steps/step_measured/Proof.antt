@@ -14,17 +14,17 @@ use Rattle.mover_steps.proofs.steps.step_measured.Tie as tie
 
 returns : tie.Need-returns
 returns c =
-    let s = c .before .before .before .before in
-    step-refused (s .args .plan) (s .args .image .now) (was-false (c .before .may-run .ensures) (c .if1 .taken))
+    let s = c.before.before.before.before in
+    step-refused s.args.plan s.args.image.now (was-false c.before.may-run.ensures c.if1.taken)
 
 -- where 18 does not refuse
-may : (e : tie.Else1) → let a = e .before .before .before .before .args in runnable (a .plan) (a .image .now) ≡ true
-may e = was-true (e .before .may-run .ensures) (e .if1 .left)
+may : (e : tie.Else1) → let a = e.before.before.before.before.args in runnable a.plan a.image.now ≡ true
+may e = was-true e.before.may-run.ensures e.if1.left
 
-runs : (e : tie.Else1) → let a = e .before .before .before .before .args in Running (a .g) (a .plan) (a .image .now)
+runs : (e : tie.Else1) → let a = e.before.before.before.before.args in Running a.g a.plan a.image.now
 runs e =
-    let s = e .before .before .before .before in
-    running (s .args .g) (s .args .plan) (s .pre) (s .args .image .now) (may e)
+    let s = e.before.before.before.before in
+    running s.args.g s.args.plan s.pre s.args.image.now (may e)
 
 data-steps-requires : tie.Need-data-steps-requires
 data-steps-requires c κs = data-bounds (runs c)
@@ -32,23 +32,23 @@ data-steps-requires c κs = data-bounds (runs c)
 returns-2 : tie.Need-returns-2
 unfolding stepCount
 returns-2 c =
-    let d = c .before .before in
-    let a = d .before .before .before .before .before .args in
-    step-done (a .plan) (a .image .now) (may (d .before)) (rw (← (d .data-steps .ensures .0)) (c .if2 .taken))
+    let d = c.before.before in
+    let a = d.before.before.before.before.before.args in
+    step-done a.plan a.image.now (may d.before) (rw (← d.data-steps.ensures.0) c.if2.taken)
 
 write-next-requires : tie.Need-write-next-requires
 unfolding stepCount
 write-next-requires c κs =
-    let d = c .before .before .before in
-    (runs (d .before), rw (← (d .data-steps .ensures .0)) (c .before .if2 .left))
+    let d = c.before.before.before in
+    (runs d.before, rw (← d.data-steps.ensures.0) c.before.if2.left)
 
 returns-3 : tie.Need-returns-3
 unfolding stepCount oneOn
 returns-3 c =
-    let w = c .before .before .before in let e = w .before .before in let d = e .before .before in
-    let a = d .before .before .before .before .before .args in
-    step-on (a .plan) (a .image .now) (may (d .before)) (rw (← (d .data-steps .ensures .0)) (e .if2 .left))
-    (w .write-next .ensures)
+    let w = c.before.before.before in let e = w.before.before in let d = e.before.before in
+    let a = d.before.before.before.before.before.args in
+    step-on a.plan a.image.now (may d.before) (rw (← d.data-steps.ensures.0) e.if2.left)
+    w.write-next.ensures
 
 pub step-measured-spec : {M : Type 1} → statement M
 step-measured-spec =

@@ -1,0 +1,133 @@
+"""The library as C sees it: the example built and run, the header in C and C++, and what the shared library exports."""
+
+import ctypes
+import os
+import re
+import shutil
+import subprocess
+import tempfile
+import unittest
+
+ROOT = os.path.dirname(os.path.dirname(os.path.abspath(__file__)))
+BUILD = os.path.join(ROOT, "build")
+HEADER = os.path.join(ROOT, "include", "choduljin.h")
+LIBRARY = os.path.join(BUILD, "libchoduljin.so")
+SLIP_SIZE = 20
+STRICT = ("-Wall", "-Wextra", "-Werror", "-pedantic", "-I" + os.path.dirname(HEADER))
+
+
+def read(*names):
+    with open(os.path.join(ROOT, *names), "rb") as f:
+        return f.read()
+
+
+def sample():
+    """Slip, dump and listing of the sample."""
+    whole = read("samples", "small.dump")
+    return whole[:SLIP_SIZE], whole[SLIP_SIZE:], read("samples", "small.txt").decode().splitlines()
+
+
+class Scratch(unittest.TestCase):
+    def setUp(self):
+        self.directory = tempfile.mkdtemp()
+        self.addCleanup(shutil.rmtree, self.directory)
+
+    def file(self, name, content):
+        path = os.path.join(self.directory, name)
+        with open(path, "wb") as f:
+            f.write(content)
+        return path
+
+
+class Example(Scratch):
+    def run_on(self, slip, dump):
+        words = [os.path.join(BUILD, "attach"), self.file("slip", slip), self.file("dump", dump)]
+        return subprocess.run(words, stdout=subprocess.PIPE, stderr=subprocess.PIPE)
+
+    def test_prints_grade_and_map(self):
+        slip, dump, listing = sample()
+        wanted = ["grade 1"] + ["volume %s LEB %s in PEB %s" % tuple(line.split()[1:])
+                                for line in listing if line.startswith("map ")]
+        done = self.run_on(slip, dump)
+        self.assertEqual((done.returncode, done.stderr, done.stdout.decode().splitlines()), (1, b"", wanted))
+
+    def test_prints_a_refusal(self):
+        slip, dump, _ = sample()
+        self.assertEqual(self.run_on(slip, dump[:-1]).stdout, b"refused 3 at 0\n")
+        done = self.run_on(slip[:-1], dump)
+        self.assertEqual((done.returncode, done.stdout), (2, b"refused 1 at 0\n"))
+
+    def test_a_slip_that_is_too_long_is_no_answer(self):
+        slip, dump, _ = sample()
+        done = self.run_on(slip * 10, dump)
+        self.assertEqual((done.returncode, done.stdout), (3, b""))
+        self.assertNotEqual(done.stderr, b"")
+
+
+# How many words each struct has, and where a plan's parts stand.
+SIZES = {"REPORT_WORDS": 17, "PLAN_WORDS": 24, "GEOMETRY_WORDS": 6, "EC_WORDS": 5, "VID_WORDS": 11, "RECORD_WORDS": 7,
+         "WRITE_WORDS": 3, "PLAN_VID": 7, "PLAN_EC": 18, "PLAN_STEPS": 23}
+
+
+class Header(Scratch):
+    PROGRAM = ("#include <choduljin.h>\n%s\nint main(void) { return choduljin_version() != CHODULJIN_VERSION; }\n"
+               % "\n".join("typedef char is_%s[CHODULJIN_%s == %d ? 1 : -1];" % (name.lower(), name, size)
+                           for name, size in SIZES.items())).encode()
+
+    def compiled(self, compiler, name, *options):
+        out = os.path.join(self.directory, "program")
+        words = [compiler, self.file(name, self.PROGRAM), "-o", out, LIBRARY, "-Wl,-rpath," + BUILD]
+        subprocess.run(words + list(STRICT + options), check=True)
+        return subprocess.run([out]).returncode
+
+    def test_c(self):
+        self.assertEqual(self.compiled(os.environ.get("CC", "cc"), "one.c", "-std=c99"), 0)
+
+    @unittest.skipUnless(shutil.which(os.environ.get("CXX", "c++")), "no C++ compiler")
+    def test_cxx(self):
+        self.assertEqual(self.compiled(os.environ.get("CXX", "c++"), "one.cc"), 0)
+
+
+def words_of(first):
+    """Names of the words in the header's enum that begins with this one, in their order, without their last."""
+    header = read("include", "choduljin.h").decode()
+    body = re.search(r"enum \{\s*(CHODULJIN_%s\b.*?)\};" % first, header, re.S).group(1)
+    return re.findall(r"^\s*CHODULJIN_(\w+)", body, re.M)[:-1]
+
+
+class Words(unittest.TestCase):
+    def test_a_report_has_its_words_in_the_header_s_order(self):
+        slip, dump, listing = sample()
+        library = ctypes.CDLL(LIBRARY)
+        lent = [(ctypes.c_uint32 * size)() for size in (4096 * 2, 4096 * 3, 128)] + [(ctypes.c_uint64 * 17)()]
+        slices = [slip, dump] + lent
+        answer = library.choduljin_attach(*[x for s in slices for x in (s, ctypes.c_size_t(len(s)))])
+        found = dict(zip(words_of("REPORT_NUMBER"), lent[3]))
+        first = listing[0].split()
+        told = dict(zip(first[::2], map(int, first[1::2])))
+        names = {"attached": "PEB_COUNT", "entries": "ENTRIES", "mean": "MEAN", "highest": "HIGHEST",
+                 "readonly": "READ_ONLY", "table": "TABLE", "copies": "COPIES_MARK", "grade": "GRADE"}
+        self.assertEqual({word: found["REPORT_" + name] for word, name in names.items()}, told)
+        self.assertEqual((answer, found["REPORT_PEB_SIZE"]), (0, int.from_bytes(slip[3:7], "big")))
+
+
+class Exports(unittest.TestCase):
+    def test_what_the_header_declares_and_nothing_else(self):
+        declared = set(re.findall(r"^uint32_t (choduljin_\w+)\(", read("include", "choduljin.h").decode(), re.M))
+        lines = subprocess.run(["nm", "-D", "--defined-only", LIBRARY], check=True, stdout=subprocess.PIPE).stdout
+        self.assertEqual({line.split()[-1].split("@")[0] for line in lines.decode().splitlines()}, declared)
+        self.assertEqual(len(declared), 13)
+
+    def test_needs_the_c_library_alone(self):
+        shown = subprocess.run(["readelf", "-d", LIBRARY], check=True, stdout=subprocess.PIPE).stdout.decode()
+        self.assertLessEqual(set(re.findall(r"\(NEEDED\).*\[(.*)\]", shown)), {"libc.so.6"})
+        self.assertIn("libchoduljin.so.0", shown)
+
+    def test_version(self):
+        found = ctypes.CDLL(LIBRARY).choduljin_version()
+        wanted = "%d.%d.%d" % (found >> 16, found >> 8 & 0xFF, found & 0xFF)
+        self.assertIn("VERSION := %s\n" % wanted, read("Makefile").decode())
+
+
+if __name__ == "__main__":
+    unittest.main()
