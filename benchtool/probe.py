@@ -1,0 +1,344 @@
+"""`ubibench probe`: geometries under which the good EC headers in a dump agree with their own starts.
+
+The library judges the headers. Here they are only looked for: at every place where the bytes are those that each EC
+header begins with, and those are taken from a header that the library writes.
+"""
+
+from collections import Counter, namedtuple
+from math import gcd
+
+from benchtool import library as lib
+from benchtool.dump import Way, read_dump
+from benchtool.numbers import grouped, sized
+from benchtool.progress import Progress
+from benchtool.trouble import Trouble, put, warn
+
+# A good EC header: from which byte of the dump on, and the starts it names.
+Header = namedtuple("Header", "at starts")
+
+# One block size: blocks, and bytes left over; headers at the start of blocks, and inside; of those at the start how
+# many name the same starts and have a good or an erased VID header there; the units and sub-units that give these
+# starts; whether headers stand at each second block (third, ..) only.
+Proposal = namedtuple("Proposal", "peb_size blocks left starts geometries at_start inside agree every page spare")
+
+POWERS = [1 << power for power in range(13)]
+BLOCK_SIZES = [1 << power for power in range(10, 19)]
+BLOCK_MOST = BLOCK_SIZES[-1]
+# Pages with their spare bytes, as chips are made.
+SPARES = ((512, 16), (2048, 64), (2048, 128), (4096, 128), (4096, 218), (4096, 224), (4096, 256), (1024, 32))
+# Where blocks start in a dump, spare bytes or not, is a multiple of this.
+GRID = 512
+MOST_SHOWN = 5
+
+
+# ---------------------------------------------------------- looking for headers
+
+def everywhere(image, magic):
+    """Every place where these bytes stand."""
+    at = image.buffer.find(magic)
+    while 0 <= at < image.length:
+        yield at
+        at = image.buffer.find(magic, at + 1)
+
+
+def on_grid(image, magic):
+    """The same, at multiples of GRID only: little of the dump is looked at."""
+    firsts = bytes(image.view[::GRID])
+    at = firsts.find(magic[:1])
+    while at >= 0:
+        yield at * GRID
+        at = firsts.find(magic[:1], at + 1)
+
+
+def good_headers(library, image, places):
+    found = []
+    for at in places:
+        header = library.read_ec(image, at)
+        if header is not None:
+            found.append(Header(at, (header["vid_start"], header["data_start"])))
+    return found
+
+
+# ------------------------------------------------------------------- proposing
+
+class Prober:
+    def __init__(self, library, image):
+        self.library = library
+        self.image = image
+        self.known = {}
+
+    def geometries(self, peb_size, starts):
+        """Units and sub-units that give these starts in blocks of this size, the most usual first."""
+        if peb_size not in self.known:
+            self.known[peb_size] = self.all_geometries(peb_size)
+        return self.known[peb_size].get(starts, [])
+
+    def all_geometries(self, peb_size):
+        found = {}
+        for unit in POWERS:
+            for sub_unit in POWERS:
+                words = self.library.geometry(peb_size, unit, sub_unit)
+                if words is not None:
+                    found.setdefault((words["vid_start"], words["data_start"]), []).append((unit, sub_unit))
+        for numbers in found.values():
+            numbers.sort(key=usual)
+        return found
+
+    def proposals(self, headers, more_sizes=(), page=0, spare=0):
+        """All block sizes that say something, the best first. With spare bytes, headers are those of the raw dump."""
+        length = self.image.length
+        if spare:
+            headers = [Header(header.at // (page + spare) * page, header.starts) for header in headers
+                       if header.at % (page + spare) == 0]
+            length = length // (page + spare) * page
+        together = 0
+        for header in headers:
+            together = gcd(together, header.at)
+        sizes = set(BLOCK_SIZES) | set(more_sizes) | {together}
+        made = [self.proposal(size, length, headers, page, spare) for size in sorted(sizes)
+                if BLOCK_SIZES[0] <= size <= BLOCK_MOST]
+        made = [one for one in made if one is not None]
+        return sorted(made, key=rank, reverse=True)
+
+    def proposal(self, peb_size, length, headers, page, spare):
+        blocks, left = divmod(length, peb_size)
+        if not 2 <= blocks <= lib.PEBS_MOST:
+            return None
+        starting = [header for header in headers if header.at % peb_size == 0]
+        named = Counter(header.starts for header in starting if self.fitting(peb_size, header.starts, page))
+        if not named:
+            return None
+        starts = max(named, key=lambda one: (named[one], one))
+        agree = sum(1 for header in starting if header.starts == starts
+                    and self.vid_agrees(header, peb_size, page, spare))
+        every = 0
+        for header in starting:
+            every = gcd(every, header.at // peb_size)
+        return Proposal(peb_size, blocks, left, starts, self.fitting(peb_size, starts, page), len(starting),
+                        len(headers) - len(starting), agree, every, page, spare)
+
+    def fitting(self, peb_size, starts, page):
+        """With spare bytes the page is known, and is the unit."""
+        found = self.geometries(peb_size, starts)
+        return [numbers for numbers in found if numbers[0] == page] if page else found
+
+    def vid_agrees(self, header, peb_size, page, spare):
+        """Where the EC header says that the VID header is, there is a good one, or none was written."""
+        at = header.at + header.starts[0]
+        if spare:
+            at = at // page * (page + spare) + at % page
+        raw = self.image.at(at, lib.HEADER_SIZE)
+        if raw == b"\xff" * lib.HEADER_SIZE:
+            return True
+        return self.library.read_vid(self.image, at, peb_size - header.starts[1]) is not None
+
+
+def usual(numbers):
+    """Pages without sub-pages first, then the largest sub-unit; then the smallest unit."""
+    unit, sub_unit = numbers
+    return (unit != sub_unit, unit if unit == sub_unit else -sub_unit, unit)
+
+
+def rank(one):
+    """Many blocks with a header that agrees, few headers inside blocks; a length of whole blocks."""
+    inside = one.inside / (one.at_start + one.inside)
+    return (one.agree > 0, one.agree / one.blocks - inside, one.left == 0, one.peb_size)
+
+
+def with_spares(prober, headers):
+    """The best proposal for each page with spare bytes that the dump's length and headers fit."""
+    found = []
+    together = 0
+    for header in headers:
+        together = gcd(together, header.at)
+    for page, spare in SPARES:
+        if prober.image.length % (page + spare) or not together or together % (page + spare):
+            continue
+        found += prober.proposals(headers, page=page, spare=spare)[:1]
+    return sorted(found, key=rank, reverse=True)
+
+
+def best_of(plain, spared):
+    """Spare bytes are believed where blocks of an odd size fit them, and no usual size does better."""
+    every = sorted(plain + spared, key=lambda one: (rank(one)[:2], one.peb_size & (one.peb_size - 1) == 0),
+                   reverse=True)
+    return every
+
+
+# -------------------------------------------------------- warnings elsewhere
+
+def warn_of_geometry(library, chip, numbers):
+    """Says so if probing would propose another geometry. Little is looked at unless something is odd."""
+    if numbers is None and chip.refusal is not None:
+        return
+    peb_size, unit, sub_unit = numbers or (chip.peb_size, chip.unit, chip.sub_unit)
+    given = library.geometry(peb_size, unit, sub_unit)
+    if chip.refusal is None and not looks_odd(library, chip):
+        return
+    places = set(on_grid(chip.image, library.ec_magic()))
+    if given is not None:
+        places.update(range(0, chip.image.length, peb_size))
+    headers = good_headers(library, chip.image, sorted(places))
+    prober = Prober(library, chip.image)
+    proposed = best_of(prober.proposals(headers, (peb_size,)), with_spares(prober, headers))
+    if not proposed or not proposed[0].agree:
+        return
+    best = proposed[0]
+    if given and (best.peb_size, best.starts, best.spare) == (peb_size, (given["vid_start"], given["data_start"]), 0):
+        return
+    warn("probing proposes %s instead: %s" % (options_of(best), agreement(best)))
+
+
+def looks_odd(library, chip):
+    """Whether the good headers are at each second block only (or third, ..), or stand inside blocks, too."""
+    every = 0
+    for peb in chip.pebs:
+        if peb.counter is not None:
+            every = gcd(every, peb.number)
+    if every != 1:
+        return True
+    magic = library.ec_magic()
+    for part in prime_factors(chip.peb_size):
+        inside = chip.peb_size // part
+        for at in range(inside, chip.image.length, chip.peb_size):
+            if chip.image.view[at] == magic[0] and library.read_ec(chip.image, at) is not None:
+                return True
+    return False
+
+
+def prime_factors(number):
+    found, factor = [], 2
+    while factor * factor <= number:
+        if number % factor == 0:
+            found.append(factor)
+            while number % factor == 0:
+                number //= factor
+        factor += 1
+    return found + [number] if number > 1 else found
+
+
+# -------------------------------------------------------------- the command
+
+def options_of(one):
+    unit, sub_unit = one.geometries[0]
+    text = "--peb-size %d --unit %d --sub-unit %d" % (one.peb_size, unit, sub_unit)
+    return text + " --oob %d" % one.spare if one.spare else text
+
+
+def agreement(one):
+    return "%s of %s good headers agree, in %s blocks" % (
+        grouped(one.agree), grouped(one.at_start + one.inside), grouped(one.blocks))
+
+
+def remarks(one):
+    """What speaks against it, or is to be known."""
+    if one.left:
+        yield "%s bytes are left over: the dump is cut short, or the block size is wrong" % grouped(one.left)
+    if one.inside:
+        yield "%s of %s good headers stand inside blocks: the block size is too large, or an image is stored in a " \
+            "volume" % (grouped(one.inside), grouped(one.inside + one.at_start))
+    if one.every > 1:
+        yield "good headers stand only at every %s block: the blocks may be %d times as large" % (
+            ordinal(one.every), one.every)
+    if one.every == 0:
+        yield "there is a good header in the first block only: the block size cannot be told from it"
+    if one.agree < one.at_start:
+        yield "good headers that name other starts, or have no good VID header there: %s" % grouped(
+            one.at_start - one.agree)
+
+
+def is_worse(one):
+    return bool(one.inside or one.every > 1)
+
+
+def ordinal(number):
+    return {2: "second", 3: "third"}.get(number, "%dth" % number)
+
+
+def same_starts(geometries):
+    """The other units and sub-units that come to the same starts."""
+    if len(geometries) == 1:
+        return "no other unit and sub-unit give these starts"
+    units, sub_units = (sorted(set(column)) for column in zip(*geometries))
+    if len(geometries) == sum(1 for unit in units for sub_unit in sub_units if sub_unit <= unit):
+        return "the same starts: unit %s, sub-unit %s, not above the unit" % (span(units), span(sub_units))
+    return "the same starts: " + ", ".join("%d/%d" % numbers for numbers in sorted(geometries))
+
+
+def span(powers):
+    return str(powers[0]) if len(powers) == 1 else "%d to %d" % (powers[0], powers[-1])
+
+
+def run(arguments):
+    library = lib.load()
+    raw, proposed, headers = probed(library, arguments)
+    shown = proposed[:MOST_SHOWN]
+    if arguments.json:
+        import json
+        put(json.dumps(as_objects(raw, headers, shown), indent=1) + "\n")
+    elif shown:
+        put("\n".join(lines(raw, headers, shown)) + "\n")
+    if not shown:
+        raise Trouble("%s: there is no good EC header in its %s bytes that a geometry could be told from"
+                      % (raw.name, grouped(raw.length)))
+    return 0
+
+
+def probed(library, arguments):
+    """The dump, the proposals and the good headers."""
+    way = Way(0, 0, 0, False)
+    if arguments.oob:
+        way = Way(page_for(arguments), arguments.oob, 0, False)
+    dump = read_dump(arguments.dump, way)
+    prober = Prober(library, dump.image)
+    with Progress("looking for headers"):
+        headers = good_headers(library, dump.image, everywhere(dump.image, library.ec_magic()))
+    plain = prober.proposals(headers)
+    spared = [] if arguments.oob else with_spares(prober, headers)
+    return dump, best_of(plain, spared), headers
+
+
+def page_for(arguments):
+    if arguments.unit:
+        return arguments.unit
+    pages = [page for page, spare in SPARES if spare == arguments.oob]
+    if len(pages) != 1:
+        raise Trouble("--oob %d: say the page's size with --unit" % arguments.oob)
+    return pages[0]
+
+
+def lines(dump, headers, proposed):
+    yield "%s: %s bytes, %s good EC headers" % (dump.name, grouped(dump.length), grouped(len(headers)))
+    for page, spare in SPARES:
+        if dump.length % (page + spare) == 0:
+            yield "the length fits pages of %s and %d spare bytes" % (grouped(page), spare)
+    worse = [one for one in proposed[1:] if is_worse(one)]
+    for one in proposed:
+        if one not in worse:
+            yield ""
+            yield from proposal_lines(one)
+    if worse:
+        yield ""
+        yield "worse:"
+    for one in worse:
+        yield "  %s: %s" % (options_of(one), "; ".join(remarks(one)))
+
+
+def proposal_lines(one):
+    yield options_of(one)
+    yield "  " + agreement(one)
+    yield "  blocks of %s, VID headers at %d, data at %d; %s" % (
+        sized(one.peb_size), *one.starts, same_starts(one.geometries))
+    if one.spare:
+        yield "  the headers fit pages of %s and %d spare bytes after each" % (grouped(one.page), one.spare)
+    for remark in remarks(one):
+        yield "  " + remark
+
+
+def as_objects(dump, headers, proposed):
+    return {"dump": {"name": dump.name, "length": dump.length}, "good_headers": len(headers),
+            "proposals": [dict(peb_size=one.peb_size, unit=one.geometries[0][0], sub_unit=one.geometries[0][1],
+                               oob=one.spare, blocks=one.blocks, left_over=one.left, vid_start=one.starts[0],
+                               data_start=one.starts[1], agree=one.agree, at_block_starts=one.at_start,
+                               inside_blocks=one.inside, every=one.every, same_starts=one.geometries,
+                               remarks=list(remarks(one))) for one in proposed]}
