@@ -4,17 +4,16 @@ In place the library stores straight into a shared mapping of the file, and each
 process that is killed leaves what the library stored until then, as a power cut does.
 """
 
-import errno
 import fcntl
 import mmap
 import os
 import stat
-import tempfile
 from collections import namedtuple
 
 from benchtool import library as lib
 from benchtool.bench import Bench, Chip
 from benchtool.dump import STANDARD_INPUT
+from benchtool.files import refuse_output, write_whole
 from benchtool.library import Image
 from benchtool.progress import Progress
 from benchtool.trouble import Trouble, of_system, put
@@ -36,7 +35,7 @@ def run(arguments):
     dump = bench.read(arguments.dump)
     job = begin(bench, dump, arguments)
     carry_out(job, Copied(dump.image), arguments.stop_after)
-    write_copy(dump.front, dump.image, arguments.output)
+    write_whole(arguments.output, [dump.front, dump.image.view])
     tell_after(job, bench.slip_of(dump), dump.image)
     return 0
 
@@ -222,53 +221,3 @@ def refuse_changed(job, dump, target):
         at = peb * job.peb_size
         if dump.image.at(at, job.peb_size) != target.image.at(at, job.peb_size):
             raise Trouble("%s: the file changed while it was read" % dump.name)
-
-
-# --------------------------------------------------------------------- a copy
-
-def refuse_output(path, output):
-    """The dump itself is never the copy; and what is no plain file is not replaced by one."""
-    try:
-        if path != STANDARD_INPUT and os.path.exists(output) and os.path.samefile(path, output):
-            raise Trouble("%s and %s are the same file: a move in the dump itself is --in-place" % (path, output))
-        if os.path.exists(output) and not os.path.isfile(output):
-            raise Trouble("%s: %s" % (output, os.strerror(errno.EEXIST)) + ", and it is no plain file")
-    except OSError as error:
-        raise of_system(error.filename or path, error)
-
-
-def write_copy(front, image, output):
-    """Under another name beside it first, synced, and renamed when it is whole."""
-    directory = os.path.dirname(os.path.abspath(output))
-    temporary = None
-    try:
-        with tempfile.NamedTemporaryFile(dir=directory, prefix=".ubibench-", delete=False) as file:
-            temporary = file.name
-            file.write(front)
-            with Progress("writing " + output):
-                file.write(image.view)
-                file.flush()
-                os.fsync(file.fileno())
-            os.fchmod(file.fileno(), 0o666 & ~current_umask())
-        os.replace(temporary, output)
-        temporary = None
-        sync_directory(directory)
-    except OSError as error:
-        raise of_system(output, error)
-    finally:
-        if temporary is not None:
-            os.unlink(temporary)
-
-
-def current_umask():
-    mask = os.umask(0)
-    os.umask(mask)
-    return mask
-
-
-def sync_directory(directory):
-    handle = os.open(directory, os.O_RDONLY)
-    try:
-        os.fsync(handle)
-    finally:
-        os.close(handle)
