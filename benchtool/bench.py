@@ -19,6 +19,8 @@ class Bench:
         self.spare = getattr(arguments, "oob", 0)
         self.front = SIZE if arguments.slip else 0
         self.numbers = None
+        # What probing proposes instead, once a dump is attached.
+        self.hint = None
         if arguments.slip:
             self.refuse_numbers(arguments)
             return
@@ -52,7 +54,9 @@ class Bench:
         """The chip, attached or refused, with the warnings that are due."""
         chip = Chip(self.library, self.slip_of(dump), dump.image)
         self.compare_blocks(chip, dump)
-        probe.warn_of_geometry(self.library, chip, self.numbers)
+        self.hint = probe.other_geometry(self.library, chip, self.numbers)
+        if self.hint:
+            warn(self.hint)
         return chip
 
     def compare_blocks(self, chip, dump):

@@ -11,7 +11,7 @@ from benchtool import library as lib
 from benchtool.dump import Way, read_dump
 from benchtool.numbers import grouped, sized
 from benchtool.progress import Progress
-from benchtool.trouble import Trouble, put, warn
+from benchtool.trouble import Trouble, put
 
 # A good EC header: from which byte of the dump on, and the starts it names.
 Header = namedtuple("Header", "at starts")
@@ -160,33 +160,38 @@ def with_spares(prober, headers):
 
 def best_of(plain, spared):
     """Spare bytes are believed where blocks of an odd size fit them, and no usual size does better."""
-    every = sorted(plain + spared, key=lambda one: (rank(one)[:2], one.peb_size & (one.peb_size - 1) == 0),
-                   reverse=True)
-    return every
+    return sorted(plain + spared, reverse=True,
+                  key=lambda one: (rank(one)[:2], one.peb_size & (one.peb_size - 1) == 0))
 
 
 # -------------------------------------------------------- warnings elsewhere
 
-def warn_of_geometry(library, chip, numbers):
-    """Says so if probing would propose another geometry. Little is looked at unless something is odd."""
-    if numbers is None and chip.refusal is not None:
-        return
-    peb_size, unit, sub_unit = numbers or (chip.peb_size, chip.unit, chip.sub_unit)
-    given = library.geometry(peb_size, unit, sub_unit)
+def other_geometry(library, chip, numbers):
+    """What probing proposes instead of the given numbers, or None. Little is looked at unless something is odd."""
     if chip.refusal is None and not looks_odd(library, chip):
-        return
-    places = set(on_grid(chip.image, library.ec_magic()))
-    if given is not None:
-        places.update(range(0, chip.image.length, peb_size))
-    headers = good_headers(library, chip.image, sorted(places))
-    prober = Prober(library, chip.image)
-    proposed = best_of(prober.proposals(headers, (peb_size,)), with_spares(prober, headers))
-    if not proposed or not proposed[0].agree:
-        return
-    best = proposed[0]
-    if given and (best.peb_size, best.starts, best.spare) == (peb_size, (given["vid_start"], given["data_start"]), 0):
-        return
-    warn("probing proposes %s instead: %s" % (options_of(best), agreement(best)))
+        return None
+    if numbers is None:
+        if chip.refusal is not None:
+            return None
+        numbers = chip.peb_size, chip.unit, chip.sub_unit
+    best = quick_proposal(library, chip.image, numbers)
+    if best is None or not best.agree:
+        return None
+    given = library.geometry(*numbers)
+    if given and (best.peb_size, best.starts, best.spare) == (numbers[0], (given["vid_start"], given["data_start"]), 0):
+        return None
+    return "probing proposes %s instead: %s" % (options_of(best), agreement(best))
+
+
+def quick_proposal(library, image, numbers):
+    """The best by headers on the grid, and at the starts of blocks as they were given."""
+    places = set(on_grid(image, library.ec_magic()))
+    if library.geometry(*numbers) is not None:
+        places.update(range(0, image.length, numbers[0]))
+    headers = good_headers(library, image, sorted(places))
+    prober = Prober(library, image)
+    proposed = best_of(prober.proposals(headers, numbers[:1]), with_spares(prober, headers))
+    return proposed[0] if proposed else None
 
 
 def looks_odd(library, chip):

@@ -31,7 +31,8 @@ th { font-size: 9pt; color: #444; border-bottom-color: #1b1f23 }
 tr { break-inside: avoid }
 td.number, th.number { text-align: right; font-variant-numeric: tabular-nums; white-space: nowrap }
 td.name { overflow-wrap: anywhere }
-.facts th { width: 44mm; font-weight: normal; border-bottom-color: #b8bec4 }
+.where { width: 40mm }
+.facts th { width: 44mm; font-weight: normal; font-size: inherit; border-bottom-color: #b8bec4 }
 .facts td { overflow-wrap: anywhere }
 .picture { display: block; width: 100%; height: auto; break-inside: avoid }
 .map { margin: 0 }
@@ -46,6 +47,7 @@ pre { font: 7.5pt/1.3 "DejaVu Sans Mono", "Liberation Mono", monospace; columns:
   white-space: pre-wrap; margin: 0 }
 pre.first { columns: 1; margin-bottom: 2mm; font-weight: bold }
 code { font-family: "DejaVu Sans Mono", "Liberation Mono", monospace; font-size: 92% }
+code.sum { font-size: 83% }
 .todo { font-weight: bold }
 .sub { color: #555; font-size: 9.5pt; margin: 0 }
 footer { margin-top: 8mm; padding-top: 2mm; border-top: 0.2mm solid #888; font-size: 8.5pt; color: #555 }
@@ -105,8 +107,10 @@ class Page:
         refused = self.chip.refusal
         meaning, to_do = words.meaning_of(refused)
         said = [safe(meaning), "<span class=\"todo\">What to do:</span> " + marked(to_do)]
+        if self.bench.hint:
+            said.append("<span class=\"todo\">Geometry:</span> " + safe(self.bench.hint) + ".")
         yield from self.head("faults", "Refused: %d at %d" % (refused.number, refused.place), said)
-        yield "<p>The dump cannot be listed, so nothing can be said of its blocks.</p>"
+        yield "<p>The dump cannot be listed, so nothing is said of its blocks.</p>"
         yield from self.facts()
         yield "<h2>The listing</h2>\n<pre class=\"first\">%s</pre>" % safe(refused.line)
         yield from self.check_first()
@@ -135,7 +139,7 @@ class Page:
     def faults(self, faults):
         if not faults:
             return
-        yield "<h2>What was found, and what to do</h2>\n<table><tr><th>Where</th><th>What it means</th>" \
+        yield "<h2>What was found, and what to do</h2>\n<table><tr><th class=\"where\">Where</th><th>What it means</th>" \
             "<th>What to do</th></tr>"
         for fault in faults:
             yield "<tr><td class=\"name\"><b>%s</b><br>%s</td><td>%s</td><td>%s</td></tr>" % (
@@ -144,6 +148,8 @@ class Page:
 
     def notes(self):
         notes = words.notes(self.chip)
+        if self.bench.hint:
+            notes.insert(0, "The geometry may be wrong: %s." % self.bench.hint)
         if notes:
             yield "<h2>To be known</h2>\n<ul>%s</ul>" % "".join("<li>%s</li>" % safe(note) for note in notes)
 
@@ -157,7 +163,7 @@ class Page:
         dump, chip = self.dump, self.chip
         yield "Dump", safe(dump.name)
         yield "Length", "%s bytes" % grouped(dump.length)
-        yield "SHA-256", "<code>%s</code>" % (dump.sha256 or "not made")
+        yield "SHA-256", "<code class=\"sum\">%s</code>" % (dump.sha256 or "not made")
         if self.bench.numbers:
             yield "Numbers given", "block %s, unit %s, sub-unit %s%s" % (
                 tuple(map(sized, self.bench.numbers))

@@ -9,6 +9,7 @@ from benchtool.library import LAYOUT_VOLUME
 from benchtool.numbers import grouped
 
 ROW = 64
+ROW_LEAST = 16
 CELL = 11
 LEFT = 34
 TOP = 14
@@ -27,15 +28,16 @@ TABLE_STYLE = ("#1e3f57", "#ffffff", "T")
 
 
 def chip_map(chip):
-    """A cell for each PEB in rows of 64, with what it holds as its title."""
-    rows = -(-chip.peb_count // ROW)
-    width, height = LEFT + ROW * CELL + 2, TOP + rows * CELL + 4
+    """A cell for each PEB in rows of 64, with what it holds as its title. A chip of few blocks has shorter rows."""
+    columns = ROW if chip.peb_count > ROW else 2 * ROW_LEAST if chip.peb_count > 2 * ROW_LEAST else ROW_LEAST
+    rows = -(-chip.peb_count // columns)
+    width, height = LEFT + columns * CELL + 2, TOP + rows * CELL + 4
     parts = [opening("Chip map", width, height), definitions()]
-    parts += [text(LEFT + column * CELL + 1, TOP - 4, column) for column in range(0, ROW, 8)]
-    parts += [text(LEFT - 5, TOP + row * CELL + 8, row * ROW, "end") for row in range(rows)]
+    parts += [text(LEFT + column * CELL + 1, TOP - 4, column) for column in range(0, columns, 8)]
+    parts += [text(LEFT - 5, TOP + row * CELL + 8, row * columns, "end") for row in range(rows)]
     places = chip.places()
     for peb in chip.pebs:
-        row, column = divmod(peb.number, ROW)
+        row, column = divmod(peb.number, columns)
         parts.append(cell(chip, peb, places.get(peb.number), LEFT + column * CELL, TOP + row * CELL))
     return "".join(parts) + "</svg>"
 
@@ -98,9 +100,9 @@ def opening(name, width, height):
 
 # -------------------------------------------------------------- the histogram
 
-WIDE, HIGH = 640, 150
-FOOT = 26
-HEAD = 16
+WIDE, HIGH = 640, 130
+FOOT = 22
+HEAD = 30
 
 
 def histogram(chip):
@@ -125,7 +127,7 @@ def bar(one, x, step, most):
     counted = '<text x="%.1f" y="%.1f" font-size="9" text-anchor="middle">%s</text>' % (
         middle, HIGH - high - 4, grouped(one.count)) if one.count else ""
     shown = label(one).replace(" to ", "\u2013")
-    size = 9 if len(shown) * 5 < step else max(4, 9 * step / (len(shown) * 5.2))
+    size = min(9.0, 9 * step / (len(shown) * 6 + 4))
     return drawn + counted + '<text x="%.1f" y="%d" font-size="%.1f" text-anchor="middle" fill="#333">%s</text>' % (
         middle, HIGH + 14, size, shown)
 
@@ -133,6 +135,6 @@ def bar(one, x, step, most):
 def mean_line(mean, bins, step):
     width = bins[0].high - bins[0].low + 1
     x = (mean - bins[0].low + 0.5) / width * step
-    return '<path d="M%.1f 0 V%d" stroke="#b3261e" stroke-width="1.2" stroke-dasharray="4 3"/>' \
-        '<text x="%.1f" y="-5" font-size="9" text-anchor="middle" fill="#7a1a14">mean %s</text>' % (
+    return '<path d="M%.1f -14 V%d" stroke="#b3261e" stroke-width="1.2" stroke-dasharray="4 3"/>' \
+        '<text x="%.1f" y="-18" font-size="9" text-anchor="middle" fill="#7a1a14">mean %s</text>' % (
             x, HIGH, min(max(x, 20), WIDE - 20), grouped(mean))
