@@ -38,9 +38,9 @@ class Bench:
         if self.spare:
             raise Trouble("--slip and --oob do not go together: ubilist takes no spare bytes")
 
-    def read(self, path, hashed=False):
+    def read(self, path, hashed=False, file=None):
         page = self.numbers[1] if self.spare else 0
-        return read_dump(path, Way(page, self.spare, self.front, hashed))
+        return read_dump(path, Way(page, self.spare, self.front, hashed), file)
 
     def slip_of(self, dump):
         if self.front:

@@ -1,6 +1,7 @@
 """A dump with what the library says of it."""
 
 from collections import Counter, namedtuple
+from functools import cached_property
 
 from benchtool.library import LAYOUT_VOLUME, NONE, RECORD_SIZE, RECORDS_MOST, REPORT, USER_VOLUMES
 from benchtool.progress import Progress
@@ -30,11 +31,6 @@ class Chip:
         self.refusal = None
         if self.report["number"]:
             self.refusal = library.refusal(self.report["number"], self.report["place"])
-            return
-        self.pebs = self.read_pebs()
-        self.map = self.read_map()
-        self.states = list(self.tables.states)
-        self.volumes = self.read_volumes()
 
     def __getattr__(self, name):
         """The report's words by name."""
@@ -43,18 +39,25 @@ class Chip:
             return report[name]
         raise AttributeError(name)
 
-    # The tables
+    # The tables, read when they are asked for
 
-    def read_pebs(self):
+    @cached_property
+    def pebs(self):
         words = self.tables.pebs[:2 * self.peb_count]
         counters = [None if word == NONE else word for word in words[1::2]]
         return [Peb(*row) for row in zip(range(self.peb_count), words[::2], counters)]
 
-    def read_map(self):
+    @cached_property
+    def map(self):
         words = self.tables.map[:3 * self.entries]
         return [Entry(*row) for row in zip(words[::3], words[1::3], words[2::3])]
 
-    def read_volumes(self):
+    @cached_property
+    def states(self):
+        return list(self.tables.states)
+
+    @cached_property
+    def volumes(self):
         """The records of the table taken, where the map has it."""
         layout = self.place_of(LAYOUT_VOLUME, self.table)
         start = layout * self.peb_size + self.data_start
@@ -90,7 +93,12 @@ class Chip:
         return self.library.read_vid(self.image, peb * self.peb_size + self.vid_start, self.leb_size)
 
     def counters(self):
-        return [peb.counter for peb in self.pebs if peb.counter is not None]
+        return [word for word in self.tables.pebs[1:2 * self.peb_count:2] if word != NONE]
+
+    def with_counter(self):
+        """The PEBs whose EC header is good."""
+        words = self.tables.pebs[1:2 * self.peb_count:2]
+        return [number for number, word in enumerate(words) if word != NONE]
 
     def class_counts(self):
         found = Counter(peb.klass for peb in self.pebs)

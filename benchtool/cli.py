@@ -231,11 +231,13 @@ def answer(words):
 
 
 def refuse(refused):
+    from benchtool import words
     try:
         put(refused.line + "\n")
     except Trouble as trouble:
         say(str(trouble))
         return TROUBLE
+    say(words.refusal_words(refused))
     return REFUSED
 
 

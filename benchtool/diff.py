@@ -5,7 +5,7 @@ from collections import namedtuple
 from benchtool import words
 from benchtool.bench import Bench
 from benchtool.library import LAYOUT_VOLUME
-from benchtool.numbers import grouped
+from benchtool.numbers import counted, grouped
 from benchtool.trouble import Refused, put
 
 Change = namedtuple("Change", "peb klass counter place content")
@@ -86,7 +86,7 @@ def content_text(before, after, peb):
     if old == new:
         return ""
     different = [at for at in range(size) if old[at] != new[at]]
-    return "content %s bytes from %d to %d" % (grouped(len(different)), different[0], different[-1])
+    return "content %s from %d to %d" % (counted(len(different), "byte"), different[0], different[-1])
 
 
 def lengths(before, after):

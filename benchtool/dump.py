@@ -34,10 +34,12 @@ def read_piece(file, view):
     return count
 
 
-def read_dump(path, way=PLAIN):
-    """The dump, or Trouble with the system's words."""
+def read_dump(path, way=PLAIN, file=None):
+    """The dump, or Trouble with the system's words. A file that is open already is read from where it stands."""
     name = "standard input" if path == STANDARD_INPUT else path
     try:
+        if file is not None:
+            return Reader(name, file, way).dump()
         with opened(path) as file:
             return Reader(name, file, way).dump()
     except OSError as error:

@@ -15,6 +15,7 @@ from benchtool.bench import Bench, Chip
 from benchtool.dump import STANDARD_INPUT
 from benchtool.files import refuse_output, write_whole
 from benchtool.library import Image
+from benchtool.numbers import counted
 from benchtool.progress import Progress
 from benchtool.trouble import Trouble, of_system, put
 
@@ -155,10 +156,10 @@ def described(job, number, write):
     if write.kind == ERASED:
         return "erases block %d" % peb
     if number == 1:
-        return "stores the VID header, %d bytes, in %s" % (write.size, place)
+        return "stores the VID header, %s, in %s" % (counted(write.size, "byte"), place)
     if number == len(job.writes):
-        return "stores the EC header, %d bytes, in %s" % (write.size, place)
-    return "stores %d bytes of data in %s" % (write.size, place)
+        return "stores the EC header, %s, in %s" % (counted(write.size, "byte"), place)
+    return "stores %s of data in %s" % (counted(write.size, "byte"), place)
 
 
 def tell_undone(job, steps):
@@ -202,7 +203,7 @@ def move_in(bench, arguments, file):
         raise Trouble("%s: --in-place is for plain files" % arguments.dump)
     if bench.front:
         raise Trouble("--in-place is for dumps without a slip in front")
-    dump = bench.read(arguments.dump)
+    dump = bench.read(arguments.dump, file=file)
     job = begin(bench, dump, arguments)
     if os.fstat(file.fileno()).st_size != dump.image.length:
         raise Trouble("%s: the file changed while it was read" % arguments.dump)
@@ -211,7 +212,8 @@ def move_in(bench, arguments, file):
     carry_out(job, target, arguments.stop_after)
     os.fsync(file.fileno())
     target.close()
-    tell_after(job, bench.slip_of(dump), bench.read(arguments.dump).image)
+    file.seek(0)
+    tell_after(job, bench.slip_of(dump), bench.read(arguments.dump, file=file).image)
     return 0
 
 

@@ -27,12 +27,17 @@ def grouped(number):
     return format(number, ",")
 
 
+def counted(number, noun):
+    """1 byte, 2 bytes."""
+    return "%s %s%s" % (grouped(number), noun, "" if number == 1 else "s")
+
+
 def sized(number):
     """The shortest of bytes, KiB and MiB that says it exactly."""
     for unit, word in ((1 << 20, "MiB"), (1 << 10, "KiB")):
         if number >= unit and number % unit == 0:
             return "%s %s" % (grouped(number // unit), word)
-    return "%s bytes" % grouped(number)
+    return counted(number, "byte")
 
 
 def ranges(numbers):

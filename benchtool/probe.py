@@ -59,6 +59,14 @@ def good_headers(library, image, places):
     return found
 
 
+def together(numbers):
+    """The greatest number that divides all; 0 if all are 0."""
+    found = 0
+    for number in numbers:
+        found = gcd(found, number)
+    return found
+
+
 # ------------------------------------------------------------------- proposing
 
 class Prober:
@@ -91,10 +99,7 @@ class Prober:
             headers = [Header(header.at // (page + spare) * page, header.starts) for header in headers
                        if header.at % (page + spare) == 0]
             length = length // (page + spare) * page
-        together = 0
-        for header in headers:
-            together = gcd(together, header.at)
-        sizes = set(BLOCK_SIZES) | set(more_sizes) | {together}
+        sizes = set(BLOCK_SIZES) | set(more_sizes) | {together(header.at for header in headers)}
         made = [self.proposal(size, length, headers, page, spare) for size in sorted(sizes)
                 if BLOCK_SIZES[0] <= size <= BLOCK_MOST]
         made = [one for one in made if one is not None]
@@ -111,9 +116,7 @@ class Prober:
         starts = max(named, key=lambda one: (named[one], one))
         agree = sum(1 for header in starting if header.starts == starts
                     and self.vid_agrees(header, peb_size, page, spare))
-        every = 0
-        for header in starting:
-            every = gcd(every, header.at // peb_size)
+        every = together(header.at // peb_size for header in starting)
         return Proposal(peb_size, blocks, left, starts, self.fitting(peb_size, starts, page), len(starting),
                         len(headers) - len(starting), agree, every, page, spare)
 
@@ -148,11 +151,9 @@ def rank(one):
 def with_spares(prober, headers):
     """The best proposal for each page with spare bytes that the dump's length and headers fit."""
     found = []
-    together = 0
-    for header in headers:
-        together = gcd(together, header.at)
+    apart = together(header.at for header in headers)
     for page, spare in SPARES:
-        if prober.image.length % (page + spare) or not together or together % (page + spare):
+        if prober.image.length % (page + spare) or not apart or apart % (page + spare):
             continue
         found += prober.proposals(headers, page=page, spare=spare)[:1]
     return sorted(found, key=rank, reverse=True)
@@ -196,11 +197,7 @@ def quick_proposal(library, image, numbers):
 
 def looks_odd(library, chip):
     """Whether the good headers are at each second block only (or third, ..), or stand inside blocks, too."""
-    every = 0
-    for peb in chip.pebs:
-        if peb.counter is not None:
-            every = gcd(every, peb.number)
-    if every != 1:
+    if together(chip.with_counter()) != 1:
         return True
     magic = library.ec_magic()
     for part in prime_factors(chip.peb_size):

@@ -50,8 +50,8 @@ code { font-family: "DejaVu Sans Mono", "Liberation Mono", monospace; font-size:
 code.sum { font-size: 83% }
 .todo { font-weight: bold }
 .sub { color: #555; font-size: 9.5pt; margin: 0 }
-footer { margin-top: 8mm; padding-top: 2mm; border-top: 0.2mm solid #888; font-size: 8.5pt; color: #555 }
 * { print-color-adjust: exact; -webkit-print-color-adjust: exact }
+@media print { body { margin: 0; padding: 0; max-width: none } }
 @media screen and (max-width: 700px) { pre { columns: 1 } .legend { columns: 1 } }
 """
 
@@ -93,13 +93,15 @@ class Page:
 
     def head(self, kind, verdict, said):
         yield "<h1>%s</h1>" % self.title
-        yield "<p class=\"sub\">Chip report by ubibench %s</p>" % self.chip.library.version()
+        yield "<p class=\"sub\">Chip report, made %s by ubibench %s. %s</p>" % (
+            time.strftime("%Y-%m-%d %H:%M %Z"), self.chip.library.version(), self.size_words())
         yield "<div class=\"verdict %s\"><strong>%s</strong>%s</div>" % (
             kind, verdict, "".join("<p>%s</p>" % line for line in said))
 
-    def foot(self):
-        yield "<footer>ubibench and libchoduljin %s; page made %s.</footer>" % (
-            self.chip.library.version(), time.strftime("%Y-%m-%d %H:%M %Z"))
+    def size_words(self):
+        if self.chip.refusal is not None:
+            return "%s bytes." % grouped(self.dump.length)
+        return "%s blocks of %s." % (grouped(self.chip.peb_count), sized(self.chip.peb_size))
 
     # A refused dump
 
@@ -114,7 +116,6 @@ class Page:
         yield from self.facts()
         yield "<h2>The listing</h2>\n<pre class=\"first\">%s</pre>" % safe(refused.line)
         yield from self.check_first()
-        yield from self.foot()
 
     # An attached one
 
@@ -122,19 +123,18 @@ class Page:
         chip = self.chip
         faults = words.faults(chip)
         if chip.grade:
-            said = ["Grade 1. %s." % "; ".join("%s: %s" % (safe(fault.where), safe(fault.what)) for fault in faults)]
+            said = ["Grade 1. " + " ".join(safe("%s: %s." % (capital(fault.where), fault.what)) for fault in faults)]
             yield from self.head("faults", words.GRADE_1, said)
         else:
             yield from self.head("good", words.GRADE_0, ["Grade 0. " + words.GRADE_0_SAYS])
         yield from self.faults(faults)
         yield from self.notes()
-        yield from self.facts()
         yield from self.map()
         yield from self.volumes()
         yield from self.wear()
+        yield from self.facts()
         yield from self.check_first()
         yield from self.listing()
-        yield from self.foot()
 
     def faults(self, faults):
         if not faults:
@@ -143,7 +143,7 @@ class Page:
             "<th>What to do</th></tr>"
         for fault in faults:
             yield "<tr><td class=\"name\"><b>%s</b><br>%s</td><td>%s</td><td>%s</td></tr>" % (
-                safe(fault.what), safe(fault.where), safe(fault.meaning), safe(fault.to_do))
+                safe(capital(fault.what)), safe(fault.where), safe(capital(fault.meaning)), safe(capital(fault.to_do)))
         yield "</table>"
 
     def notes(self):
@@ -168,6 +168,7 @@ class Page:
             yield "Numbers given", "block %s, unit %s, sub-unit %s%s" % (
                 tuple(map(sized, self.bench.numbers))
                 + (", %d spare bytes a page left out" % self.bench.spare if self.bench.spare else "",))
+        yield "Made by", "ubibench with libchoduljin %s" % chip.library.version()
         if chip.refusal is not None:
             return
         told = "as the chip has" if self.bench.blocks else "the chip's number was not told: compare it"
@@ -245,6 +246,10 @@ def missing_words(volume):
     word = "not written" if volume.used is None else "missing"
     said = ranges(missing)
     return "<br><span class=\"sub\">%s: %s</span>" % (word, said if len(said) < 60 else "%d of them" % len(missing))
+
+
+def capital(text):
+    return text[:1].upper() + text[1:]
 
 
 def safe(text):

@@ -114,6 +114,11 @@ def meaning_of(refused):
     return tuple(text.replace("`P`", str(refused.place)) for text in REFUSALS[refused.number])
 
 
+def refusal_words(refused):
+    """On one line, for standard error."""
+    return "refused %d: %s What to do: %s" % ((refused.number,) + meaning_of(refused))
+
+
 def blocks(numbers):
     return ("block " if len(numbers) == 1 else "blocks ") + ranges(numbers)
 
