@@ -228,6 +228,15 @@ def answer(words):
         return ended.code or GRADE_0
     except KeyboardInterrupt:
         return INTERRUPTED
+    except MemoryError:
+        say("not enough memory")
+        return TROUBLE
+    except Exception:
+        # Python's own status for it is 1, which is a grade here.
+        import traceback
+        traceback.print_exc()
+        say("this is a fault of the program, please report it")
+        return TROUBLE
 
 
 def refuse(refused):

@@ -26,7 +26,7 @@ def everything(chip, dump):
 
 
 def refusal(refused):
-    meaning, to_do = words.REFUSALS[refused.number]
+    meaning, to_do = words.meaning_of(refused)
     return {"number": refused.number, "place": refused.place, "line": refused.line, "meaning": meaning,
             "to_do": to_do}
 
