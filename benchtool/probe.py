@@ -26,6 +26,8 @@ BLOCK_SIZES = [1 << power for power in range(10, 19)]
 BLOCK_MOST = BLOCK_SIZES[-1]
 # Pages with their spare bytes, as chips are made.
 SPARES = ((512, 16), (2048, 64), (2048, 128), (4096, 128), (4096, 218), (4096, 224), (4096, 256), (1024, 32))
+# Pages of NAND chips, and of NOR flash, which is written byte by byte.
+PAGES = (1, 512, 2048, 4096)
 # Where blocks start in a dump, spare bytes or not, is a multiple of this.
 GRID = 512
 MOST_SHOWN = 5
@@ -137,9 +139,9 @@ class Prober:
 
 
 def usual(numbers):
-    """Pages without sub-pages first, then the largest sub-unit; then the smallest unit."""
+    """Pages as chips have them first, then those without sub-pages; then the largest sub-unit and smallest unit."""
     unit, sub_unit = numbers
-    return (unit != sub_unit, unit if unit == sub_unit else -sub_unit, unit)
+    return (unit not in PAGES, unit != sub_unit, unit if unit == sub_unit else -sub_unit, unit)
 
 
 def rank(one):
