@@ -111,7 +111,8 @@ READ_ONLY = "A block on the chip asks that nothing be written to this chip."
 
 def meaning_of(refused):
     """Meaning and advice of a refusal, with its block's number in them."""
-    return tuple(text.replace("`P`", str(refused.place)) for text in REFUSALS[refused.number])
+    number = "lock %d" % refused.place
+    return tuple(text.replace("lock `P`", number).replace("`P`", "b" + number) for text in REFUSALS[refused.number])
 
 
 def refusal_words(refused):
