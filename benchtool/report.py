@@ -139,11 +139,12 @@ class Page:
     def faults(self, faults):
         if not faults:
             return
-        yield "<h2>What was found, and what to do</h2>\n<table><tr><th class=\"where\">Where</th><th>What it means</th>" \
-            "<th>What to do</th></tr>"
+        yield "<h2>What was found, and what to do</h2>\n<table><tr><th class=\"where\">Where</th>" \
+            "<th>What it means</th><th>What to do</th></tr>"
         for fault in faults:
             yield "<tr><td class=\"name\"><b>%s</b><br>%s</td><td>%s</td><td>%s</td></tr>" % (
-                safe(capital(fault.what)), safe(fault.where), safe(capital(fault.meaning)), safe(capital(fault.to_do)))
+                safe(capital(fault.what)), safe(fault.where), safe(capital(fault.meaning)),
+                safe(capital(fault.to_do)))
         yield "</table>"
 
     def notes(self):
