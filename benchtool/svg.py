@@ -137,10 +137,11 @@ def labels(bins, step):
     if wide <= step:
         return [note((place + 0.5) * step, HIGH + 14, label(one).replace(" to ", "\u2013"))
                 for place, one in enumerate(bins)]
-    every = int((len(grouped(bins[-1].low)) + 2) * LETTER / step) + 1
+    wide = (len(grouped(bins[-1].low)) + 2) * LETTER
+    every = int(wide / step) + 1
     return ['<path d="M%.1f %d v4" stroke="#333" stroke-width="1"/>' % (place * step + 1, HIGH)
             + note(place * step + 1, HIGH + 14, grouped(bins[place].low), "start")
-            for place in range(0, len(bins), every)]
+            for place in range(0, len(bins), every) if place * step + wide < WIDE + 20]
 
 
 def note(x, y, said, anchor="middle"):
