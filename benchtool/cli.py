@@ -9,6 +9,7 @@ from benchtool.trouble import NAME, Refused, Trouble, put, say
 
 GRADE_0, GRADE_1, REFUSED, TROUBLE = range(4)
 INTERRUPTED = 130
+HELP_WIDTH = 78
 
 STATUSES = """\
 exit status:
@@ -51,6 +52,11 @@ class Parser(argparse.ArgumentParser):
         raise SystemExit(TROUBLE)
 
 
+def help_form(prog):
+    """With a width given: argparse else asks the terminal's at every argument, and loads much for it, help or not."""
+    return argparse.RawDescriptionHelpFormatter(prog, width=HELP_WIDTH)
+
+
 def number(word):
     try:
         return numbers.parse(word)
@@ -88,7 +94,7 @@ def add_spare(parser):
 def add_command(commands, name, run, summary, examples=None):
     parser = commands.add_parser(name, help=summary, description=summary[0].upper() + summary[1:] + ".",
                                  epilog=(examples or "") + STATUSES,
-                                 formatter_class=argparse.RawDescriptionHelpFormatter)
+                                 formatter_class=help_form)
     parser.set_defaults(run=run)
     return parser
 
@@ -101,7 +107,7 @@ def with_dump(parser):
 def make_parser():
     parser = Parser(prog=NAME, description="The bench tool for dumps of UBI chips.",
                     epilog=EXAMPLES + STATUSES + "\n`ubibench COMMAND --help` says more.",
-                    formatter_class=argparse.RawDescriptionHelpFormatter)
+                    formatter_class=help_form)
     parser.add_argument("--version", action="store_true", help="say the version of program and library")
     commands = parser.add_subparsers(metavar="COMMAND", dest="command")
     add_list(commands)
