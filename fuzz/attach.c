@@ -74,27 +74,33 @@ static void same_listing(const struct report *r)
 
 /* ---- Too short ---- */
 
-/* 4, and nothing changed; or an earlier refusal, which changes the report's first words alone */
-static void short_table(const struct input *in, const struct report *r, int which)
+static void lend_short(struct lent *l, size_t peb_count, int which)
 {
-    static struct lent one;
-    one = library;
-    lend(&one, pebs_to_lend(in));
-    one.tables.pebs_len -= SPARE + (which == 0);
-    one.tables.map_len -= SPARE + (which == 1);
-    one.tables.states_len -= SPARE + (which == 2);
-    one.report_len -= SPARE + (which == 3);
-    uint32_t answer = library_attach(in, &one);
-    uint32_t wanted = which != 3 && r->refusal >= 1 && r->refusal <= 3 ? r->refusal : 4;
-    if (answer != wanted)
+    lend(l, peb_count);
+    l->tables.pebs_len -= SPARE + (which == 0);
+    l->tables.map_len -= SPARE + (which == 1);
+    l->tables.states_len -= SPARE + (which == 2);
+    l->report_len -= SPARE + (which == 3);
+}
+
+/* 4, and nothing changed; or an earlier refusal, which changes the report's first words alone */
+static void short_table(const struct input *in, int which)
+{
+    size_t n = pebs_to_lend(in);
+    lend_short(&library, n, which);
+    lend_short(&plain, n, which);
+    uint32_t answer = library_attach(in, &library);
+    struct report r = plain_attach(in->slip, in->slip_len, in->image, in->image_len, &plain.tables, 0);
+    uint32_t wanted = which == 3 ? 4 : r.refusal;
+    if (answer != wanted || answer < 1 || answer > 4)
         differ("answer, a word short", answer, wanted);
     for (size_t i = 0; i < CHODULJIN_REPORT_WORDS + SPARE; i++) {
         uint64_t word = which == 3 || i > 1 ? BEFORE : i == 0 ? wanted : 0;
-        if (one.report[i] != word)
-            differ("report, a word short", one.report[i], word);
+        if (library.report[i] != word)
+            differ("report, a word short", library.report[i], word);
     }
-    lend(&plain, pebs_to_lend(in));
-    same_tables(&one, &plain);
+    lend(&plain, n); /* words as they were before, those beyond too */
+    same_tables(&library, &plain);
     short_ones += answer == 4;
 }
 
@@ -115,7 +121,7 @@ int LLVMFuzzerTestOneInput(const uint8_t *data, size_t size)
     if (r.refusal == 0)
         graded[r.grade]++;
     same_listing(&r);
-    short_table(&in, &r, options >> 1 & 3);
+    short_table(&in, options >> 1 & 3);
     if (memcmp(in.image, data + 1 + SLIP, in.image_len) != 0 || memcmp(in.slip, data + 1, in.slip_len) != 0)
         differ("the image or the slip was changed", 1, 0);
     return 0;

@@ -48,8 +48,10 @@ static const uint16_t geometries[][3] = {
     { 1024, 1, 1 },      { 1024, 64, 64 },   { 1024, 128, 32 }, { 1024, 256, 256 },   { 1024, 2, 1 },
     { 1025, 1, 1 },      { 1088, 64, 32 },   { 1536, 512, 512 }, { 1536, 512, 256 },  { 2048, 512, 512 },
     { 2048, 1024, 512 }, { 2048, 256, 256 }, { 2048, 8, 4 },    { 3072, 1024, 1024 }, { 4096, 2048, 512 },
+    /* where inputs may be that long: as many records as a table ever has, just so and with room behind them */
+    { 23040, 512, 512 }, { 22528, 64, 64 },
 };
-enum { GEOMETRIES = sizeof geometries / sizeof *geometries };
+enum { GEOMETRIES = sizeof geometries / sizeof *geometries, LONGEST_SMALL = 4096 };
 
 static uint8_t *block(const struct chip *c, uint32_t peb)
 {
@@ -624,17 +626,25 @@ static void change_length(struct chip *c)
 }
 
 static void (*const changes_known[])(struct chip *) = {
-    change_ec,  change_ec,   change_vid,   change_vid,    change_vid,  change_vid,   change_kind,  change_internal,
-    fresh_user, fresh_user,  fresh_ec,     all_ec,        change_record, change_record, fresh_record, one_table,
-    fresh_table, fresh_layout,
-    swap_blocks, double_block, newer_copy, newer_copy,    tear,        erase,        flip,         header_byte,
-    data_byte,  data_byte,   add_block,    add_block,    remove_block,  change_slip, change_length,
+    change_ec,     change_ec,    change_vid,   change_vid,   change_vid,  change_vid,   change_kind, change_internal,
+    fresh_user,    fresh_user,   fresh_ec,     all_ec,       fresh_table, fresh_layout, one_table,   fresh_record,
+    change_record, change_record, swap_blocks, double_block, newer_copy,  newer_copy,   tear,        erase,
+    flip,          header_byte,  data_byte,    data_byte,    add_block,   add_block,    remove_block, change_slip,
+    change_length,
 };
+
+/* is it a slip of blocks of which an input can have a few? */
+static int slip_fits(struct chip *c)
+{
+    if (plain_read_slip(c->slip, SLIP, &c->g) != 0)
+        return 0;
+    return c->g.peb_size <= LONGEST_SMALL || 4 * c->g.peb_size <= c->room;
+}
 
 size_t chip_change(uint8_t *dump, size_t size, size_t room, int changes)
 {
     struct chip c = { .slip = dump, .image = dump + SLIP, .room = room - SLIP };
-    if (size < SLIP || plain_read_slip(dump, SLIP, &c.g) != 0 || c.g.peb_size > 4096 || one_in(2000))
+    if (size < SLIP || !slip_fits(&c) || one_in(2000))
         return chip_make(dump, room);
     c.size = size - SLIP;
     c.n = (uint32_t)(c.size / c.g.peb_size);
@@ -645,7 +655,7 @@ size_t chip_change(uint8_t *dump, size_t size, size_t room, int changes)
         if (c.n == 0)
             return chip_make(dump, room);
         ONE_OF(changes_known)(&c);
-        if (plain_read_slip(dump, SLIP, &c.g) != 0 || c.g.peb_size > 4096)
+        if (!slip_fits(&c))
             break;
     }
     return SLIP + c.size;
