@@ -455,14 +455,23 @@ static void change_record(struct chip *c)
     to_tables(c, record, number);
 }
 
+/* names that are the beginning of each other, or as long as a name may be, or one byte longer */
+static void other_name(uint8_t *record)
+{
+    uint32_t len = one_in(4) ? 126 + below(3) : 1 + below(4);
+    memset(record + NAME_AT, 0, FLAGS_AT - NAME_AT);
+    memset(record + NAME_AT, 'v', len);
+    put(record + 14, 2, len);
+}
+
 static void fresh_record(struct chip *c)
 {
     uint8_t record[RECORD] = { 0 };
     uint32_t number = below(plain_record_count(c->g.leb_size));
     if (!one_in(4))
-        put_record(c, record, one_in(4) ? below(3) : number, MOST_LEBS);
-    if (one_in(6))
-        memset(record + NAME_AT, 'n', record[15] = one_in(2) ? 127 : 128);
+        put_record(c, record, one_in(4) ? below(3) : number, one_in(2) ? 1 : MOST_LEBS);
+    if (one_in(2))
+        other_name(record);
     if (one_in(6))
         record[FLAGS_AT] |= AUTORESIZE;
     mend_record(record);
