@@ -44,13 +44,12 @@ test: all
 LIB = $(DESTDIR)$(PREFIX)/lib
 SHARE = $(DESTDIR)$(PREFIX)/share
 install: all
-	sed -e 's,@PREFIX@,$(PREFIX),' -e 's,@VERSION@,$(VERSION),' tools/choduljin.pc.in >
 	$(INSTALL) -d $(LIB)/pkgconfig $(DESTDIR)$(PREFIX)/include $(DESTDIR)$(PREFIX)/bin
 	$(INSTALL) -m 644 build/libchoduljin.a $(LIB)/libchoduljin.a
 	$(INSTALL) -m 755 build/libchoduljin.so $(LIB)/libchoduljin.so.$(VERSION)
 	ln -sf libchoduljin.so.$(VERSION) $(LIB)/$(SONAME)
 	ln -sf $(SONAME) $(LIB)/libchoduljin.so
-	$(INSTALL) -m 644 $(LIB)/pkgconfig/choduljin.pc
+	sed -e 's,@PREFIX@,$(PREFIX),' -e 's,@VERSION@,$(VERSION),' tools/choduljin.pc.in > $(LIB)/pkgconfig/choduljin.pc
 	$(INSTALL) -m 644 include/choduljin.h $(DESTDIR)$(PREFIX)/include/choduljin.h
 	$(INSTALL) -m 755 build/ubilist $(DESTDIR)$(PREFIX)/bin/ubilist
 	if [ -f ubibench ]; then \
