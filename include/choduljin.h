@@ -5,13 +5,15 @@
  *
  * Slices. Memory is lent as a pointer and a number of elements (not bytes). Every length and every content is judged.
  * A call asks only that the memory it is lent is there, that a pointer is aligned and not null, also where the number
- * is 0, and that a slice which the call writes overlaps no other. Nothing is kept after a call, nothing is allocated,
- * and no call blocks or ends the process. Calls on other memory may run at the same time. A call takes about 16 KiB of
- * stack.
+ * is 0, that a slice which the call writes overlaps no other, and that nothing else changes lent memory during the call
+ * (another thread, a device, another process through a mapping). Memory need not be zeroed before it is lent. Nothing is
+ * kept after a call, nothing is allocated, and no call blocks or ends the process. Calls may run at the same time where
+ * none writes what another is lent. A call takes about 20 KiB of stack.
  *
  * Answers. Each function but the last answers a number: 0 for success, 1 to 19 for the refusals of the rules, from 256
- * on for answers of this library's own. Judged in this order: words or bytes lent for a struct that are too few (4, and
- * nothing changes); words that are not those of a struct (CHODULJIN_UNFIT, and nothing changes); then the call itself.
+ * on for answers of this library's own. Judged in this order: too few words lent for a struct, or bytes for a name (4,
+ * and nothing changes); words that are not those of a struct (CHODULJIN_UNFIT, and nothing changes); then the call
+ * itself.
  * What is lent beyond an answer never changes.
  *
  * Words. A struct is lent as 64-bit words, one for each field, in the order given here. Words that a call stored can be
@@ -29,7 +31,8 @@ extern "C" {
 #endif
 
 /* Refusals ------------------------------------------------------------------------------------------------------------
- * The lowest that applies is answered; 5 to 8 are found PEB by PEB. The place is a PEB for 5 to 9 and 12, else 0. */
+ * The lowest that applies is answered, but for the 4 of too few words, which comes first; 5 to 8 are found PEB by PEB.
+ * The place is a PEB for 5 to 9 and 12, else 0. */
 enum {
     CHODULJIN_MALFORMED_SLIP = 1,     /* the slip is not its four fields, or not 20 bytes */
     CHODULJIN_BAD_GEOMETRY = 2,       /* PEB size, unit and sub-unit are outside their rules: see choduljin_geometry */
@@ -39,11 +42,12 @@ enum {
     CHODULJIN_OTHER_STARTS = 6,       /* a good EC header names another VID start or data start than the geometry */
     CHODULJIN_OTHER_IMAGE_SEQ = 7,    /* a good EC header is of another image than the first good one */
     CHODULJIN_UNKNOWN_INTERNAL = 8,   /* a block of an unknown internal volume that forbids any use of the chip */
-    CHODULJIN_REPEATED_SEQUENCE = 9,  /* two good VID headers of one LEB have the same sequence number */
+    CHODULJIN_REPEATED_SEQUENCE = 9,  /* two good VID headers of one user or layout LEB share a sequence */
     CHODULJIN_EMPTY_IMAGE = 10,       /* every PEB is free or blank */
     CHODULJIN_NO_TABLE = 11,          /* neither copy of the volume table is good */
     CHODULJIN_ENTRY_MISFIT = 12,      /* a block does not fit its volume's record, or the volume's first block */
-    CHODULJIN_NOT_WRITABLE = 13,      /* move: the read-only mark is set, or a block stands that is to be deleted */
+    CHODULJIN_NOT_WRITABLE = 13,      /* move: the read-only mark is set, or an internal volume's block with
+                                         compatibility 1 stands */
     CHODULJIN_LEB_NOT_MAPPED = 14,    /* move: the LEB is not in the map */
     CHODULJIN_DAMAGED_COPY = 15,      /* move: the LEB's copy is not sound, or static with a wrong data CRC */
     CHODULJIN_BAD_TARGET = 16,        /* move: the target is absent, not free, or not 0xFF behind its EC header */
@@ -54,14 +58,16 @@ enum {
 };
 
 /* Answers of this library's own. */
+#define CHODULJIN_OK 0u      /* success */
 #define CHODULJIN_ON 256u    /* a step was carried out: call again */
 #define CHODULJIN_BAD 257u   /* an EC header is lost, a VID header or a record is bad */
 #define CHODULJIN_EMPTY 258u /* a record is empty: there is no volume of its number */
 #define CHODULJIN_UNFIT 259u /* no struct has these words: one is too large for its field, a yes-or-no word is above 1,
-                                or the number of a plan's refusal is not 0 */
+                                the number of a plan is not 0, or the place of a plan or report whose number is 0 */
 
 /* Attaching -----------------------------------------------------------------------------------------------------------
- * slip: 20 bytes, `tools/slip PEB-SIZE UNIT SUB-UNIT` writes them. image: any number of bytes.
+ * slip: 20 bytes, 01 00 04 and the PEB size in 4 bytes, 02 00 02 and the unit in 2, 03 00 02 and the sub-unit in 2,
+ * 00 00 00; numbers are big-endian. image: any number of bytes.
  * pebs: at least 2 words for each PEB of the image; map: at least 3; states: at least 128. They are filled:
  *   pebs[2 * i]      class of PEB i, below; pebs[2 * i + 1] its erase counter, CHODULJIN_NO_WORD if it is lost
  *   map[3 * k]       volume, map[3 * k + 1] LEB, map[3 * k + 2] PEB of entry k, by volume and then by LEB;
@@ -70,8 +76,8 @@ enum {
  * report: at least CHODULJIN_REPORT_WORDS words, filled with the report, or its first two with the refusal.
  *
  * Answer: 0, or the refusal's number, 1 to 12, as in report[0]. Refusals 1 to 4 leave the tables as they are; 5 to 12
- * fill the words that the PEBs of the image need with CHODULJIN_NO_WORD. 4 because report is too short changes nothing
- * at all. */
+ * fill 2 and 3 words for each PEB of the image, and all 128 states, with CHODULJIN_NO_WORD. 4 because report is too
+ * short changes nothing at all. */
 enum {
     CHODULJIN_REPORT_NUMBER,      /* 0 if the image attached, else the refusal's number */
     CHODULJIN_REPORT_PLACE,       /* 0, or the refusal's place */
@@ -97,23 +103,25 @@ enum {
 #define CHODULJIN_ENTRY_WORDS 3
 #define CHODULJIN_STATE_WORDS 128
 #define CHODULJIN_NO_WORD 0xFFFFFFFFu
-#define CHODULJIN_LAYOUT_VOLUME 0x7FFFEFFFu /* the volume in the map that holds the volume table itself */
+/* The volume in the map that holds the volume table. Record v of the table taken stands at 172 * v in the data of the PEB
+ * that holds LEB report[CHODULJIN_REPORT_TABLE] of it; there are as many as fit in a LEB, at most 128. */
+#define CHODULJIN_LAYOUT_VOLUME 0x7FFFEFFFu
 
 enum { /* classes of a PEB */
-    CHODULJIN_FREE = 0,        /* a good EC header, and nothing in the place of the VID header */
-    CHODULJIN_CHOSEN = 1,      /* the copy of a LEB that counts; it is in the map */
-    CHODULJIN_PASSED_OVER = 2, /* a copy that does not count */
-    CHODULJIN_BLANK = 3,       /* 0xFF in the place of both headers */
-    CHODULJIN_UNREADABLE = 4,  /* a header is torn or damaged */
-    CHODULJIN_TO_DELETE = 5,   /* of no volume in the table, or beyond its end; or of other software that allows it */
-    CHODULJIN_KEPT_ASIDE = 6   /* of other software that asks for it to be left alone */
+    CHODULJIN_CLASS_FREE = 0,        /* a good EC header, and nothing in the place of the VID header */
+    CHODULJIN_CLASS_CHOSEN = 1,      /* the copy of a LEB that counts; it is in the map */
+    CHODULJIN_CLASS_PASSED_OVER = 2, /* a copy that does not count */
+    CHODULJIN_CLASS_BLANK = 3,       /* 0xFF in the place of both headers */
+    CHODULJIN_CLASS_UNREADABLE = 4,  /* the VID header is torn or damaged; or 0xFF, and the EC header is damaged */
+    CHODULJIN_CLASS_TO_DELETE = 5,   /* of no volume in the table, or beyond its end; or of other software that allows it */
+    CHODULJIN_CLASS_KEPT_ASIDE = 6   /* of other software that asks for it to be left alone */
 };
 
 enum { /* states of a volume */
-    CHODULJIN_ABSENT = 0,   /* there is no such volume */
-    CHODULJIN_GOOD = 1,     /* nothing wrong was found */
-    CHODULJIN_UPDATING = 2, /* an update of it was begun and not ended */
-    CHODULJIN_DAMAGED = 3   /* a copy is damaged, or a part of a static volume is missing */
+    CHODULJIN_STATE_ABSENT = 0,   /* there is no such volume */
+    CHODULJIN_STATE_GOOD = 1,     /* nothing wrong was found */
+    CHODULJIN_STATE_UPDATING = 2, /* an update of it was begun and not ended */
+    CHODULJIN_STATE_DAMAGED = 3   /* a copy is damaged, or a part of a static volume is missing */
 };
 
 uint32_t choduljin_attach(const uint8_t *slip, size_t slip_length, const uint8_t *image, size_t image_length,
@@ -122,9 +130,10 @@ uint32_t choduljin_attach(const uint8_t *slip, size_t slip_length, const uint8_t
 
 /* The listing of a report with its tables, as text: docs/LISTING.md explains it. Of a report that is a refusal (its
  * first word is not 0) it is the line `refused N at P`, and the tables are not looked at; report has 17 words all the
- * same. out is filled from its start; length[0] is the number of bytes.
+ * same. The tables have at least 2 words for each PEB, 3 for each entry, and 128; length at least 1. out is filled from
+ * its start; length[0] is the number of bytes.
  * Answer: 0; 4 (report, length, a table or out is too short; nothing changes); CHODULJIN_UNFIT. */
-#define CHODULJIN_LISTING_MOST 262144 /* bytes; no listing of an image is longer */
+#define CHODULJIN_LISTING_MOST 262144 /* bytes; no listing of an image is longer: it has at most 220,000 */
 
 uint32_t choduljin_listing(const uint64_t *report, size_t report_length, const uint32_t *pebs, size_t pebs_length,
     const uint32_t *map, size_t map_length, const uint32_t *states, size_t states_length,
@@ -175,7 +184,8 @@ enum {
 };
 
 /* The header in the first 64 bytes; a VID header is judged by the LEB size.
- * Answer: 0 (good: its words are stored); CHODULJIN_BAD; 5 (version above 1); 4 (fewer than 64 bytes, or few words).
+ * Answer: 0 (good: its words are stored); CHODULJIN_BAD; 5 (magic and CRC are right, the version is above 1); 4 (fewer
+ * than 64 bytes, or too few words).
  * Only a good header changes the words. */
 uint32_t choduljin_read_ec(const uint8_t *header, size_t header_length, uint64_t *ec, size_t ec_length);
 uint32_t choduljin_read_vid(const uint8_t *header, size_t header_length, uint32_t leb_size,
@@ -188,7 +198,7 @@ uint32_t choduljin_write_vid(const uint64_t *vid, size_t vid_length, uint32_t le
     uint8_t *out, size_t out_length);
 
 /* A record of the volume table, 172 bytes, judged by LEB size and unit. name: at least 128 bytes; the name is its first
- * words[CHODULJIN_RECORD_NAME_LENGTH] bytes, and zero bytes follow it where the record has them.
+ * words[CHODULJIN_RECORD_NAME_LENGTH] bytes, none of them 0, and a 0 follows them: it is a C string.
  * Answer: 0 (good: words and name are stored); CHODULJIN_EMPTY; CHODULJIN_BAD; 4 (words, name or record is too short).
  * Only a good record changes words and name. */
 enum {
@@ -209,9 +219,13 @@ uint32_t choduljin_read_record(const uint8_t *record, size_t record_length, uint
     uint64_t *words, size_t words_length, uint8_t *name, size_t name_length);
 
 /* Moving --------------------------------------------------------------------------------------------------------------
- * A move brings a LEB to another PEB in steps. After every step, and after a step that was cut anywhere, the image
- * attaches with every LEB's content as before: docs/POWERCUT.md has what is proved of it. So an image in a file or on a
- * chip is safe where each step's bytes are kept for good before the next step is called.
+ * A move brings a LEB to another PEB in steps: 3, and one for each unit of its data. After every step, and after a step
+ * that was cut anywhere, the image attaches with every LEB's content as before, unless a checksum fits torn bytes by
+ * accident: docs/POWERCUT.md has what is proved of it. So an image in a file or on a chip is safe where each step's
+ * bytes are kept for good before the next step is called.
+ *
+ * A plan is good for one run on the image that it was begun on, as the calls before left it. After a cut, and after
+ * anything else wrote the image, attach and begin anew: a stale plan is not noticed, and can destroy data.
  *
  * Words of a plan. They are for the next call; only the first two and the number of steps need be looked at. */
 enum {
@@ -237,16 +251,17 @@ uint32_t choduljin_begin(const uint8_t *slip, size_t slip_length, const uint8_t 
     uint32_t volume, uint32_t leb, uint32_t target, uint64_t *plan, size_t plan_length);
 
 /* The next step, carried out on the image: the target's VID header is stored, then its data unit by unit, then the old
- * PEB is erased, then its EC header is stored. Each is one run of bytes, stored in ascending order.
+ * PEB is erased, then its EC header is stored. Each is one run of bytes; whoever brings them to a chip or a file stores
+ * them ascending. An erase may go in any order.
  * Answer: CHODULJIN_ON (carried out; plan[CHODULJIN_PLAN_STEPS] is one higher, and no other word changes); 0 (no step
- * was left; nothing changes); 4 (plan is too short); 18; CHODULJIN_UNFIT. */
+ * was left; nothing changes); 4 (plan is too short); 18; CHODULJIN_UNFIT. Refused, it changes nothing. */
 uint32_t choduljin_step(uint64_t *plan, size_t plan_length, uint8_t *image, size_t image_length);
 
 /* All steps that are left. Answer: 0; 4; 18; CHODULJIN_UNFIT. The plan's words do not change. */
 uint32_t choduljin_finish(const uint64_t *plan, size_t plan_length, uint8_t *image, size_t image_length);
 
 /* What the next step will write, told beforehand. Answer: 0 (the words are stored); 4 (plan or write is too short); 18;
- * CHODULJIN_UNFIT. */
+ * CHODULJIN_UNFIT. Refused, it changes nothing. */
 enum {
     CHODULJIN_WRITE_KIND,  /* 0 nothing: no step is left; 1 bytes are stored; 2 a block is erased, to 0xFF */
     CHODULJIN_WRITE_AT,    /* from which byte of the image on, */

@@ -111,6 +111,23 @@ class Words(unittest.TestCase):
         self.assertEqual((answer, found["REPORT_PEB_SIZE"]), (0, int.from_bytes(slip[3:7], "big")))
 
 
+class Installed(Scratch):
+    def test_a_program_is_built_and_run_with_what_is_installed(self):
+        root = os.path.join(self.directory, "root")
+        # -o all: what is tested is what was built, whatever the age of its sources.
+        subprocess.run(["make", "-s", "-C", ROOT, "-o", "all", "install", "PREFIX=" + root], check=True)
+        self.assertIn("prefix=%s\n" % root, read(root, "lib", "pkgconfig", "choduljin.pc").decode())
+        out = os.path.join(self.directory, "attach")
+        subprocess.run([os.environ.get("CC", "cc"), os.path.join(ROOT, "examples", "attach.c"), "-o", out,
+                        "-I" + root + "/include", "-L" + root + "/lib", "-lchoduljin", "-Wl,-rpath," + root + "/lib"],
+                       check=True)
+        slip, dump, _ = sample()
+        done = subprocess.run([out, self.file("slip", slip), self.file("dump", dump)], stdout=subprocess.PIPE)
+        self.assertEqual((done.returncode, done.stdout[:8]), (1, b"grade 1\n"))
+        listed = subprocess.run([root + "/bin/ubilist"], input=slip + dump, stdout=subprocess.PIPE).stdout
+        self.assertEqual(listed, read("samples", "small.txt"))
+
+
 class Exports(unittest.TestCase):
     def test_what_the_header_declares_and_nothing_else(self):
         declared = set(re.findall(r"^uint32_t (choduljin_\w+)\(", read("include", "choduljin.h").decode(), re.M))

@@ -16,6 +16,7 @@ use capi_words::GEOMETRY_WORDS;
 use capi_words::REPORT_WORDS;
 use report::refusal::SHORT_BUFFER;
 
+// The report of an image, or its refusal, in the lent tables and words.
 #[no_mangle]
 pub extern "C" fn choduljin_attach(
     slip: &[u8],
@@ -47,6 +48,7 @@ pub extern "C" fn choduljin_attach(
     store_attached(a, report)
 }
 
+// The listing of a report's words with its tables; `count` gets the length of the text.
 #[no_mangle]
 pub extern "C" fn choduljin_listing(
     report: &[u64],
@@ -86,6 +88,7 @@ pub extern "C" fn choduljin_listing(
     store_rendered(r, count)
 }
 
+// The geometry of three numbers.
 #[no_mangle]
 pub extern "C" fn choduljin_geometry(
     peb_size: u32,

@@ -23,6 +23,7 @@ use report::refusal::SHORT_BUFFER;
 
 const NAME_BYTES: usize = 128;
 
+// The EC header at the start of a slice.
 #[no_mangle]
 pub extern "C" fn choduljin_read_ec(header: &[u8], ec: &mut [u64]) -> u32
     ensures answer { λ r. ⌜ r ≡ judged (short 5 (now (ec .entry))) true
@@ -37,6 +38,7 @@ pub extern "C" fn choduljin_read_ec(header: &[u8], ec: &mut [u64]) -> u32
     store_ec(r, ec)
 }
 
+// The VID header at the start of a slice, judged by the LEB size.
 #[no_mangle]
 pub extern "C" fn choduljin_read_vid(header: &[u8], leb_size: u32, vid: &mut [u64]) -> u32
     ensures answer { λ r. ⌜ r ≡ judged (short 11 (now (vid .entry))) true
@@ -62,6 +64,7 @@ fn written_number(w: Written) -> u32
     }
 }
 
+// The EC header of the words is written to the first 64 bytes.
 #[no_mangle]
 pub extern "C" fn choduljin_write_ec(ec: &[u64], out: &mut [u8]) -> u32
     ensures answer { λ r. ⌜ r ≡ judged (short 5 (now (ec .entry))) (fits (now (ec .entry)) ecMost)
@@ -80,6 +83,7 @@ pub extern "C" fn choduljin_write_ec(ec: &[u64], out: &mut [u8]) -> u32
     written_number(w)
 }
 
+// The VID header of the words is written to the first 64 bytes.
 #[no_mangle]
 pub extern "C" fn choduljin_write_vid(vid: &[u64], leb_size: u32, out: &mut [u8]) -> u32
     ensures answer { λ r. ⌜ r ≡ judged (short 11 (now (vid .entry))) (fits (now (vid .entry)) vidMost)
@@ -98,6 +102,7 @@ pub extern "C" fn choduljin_write_vid(vid: &[u64], leb_size: u32, out: &mut [u8]
     written_number(w)
 }
 
+// The volume record at the start of a slice.
 #[no_mangle]
 pub extern "C" fn choduljin_read_record(
     record: &[u8],

@@ -22,6 +22,7 @@ use capi_words::WRITE_WORDS;
 use mover_rules::Stepped;
 use report::refusal::SHORT_BUFFER;
 
+// The plan of a move, or its refusal; the report is left in the lent tables.
 #[no_mangle]
 pub extern "C" fn choduljin_begin(
     slip: &[u8],
@@ -57,6 +58,7 @@ pub extern "C" fn choduljin_begin(
     store_begun(b, plan)
 }
 
+// The next step of a plan.
 #[no_mangle]
 pub extern "C" fn choduljin_step(plan: &mut [u64], image: &mut [u8]) -> u32
     ensures answer { λ r. ⌜ r ≡ judged (short 24 (now (plan .entry))) (fits (now (plan .entry)) planMost)
@@ -91,6 +93,7 @@ fn stepped_number(s: Stepped) -> u32
     }
 }
 
+// All steps that are left of a plan.
 #[no_mangle]
 pub extern "C" fn choduljin_finish(plan: &[u64], image: &mut [u8]) -> u32
     ensures answer { λ r. ⌜ r ≡ judged (short 24 (now (plan .entry))) (fits (now (plan .entry)) planMost)
@@ -110,6 +113,7 @@ pub extern "C" fn choduljin_finish(plan: &[u64], image: &mut [u8]) -> u32
     stepped_number(s)
 }
 
+// What the plan's next step will write.
 #[no_mangle]
 pub extern "C" fn choduljin_next_write(plan: &[u64], image: &[u8], write: &mut [u64]) -> u32
     ensures answer { λ r. ⌜ r
