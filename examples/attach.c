@@ -16,10 +16,7 @@ static size_t all(const char *name, uint8_t *to, size_t most) {
     FILE *f = fopen(name, "rb");
     size_t n = f ? fread(to, 1, most, f) : 0;
     if (f && getc(f) != EOF) errno = EFBIG;
-    if (!f || ferror(f) || !feof(f)) {
-        perror(name);
-        exit(3);
-    }
+    if (!f || ferror(f) || !feof(f)) exit((perror(name), 3));
     fclose(f);
     return n;
 }

@@ -6,9 +6,9 @@
  * Slices. Memory is lent as a pointer and a number of elements (not bytes). Every length and every content is judged.
  * A call asks only that the memory it is lent is there, that a pointer is aligned and not null, also where the number
  * is 0, that a slice which the call writes overlaps no other, and that nothing else changes lent memory during the call
- * (another thread, a device, another process through a mapping). Memory need not be zeroed before it is lent. Nothing is
- * kept after a call, nothing is allocated, and no call blocks or ends the process. Calls may run at the same time where
- * none writes what another is lent. A call takes about 20 KiB of stack.
+ * (another thread, a device, another process through a mapping). Memory need not be zeroed before it is lent. Nothing
+ * is kept after a call, nothing is allocated, and no call blocks or ends the process. Calls may run at the same time
+ * where none writes what another is lent. A call takes about 20 KiB of stack.
  *
  * Answers. Each function but the last answers a number: 0 for success, 1 to 19 for the refusals of the rules, from 256
  * on for answers of this library's own. Judged in this order: too few words lent for a struct, or bytes for a name (4,
@@ -103,8 +103,8 @@ enum {
 #define CHODULJIN_ENTRY_WORDS 3
 #define CHODULJIN_STATE_WORDS 128
 #define CHODULJIN_NO_WORD 0xFFFFFFFFu
-/* The volume in the map that holds the volume table. Record v of the table taken stands at 172 * v in the data of the PEB
- * that holds LEB report[CHODULJIN_REPORT_TABLE] of it; there are as many as fit in a LEB, at most 128. */
+/* The volume in the map that holds the volume table. Record v of the table taken stands at 172 * v in the data of the
+ * PEB that holds LEB report[CHODULJIN_REPORT_TABLE] of it; there are as many as fit in a LEB, at most 128. */
 #define CHODULJIN_LAYOUT_VOLUME 0x7FFFEFFFu
 
 enum { /* classes of a PEB */
@@ -113,7 +113,7 @@ enum { /* classes of a PEB */
     CHODULJIN_CLASS_PASSED_OVER = 2, /* a copy that does not count */
     CHODULJIN_CLASS_BLANK = 3,       /* 0xFF in the place of both headers */
     CHODULJIN_CLASS_UNREADABLE = 4,  /* the VID header is torn or damaged; or 0xFF, and the EC header is damaged */
-    CHODULJIN_CLASS_TO_DELETE = 5,   /* of no volume in the table, or beyond its end; or of other software that allows it */
+    CHODULJIN_CLASS_TO_DELETE = 5,   /* of no volume of the table, or beyond its end; or other software allows it */
     CHODULJIN_CLASS_KEPT_ASIDE = 6   /* of other software that asks for it to be left alone */
 };
 
