@@ -47,6 +47,26 @@ def chip_of(chance):
     return flash, [flash.peb(with_image_sequence(block, sequence)) for block in blocks]
 
 
+def long_chip(chance):
+    """Hundreds of short blocks, of volumes with many LEBs: long tables and listings."""
+    flash = Flash(*chance.pick(((1024, 512, 64), (1024, 1, 1), (1024, 256, 256))))
+    flash.counters = random_counters(chance)
+    count = chance.between(80, 500)
+    log = flash.volume(b"log", reserved=count // 2)
+    boot = flash.volume(b"boot", reserved=count // 3, type=ubi.STATIC)
+    used = chance.between(1, boot.reserved)
+    blocks = flash.with_tables([log, boot] if chance.below(2) else [log, None][:flash.record_count])
+    sequences = iter(chance.shuffled(range(3, 3 + 2 * count)))
+    for leb in range(log.reserved):
+        for _ in range(chance.pick([0, 1, 1, 1, 2])):
+            make = chance.pick([flash.dynamic, flash.copy])
+            blocks.append(make(0, leb, next(sequences), chance.bytes(chance.between(1, 9))))
+    for leb in range(used - (chance.below(4) == 0)):
+        blocks.append(flash.static(1, leb, used, next(sequences), chance.bytes(7)))
+    blocks += [chance.pick([BLANK, flash.free()]) for _ in range(max(0, count - len(blocks)))]
+    return flash, [flash.peb(block) for block in chance.shuffled(blocks)]
+
+
 def with_image_sequence(block, sequence):
     if isinstance(block.ec, bytes):
         return block
@@ -66,7 +86,7 @@ def dump_of(chance):
             return dump[:SLIP_SIZE], dump[SLIP_SIZE:]
     if lot == 8 and chance.below(20) == 0:
         return many_pebs(chance)
-    flash, pebs = chip_of(chance)
+    flash, pebs = long_chip(chance) if lot == 9 else chip_of(chance)
     if chance.below(4):
         pebs = damaged(flash, pebs, chance)
     image = b"".join(pebs)

@@ -12,6 +12,10 @@ loaded already, some are started afresh. The file is then attached by the oracle
 - its map is the place book, which has the new place exactly if the new header and data run are whole;
 - all words that the library gives are the oracle's; and no step was told of that was not stored.
 
+A kill does not lose what the system holds in memory for the disk, a power cut does. So whatever the tool syncs is also
+written to a second file, which has no byte that was not synced: it is judged in the same way, and no step may have been
+told of that was not synced.
+
 Then the move is tried again on the same file, with another block if the target is spoilt, until it completes; then
 another LEB is moved. A run in which fewer than a third of the kills fell inside the steps is a failure. At a failure
 the file is kept, the message names it, and the exit status is 1. The seed gives the chips and the choices; no seed
@@ -19,6 +23,7 @@ gives the moments at which a process is killed.
 """
 
 import argparse
+import mmap
 import os
 import random
 import re
@@ -29,6 +34,7 @@ import sys
 import tempfile
 import time
 from collections import Counter, namedtuple
+from types import SimpleNamespace
 
 import scale
 from clib import REPORT_WORDS, VARIABLE, Functions, Held, Lent, library_path
@@ -42,7 +48,7 @@ from images import Flash
 from programs import keep
 
 from benchtool.cli import main as tool_main
-import benchtool.move  # noqa: F401  the forked processes have it loaded
+from benchtool import move as tool_move
 
 # PEB size, unit, sub-unit. NOR flash has the unit 1: its LEBs here are short, as each byte is a step.
 CHIPS = ((131072, 2048, 512), (131072, 2048, 512), (131072, 2048, 2048), (262144, 4096, 4096), (65536, 512, 512),
@@ -104,11 +110,12 @@ def chip_blocks(flash, dice):
 
 
 class Chip:
-    """A file with an image, its first state, and the place book."""
+    """A file with an image, its first state, and the place book; beside it the file of what was synced."""
 
-    def __init__(self, dice, path):
+    def __init__(self, dice, path, synced):
         self.flash = Flash(*dice.choice(CHIPS))
         self.path = path
+        self.synced = synced
         self.geometry = self.flash.geometry
         image = self.flash.image(chip_blocks(self.flash, dice))
         with open(path, "wb") as file:
@@ -118,8 +125,12 @@ class Chip:
         self.places = dict(self.first.places)
 
     def content(self):
-        with open(self.path, "rb") as file:
-            return file.read()
+        return read(self.path)
+
+    def start_synced(self):
+        """All that the file has now is on the disk."""
+        with open(self.synced, "wb") as file:
+            file.write(self.image)
 
     def plan(self, move):
         """The oracle's plan, or its refusal."""
@@ -140,13 +151,30 @@ class Chip:
             "--volume", move[0], "--leb", move[1], "--to", move[2], "--in-place")]
 
 
+def read(path):
+    with open(path, "rb") as file:
+        return file.read()
+
+
 # ------------------------------------------------------------------- processes
 
-class Child:
-    """The tool in a process of its own: forked from here, or started afresh."""
+class Synced(mmap.mmap):
+    """A mapping that also writes what is synced to another file."""
 
-    def __init__(self, words, errors, fresh):
+    file = None
+
+    def flush(self, offset=0, size=None):
+        size = len(self) - offset if size is None else size
+        super().flush(offset, size)
+        os.pwrite(self.file, self[offset:offset + size], offset)
+
+
+class Child:
+    """The tool in a process of its own: forked from here, or started afresh, and then its syncs are not followed."""
+
+    def __init__(self, words, errors, fresh, synced=None):
         self.out, inner = os.pipe()
+        self.synced = None if fresh else synced
         self.began = time.monotonic()
         self.told = b""
         if fresh:
@@ -158,13 +186,15 @@ class Child:
                 self.be_tool(words, inner, errors)
         os.close(inner)
 
-    @staticmethod
-    def be_tool(words, inner, errors):
+    def be_tool(self, words, inner, errors):
         status = 70
         try:
             os.dup2(inner, 1)
             os.dup2(errors.fileno(), 2)
             sys.stdout = open(1, "w", closefd=False)
+            if self.synced:
+                Synced.file = os.open(self.synced, os.O_RDWR)
+                tool_move.mmap = SimpleNamespace(**dict(vars(mmap), mmap=Synced))
             status = tool_main(words)
         finally:
             os._exit(status)
@@ -263,37 +293,53 @@ class Judge:
     def __init__(self):
         self.functions = Functions(library_path())
 
-    def stopped(self, chip, plan, move, ended):
-        """What a killed move, or one that ended, left in the file."""
+    def stopped(self, chip, plan, move, ended, synced):
+        """What a killed move, or one that ended, left: the steps stored, and whether one is torn.
+
+        None if demand 3's premise does not hold, so that nothing is claimed.
+        """
         image = chip.content()
-        demand(len(image) == len(chip.image), "the file's length changed")
+        if synced and self.left(chip, plan, move, ended, read(chip.synced), "synced") is None:
+            return None
+        found = self.left(chip, plan, move, ended, image, "stored")
+        if found is None:
+            return None
+        stop, places, now = found
+        if stop is None:
+            demand(now.report.classes[plan.old] == attach.FREE, "the old block is not free")
+            demand(now.report.counters[plan.old] == plan.ec.counter, "the old block's counter")
+        self.library_words(chip, image, now.report)
+        chip.image, chip.now, chip.places = image, now, places
+        return steps_stored(plan, stop)
+
+    def left(self, chip, plan, move, ended, image, what):
+        """The stop that an image shows, the place book after it, and what attaching it shows."""
+        demand(len(image) == len(chip.image), "the length changed")
         small = plan._replace(old=0, target=1)
         before, after = pair_of(plan, chip.image), pair_of(plan, image)
         stop = stop_in(small, before, after)
-        demand(mover.image_after(small, before, stop) == after, "no stop leaves blocks like these")
+        demand(mover.image_after(small, before, stop) == after, "no stop leaves blocks like these: %s" % what)
         for number in range(chip.now.report.peb_count):
             demand(number in (plan.old, plan.target) or mover.block_of(image, plan.peb_size, number)
                    == mover.block_of(chip.image, plan.peb_size, number), "block %d changed" % number)
         if not mover.premise_holds(small, before, after):
             return None
+        self.told(plan, stop, ended, what)
+        places = dict(chip.places)
         if stop is None or mover.new_copy_whole(small, before, after):
-            chip.places[move[:2]] = move[2]
-        self.told(plan, stop, ended)
-        self.demand_3(chip, image)
-        if stop is None:
-            demand(chip.now.report.classes[plan.old] == attach.FREE, "the old block is not free")
-            demand(chip.now.report.counters[plan.old] == plan.ec.counter, "the old block's counter")
-        return steps_stored(plan, stop)
+            places[move[:2]] = move[2]
+        return stop, places, self.demand_3(chip, image, places)
 
     @staticmethod
-    def told(plan, stop, ended):
-        """No step is told of before it is stored; and one that ended by itself ended well."""
+    def told(plan, stop, ended, what):
+        """No step is told of before it is stored and synced; and one that ended by itself ended well."""
         told = [int(number) for number, _ in TOLD.findall(ended.stdout)]
-        demand(max(told + [0]) <= steps_stored(plan, stop)[0], "a step was told of that is not stored")
+        demand(max(told + [0]) <= steps_stored(plan, stop)[0], "a step was told of that is not %s" % what)
         if not ended.killed:
             demand(ended.status == 0 and stop is None, "exit status %s" % ended.status)
 
-    def demand_3(self, chip, image):
+    @staticmethod
+    def demand_3(chip, image, places):
         try:
             now = Shown(image, chip.geometry)
         except ubi.Refused as refused:
@@ -301,9 +347,8 @@ class Judge:
         demand(now.table == chip.first.table, "another volume table")
         demand(now.states == chip.first.states, "other states")
         demand(now.contents == chip.first.contents, "other contents")
-        demand(now.places == chip.places, "the map is not the place book")
-        self.library_words(chip, image, now.report)
-        chip.image, chip.now = image, now
+        demand(now.places == places, "the map is not the place book")
+        return now
 
     def library_words(self, chip, image, report):
         count = report.peb_count
@@ -334,6 +379,8 @@ class Run:
         self.counts = Counter()
         self.tenths = Counter()
         self.errors = open(os.path.join(directory, "stderr"), "w+b")
+        # In memory: on the same disk it would have to be written with each sync.
+        self.synced = tempfile.NamedTemporaryFile(prefix="kills-", dir=scale.memory_directory())
         self.chip = None
 
     @property
@@ -342,7 +389,7 @@ class Run:
 
     def run(self):
         while self.kills < self.wanted:
-            self.chip = Chip(self.dice, os.path.join(self.directory, "chip.bin"))
+            self.chip = Chip(self.dice, os.path.join(self.directory, "chip.bin"), self.synced.name)
             self.counts["chips"] += 1
             while self.kills < self.wanted and self.move_until_complete():
                 pass
@@ -370,13 +417,14 @@ class Run:
     def attempt(self, plan, move, may_kill):
         """Whether it completed."""
         fresh = may_kill and self.dice.randrange(FRESH_ONE_IN) == 0
-        child = Child(self.chip.words(move), self.errors, fresh)
+        self.chip.start_synced()
+        child = Child(self.chip.words(move), self.errors, fresh, self.chip.synced)
         steps = mover.step_count(plan)
         if may_kill:
             self.wait(child, steps, fresh)
             child.kill()
         ended = child.ended()
-        where = self.judge.stopped(self.chip, plan, move, ended)
+        where = self.judge.stopped(self.chip, plan, move, ended, child.synced)
         if not ended.killed:
             self.clock.learn(self.chip.geometry, steps, fresh, ended.seconds)
             return True
@@ -450,6 +498,8 @@ def arguments_of(arguments):
 def main(arguments):
     chosen = arguments_of(arguments)
     os.environ[VARIABLE] = library_path()
+    # Ended from outside, it still removes its files.
+    signal.signal(signal.SIGTERM, lambda *_: sys.exit(143))
     directory = tempfile.mkdtemp(prefix="kills-", dir=chosen.directory)
     print("kills: seed %d, %d kills, in %s" % (chosen.seed, chosen.kills, os.path.dirname(directory)), flush=True)
     began = time.monotonic()

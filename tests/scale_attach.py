@@ -319,9 +319,7 @@ class Case:
         raw = self.piece(starts[kind], ubi.HEADER_SIZE)
         fields = ubi.EC_FIELDS if kind == "ec" else ubi.VID_FIELDS
         if self.chance.below(2) and len(raw) >= 64:
-            # Every now and then the version.
-            raw = flip(raw, self.chance.pick([4, self.chance.below(64), self.chance.below(64)]), self.chance)
-            raw = raw[:60] + ubi.jamcrc(raw[:60]).to_bytes(4, "big") + raw[64:]
+            raw = self.spoilt_header(raw, fields, size)
         more = [] if kind == "ec" else [size]
         read = ubi.read_ec_header if kind == "ec" else ubi.read_vid_header
         number, _, told = refusal_of(lambda: read(raw, *more))
@@ -332,7 +330,23 @@ class Case:
         same(self.functions.call("read_" + kind, raw, *more, words), answer, "reading %s %s" % (kind, raw.hex()))
         same(words.words(), (list(header) if header else [self.fill] * len(fields))
              + [self.fill] * (words.length - len(fields)), "the words of %s %s" % (kind, raw.hex()))
-        self.check_writer(kind, fields, raw, more)
+        self.check_writer(kind, fields, raw, more, size)
+
+    def spoilt_header(self, raw, fields, size):
+        """A bit flipped, often in the version, or a field at a limit; and the CRC right."""
+        if self.chance.below(2):
+            raw = flip(raw, self.chance.pick([4, self.chance.below(64), self.chance.below(64)]), self.chance)
+        else:
+            _, offset, width = self.chance.pick(fields)
+            value = self.limit(size, ubi.number_at(raw, offset, width)) % 2 ** (8 * width)
+            raw = raw[:offset] + value.to_bytes(width, "big") + raw[offset + width:]
+        return raw[:60] + ubi.jamcrc(raw[:60]).to_bytes(4, "big") + raw[64:]
+
+    def limit(self, size, value):
+        """A number near this one, or near one that a rule names."""
+        named = [0, 1, 2, 5, 127, 128, ubi.LAYOUT_VOLUME, ubi.LAST_INTERNAL_VOLUME, 0x7FFFFFFF, 0x80000000, size,
+                 size // 2, (size + 1) // 2, 2 ** 32 - 1, value, value]
+        return max(0, self.chance.pick(named) + self.chance.pick([-1, 0, 0, 1]))
 
     def piece(self, start, size, wanted=None):
         """So many bytes of a block from a place on, of a layout block if asked for; now and then too few, or more."""
@@ -343,15 +357,15 @@ class Case:
         raw = self.image[(self.chance.pick(layouts) if layouts else at) + start:][:size]
         return raw[:self.chance.below(size)] if self.chance.below(30) == 0 else raw + b"more" * self.chance.below(2)
 
-    def check_writer(self, kind, fields, raw, more):
+    def check_writer(self, kind, fields, raw, more, size):
         """The fields that stand there, one of them near or at a limit."""
         padded = raw + bytes(64)
         words = [ubi.number_at(padded, offset, width) for _, offset, width in fields]
-        if self.chance.below(2):
+        if self.chance.below(3):
             at = self.chance.below(len(words))
             width = fields[at][2]
-            words[at] = self.chance.pick([0, 1, 2, words[at] + 1, 0x7FFFFFFF, 0x80000000, 2 ** (8 * width) - 1,
-                                          2 ** (8 * width)]) % 2 ** 64
+            words[at] = self.chance.pick([self.limit(size, words[at]), self.limit(size, words[at]),
+                                          2 ** (8 * width) - 1, 2 ** (8 * width)]) % 2 ** 64
         if self.chance.below(2):
             words[0] = 1
         room = self.chance.pick([64, 64, 64, 70, 63, 0])
