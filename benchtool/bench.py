@@ -1,6 +1,6 @@
 """What the commands share: the geometry on the command line, a dump read by it, and the warnings."""
 
-from benchtool import library, probe
+from benchtool import library, proposals
 from benchtool.chip import Chip
 from benchtool.dump import Way, read_dump
 from benchtool.numbers import grouped
@@ -54,7 +54,7 @@ class Bench:
         """The chip, attached or refused, with the warnings that are due."""
         chip = Chip(self.library, self.slip_of(dump), dump.image)
         self.compare_blocks(chip, dump)
-        self.hint = probe.other_geometry(self.library, chip, self.numbers)
+        self.hint = proposals.other_geometry(self.library, chip, self.numbers)
         if self.hint:
             warn(self.hint)
         return chip

@@ -102,7 +102,7 @@ def make_parser():
     parser = Parser(prog=NAME, description="The bench tool for dumps of UBI chips.",
                     epilog=EXAMPLES + STATUSES + "\n`ubibench COMMAND --help` says more.",
                     formatter_class=argparse.RawDescriptionHelpFormatter)
-    parser.add_argument("--version", action="store_true", help="say the version of the library, and where it is")
+    parser.add_argument("--version", action="store_true", help="say the version of program and library")
     commands = parser.add_subparsers(metavar="COMMAND", dest="command")
     add_list(commands)
     add_probe(commands)

@@ -85,8 +85,9 @@ def content_text(before, after, peb):
     old, new = before.image.at(peb * size, size), after.image.at(peb * size, size)
     if old == new:
         return ""
-    different = [at for at in range(size) if old[at] != new[at]]
-    return "content %s from %d to %d" % (counted(len(different), "byte"), different[0], different[-1])
+    different = (int.from_bytes(old, "big") ^ int.from_bytes(new, "big")).to_bytes(size, "big")
+    first, last = size - len(different.lstrip(b"\0")), len(different.rstrip(b"\0")) - 1
+    return "content %s from %d to %d" % (counted(size - different.count(0), "byte"), first, last)
 
 
 def lengths(before, after):

@@ -8,7 +8,7 @@ from benchtool.trouble import Refused, Trouble
 FILE = "libchoduljin.so"
 VARIABLE = "CHODULJIN_LIBRARY"
 # From the directory of the package: where `make` builds it, and where `make install` puts it beside the program.
-PLACES = ("target/lib", "target", "build", "lib", ".", "../../lib", "../lib")
+PLACES = ("target/lib", "target", "target/staticlib", "build", "lib", ".", "../../lib")
 
 # Answers.
 DONE, ON, BAD, EMPTY = 0, 256, 257, 258

@@ -40,19 +40,20 @@ td.name { overflow-wrap: anywhere }
 .sign { width: 4mm; height: 4mm; vertical-align: -0.7mm; margin-right: 1.5mm }
 .legend { columns: 2; margin: 2mm 0 0; padding: 0; list-style: none; font-size: 9.5pt }
 .legend li { break-inside: avoid; margin-bottom: 0.6mm }
-.bar { display: inline-block; width: 22mm; height: 3mm; border: 0.25mm solid #555; vertical-align: -0.3mm;
+.bar { display: inline-block; width: 18mm; height: 3mm; border: 0.25mm solid #555; vertical-align: -0.3mm;
   margin-right: 1.5mm }
+.part { white-space: nowrap }
 .bar i { display: block; height: 100%; background: #3f6f8f }
-pre { font: 7.5pt/1.3 "DejaVu Sans Mono", "Liberation Mono", monospace; columns: 3; column-gap: 6mm;
+pre { font: 6.8pt/1.3 "DejaVu Sans Mono", "Liberation Mono", monospace; columns: 5; column-gap: 4mm;
   white-space: pre-wrap; margin: 0 }
-pre.first { columns: 1; margin-bottom: 2mm; font-weight: bold }
+pre.first { columns: 1; margin-bottom: 2mm; font-weight: bold; font-size: 8.5pt }
 code { font-family: "DejaVu Sans Mono", "Liberation Mono", monospace; font-size: 92% }
 code.sum { font-size: 83% }
 .todo { font-weight: bold }
 .sub { color: #555; font-size: 9.5pt; margin: 0 }
 * { print-color-adjust: exact; -webkit-print-color-adjust: exact }
 @media print { body { margin: 0; padding: 0; max-width: none } }
-@media screen and (max-width: 700px) { pre { columns: 1 } .legend { columns: 1 } }
+@media screen and (max-width: 700px) { pre { columns: 2 } .legend { columns: 1 } }
 """
 
 CHECK_FIRST = (
@@ -139,11 +140,12 @@ class Page:
     def faults(self, faults):
         if not faults:
             return
-        yield "<h2>What was found, and what to do</h2>\n<table><tr><th class=\"where\">Where</th><th>What it means</th>" \
-            "<th>What to do</th></tr>"
+        yield "<h2>What was found, and what to do</h2>\n<table><tr><th class=\"where\">Where</th>" \
+            "<th>What it means</th><th>What to do</th></tr>"
         for fault in faults:
             yield "<tr><td class=\"name\"><b>%s</b><br>%s</td><td>%s</td><td>%s</td></tr>" % (
-                safe(capital(fault.what)), safe(fault.where), safe(capital(fault.meaning)), safe(capital(fault.to_do)))
+                safe(capital(fault.what)), safe(fault.where), safe(capital(fault.meaning)),
+                safe(capital(fault.to_do)))
         yield "</table>"
 
     def notes(self):
@@ -211,7 +213,8 @@ class Page:
         share = 100 * len(volume.mapped) // record["reserved"]
         state = words.STATES[volume.state].word
         return ("<tr><td class=\"number\">%d</td><td class=\"name\">%s</td><td>%s</td><td class=\"number\">%s</td>"
-                "<td>%s</td><td><span class=\"bar\"><i style=\"width:%d%%\"></i></span>%s of %s%s</td></tr>" % (
+                "<td>%s</td><td><span class=\"part\"><span class=\"bar\"><i style=\"width:%d%%\"></i></span>"
+                "%s of %s</span>%s</td></tr>" % (
                     volume.number, safe(words.visible(record["name"])), kind,
                     grouped(record["reserved"] * volume.room), state if volume.state == 1 else "<b>%s</b>" % state,
                     share, grouped(len(volume.mapped)), grouped(record["reserved"]), missing_words(volume)))

@@ -103,6 +103,8 @@ def opening(name, width, height):
 WIDE, HIGH = 640, 130
 FOOT = 22
 HEAD = 30
+# About the width of a digit.
+LETTER = 5.6
 
 
 def histogram(chip):
@@ -115,21 +117,35 @@ def histogram(chip):
     for place, one in enumerate(bins):
         parts.append(bar(one, place * step, step, most))
     parts.append('<path d="M0 %d H%d" stroke="#333" stroke-width="1"/>' % (HIGH, WIDE))
+    parts += labels(bins, step)
     parts.append(mean_line(chip.mean, bins, step))
     return "".join(parts) + "</g></svg>"
 
 
 def bar(one, x, step, most):
+    if not one.count:
+        return ""
     high = HIGH * one.count / most
-    middle = x + step / 2
-    drawn = '<rect x="%.1f" y="%.1f" width="%.1f" height="%.1f" fill="#3f6f8f" stroke="#1e3f57" ' \
-        'stroke-width="0.5"/>' % (x + 1, HIGH - high, step - 2, high) if one.count else ""
-    counted = '<text x="%.1f" y="%.1f" font-size="9" text-anchor="middle">%s</text>' % (
-        middle, HIGH - high - 4, grouped(one.count)) if one.count else ""
-    shown = label(one).replace(" to ", "\u2013")
-    size = min(9.0, 9 * step / (len(shown) * 6 + 4))
-    return drawn + counted + '<text x="%.1f" y="%d" font-size="%.1f" text-anchor="middle" fill="#333">%s</text>' % (
-        middle, HIGH + 14, size, shown)
+    return '<rect x="%.1f" y="%.1f" width="%.1f" height="%.1f" fill="#3f6f8f" stroke="#1e3f57" ' \
+        'stroke-width="0.5"/>' % (x + 1, HIGH - high, step - 2, high) + note(x + step / 2, HIGH - high - 4,
+                                                                            grouped(one.count))
+
+
+def labels(bins, step):
+    """Under each bar what it counts; where that is too long, where some of the bars begin."""
+    wide = max(len(label(one)) for one in bins) * LETTER + LETTER
+    if wide <= step:
+        return [note((place + 0.5) * step, HIGH + 14, label(one).replace(" to ", "\u2013"))
+                for place, one in enumerate(bins)]
+    wide = (len(grouped(bins[-1].low)) + 2) * LETTER
+    every = int(wide / step) + 1
+    return ['<path d="M%.1f %d v4" stroke="#333" stroke-width="1"/>' % (place * step + 1, HIGH)
+            + note(place * step + 1, HIGH + 14, grouped(bins[place].low), "start")
+            for place in range(0, len(bins), every) if place * step + wide < WIDE + 20]
+
+
+def note(x, y, said, anchor="middle"):
+    return '<text x="%.1f" y="%.1f" font-size="9" text-anchor="%s" fill="#222">%s</text>' % (x, y, anchor, said)
 
 
 def mean_line(mean, bins, step):

@@ -2,14 +2,16 @@
 
 import io
 import os
+import shutil
 import subprocess
 import sys
+import time
 import unittest
 from unittest import mock
 
-from support import BENCH, BENCH_OPTIONS, PROGRAM, SMALL, SMALL_OPTIONS, Case, run
+from support import BENCH, BENCH_OPTIONS, PROGRAM, ROOT, SMALL, SMALL_OPTIONS, Case, run
 
-from benchtool import cli, numbers
+from benchtool import cli, library, numbers, progress
 
 
 class Numbers(unittest.TestCase):
@@ -91,6 +93,38 @@ class Faults(unittest.TestCase):
             with mock.patch("sys.stderr", io.StringIO()) as said:
                 self.assertEqual(cli.answer(["list"]), cli.TROUBLE)
         self.assertIn("on purpose", said.getvalue())
+
+
+class Installed(Case):
+    def test_package_and_library_are_found(self):
+        """As `make install` lays them out, with the program called by a link from elsewhere."""
+        for place in ("bin", "lib", "share/choduljin"):
+            os.makedirs(self.path(place))
+        shutil.copy(PROGRAM, self.path("bin/ubibench"))
+        shutil.copytree(os.path.join(ROOT, "benchtool"), self.path("share/choduljin/benchtool"))
+        shutil.copy(library.load().path, self.path("lib/libchoduljin.so"))
+        os.symlink(self.path("bin/ubibench"), self.path("link"))
+        bare = {name: value for name, value in os.environ.items() if name not in (library.VARIABLE, "PYTHONPATH")}
+        dump = self.file("dump", BENCH)
+        for program in ("bin/ubibench", "link"):
+            done = subprocess.run([self.path(program), "list", dump] + list(BENCH_OPTIONS), stdout=subprocess.PIPE,
+                                  stderr=subprocess.PIPE, env=bare, cwd="/")
+            self.assertEqual((done.returncode, done.stderr), (0, b""))
+            self.assertTrue(done.stdout.startswith(b"attached 4 "))
+
+
+class Telling(unittest.TestCase):
+    def told(self, seconds, total):
+        with mock.patch.object(progress, "SILENT_SECONDS", 0.02), mock.patch("sys.stderr", io.StringIO()) as said:
+            with progress.Progress("reading", total) as one:
+                one.at(1)
+                time.sleep(seconds)
+        return said.getvalue()
+
+    def test_only_what_takes_long(self):
+        self.assertEqual(self.told(0, 4), "")
+        self.assertEqual(self.told(0.2, 4), "ubibench: reading, 25 %\n")
+        self.assertEqual(self.told(0.2, None), "ubibench: reading, 0 s\n")
 
 
 class Output(Case):

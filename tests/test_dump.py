@@ -100,6 +100,21 @@ class Failing(Case):
                 read_dump(path)
         self.assertEqual(len(calls), 3)
 
+    def test_an_early_end(self):
+        """Where a file ends before its length, though nothing else shows it."""
+        path = self.file("dump", SMALL)
+        real, calls = dump.read_piece, []
+
+        def ending(file, view):
+            calls.append(1)
+            return 0 if len(calls) == 3 else real(file, view[:1024])
+
+        for way in (dump.PLAIN, Way(64, 64, 0, False)):
+            calls.clear()
+            with mock.patch.object(dump, "read_piece", ending):
+                with self.assertRaisesRegex(Trouble, "changed while it was read"):
+                    read_dump(path, way)
+
     def changing(self, change, way=dump.PLAIN, at=2):
         """The dump read while `change` is done to its file, before the call `at` of `read`."""
         path = self.file("dump", SMALL)
@@ -148,6 +163,11 @@ class Pipes(Case):
         self.ends(done, 1, wanted.stdout)
         raw = run("list", "-", *SMALL_OPTIONS, "--oob", "3", input=with_spare(SMALL, 64, 3))
         self.ends(raw, 1, wanted.stdout)
+
+    def test_spare_bytes_that_do_not_fit(self):
+        done = run("list", "-", *SMALL_OPTIONS, "--oob", "3", input=with_spare(SMALL, 64, 3)[:-1])
+        self.ends(done, 3, b"")
+        self.assertIn(b"whole number of pages", done.stderr)
 
     def test_standard_input_is_read_from_where_it_stands(self):
         with open(self.file("small", b"x" * 20 + SMALL), "rb") as file:

@@ -83,6 +83,14 @@ class Json(Case):
         self.assertEqual((boot["type"], boot["reserved"], boot["mapped"], boot["used_lebs"]), ("static", 2, 2, 2))
         self.assertEqual(found["volumes"][2]["update_marker"], 1)
 
+    def test_the_table_taken(self):
+        """Copy 0 is damaged: the names are those of copy 1."""
+        flash = Flash(1024, 1, 1)
+        blocks = [flash.layout(0, b"\0" * 500, 1), flash.layout(1, flash.table(flash.volume(b"one")), 2), flash.free()]
+        found, status = self.object(flash.image(blocks), *options_of(flash))
+        self.assertEqual((status, found["report"]["table"], found["report"]["copies_mark"]), (1, 1, 1))
+        self.assertEqual([volume["name"] for volume in found["volumes"]], ["one"])
+
     def test_names_survive(self):
         for name in (b"\xff\xfe", b"caf\xc3\xa9", b"a\nb", b"\x01", b"<b>&\"'"):
             flash, image = named_chip(name)

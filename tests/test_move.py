@@ -1,14 +1,19 @@
 """Moves: the bytes they leave are the oracle's, on a copy, in place, and stopped anywhere."""
 
+import io
+import mmap
 import os
 import re
 import shutil
 import unittest
+from unittest import mock
+
+from support import BENCH, BENCH_OPTIONS, SMALL, SMALL_OPTIONS, Case, Flash, oracle_listing, options_of, run
 
 import mover
 import ubi
-from support import BENCH, BENCH_OPTIONS, SMALL, SMALL_OPTIONS, Case, Flash, oracle_listing, options_of, run
-
+from benchtool import cli, move
+from benchtool.library import Library
 from cases import Chance
 from cases_mover_random import random_chip
 from mover import begin, cut_image, enough_tables, image_after, judged_geometry, step, step_count, write_of
@@ -106,6 +111,74 @@ class Output(Case):
         self.ends(run("move", "-", *BENCH_OPTIONS, *BENCH_MOVE, "--in-place", input=BENCH), 3, b"")
         self.ends(run("move", "/dev/zero", *BENCH_OPTIONS, *BENCH_MOVE, "--in-place"), 3, b"")
         self.ends(run("move", self.path("none"), *BENCH_OPTIONS, *BENCH_MOVE, "--in-place"), 3, b"")
+
+
+class InPlace(Case):
+    def moved(self, *more):
+        """In this process: the exit status, and what was said on standard error."""
+        words = ["move", self.path("dump"), *BENCH_OPTIONS, *map(str, BENCH_MOVE), "--in-place", *more]
+        with mock.patch("sys.stdout", mock.Mock(buffer=io.BytesIO())), mock.patch("sys.stderr", io.StringIO()) as said:
+            return cli.answer(words), said.getvalue()
+
+    def test_each_step_is_synced_before_the_next(self):
+        calls = []
+
+        class Recording(mmap.mmap):
+            def flush(self, start, size):
+                calls.append(("synced", start, start + size))
+                return super().flush(start, size)
+
+        real = Library.step
+
+        def step_of(library, plan, image):
+            calls.append(library.next_write(plan, image))
+            return real(library, plan, image)
+
+        self.file("dump", BENCH)
+        with mock.patch.object(move.mmap, "mmap", Recording), mock.patch.object(Library, "step", step_of):
+            self.assertEqual(self.moved(), (0, ""))
+        self.assertEqual(len(calls), 2 * 6)
+        for (_, at, size), (name, start, end) in zip(calls[::2], calls[1::2]):
+            self.assertEqual(name, "synced")
+            self.assertTrue(start <= at and at + size <= end, (at, size, start, end))
+
+    def test_a_sync_that_fails_ends_the_move(self):
+        class Failing(mmap.mmap):
+            def flush(self, start, size):
+                raise OSError(5, "Input/output error")
+
+        self.file("dump", BENCH)
+        with mock.patch.object(move.mmap, "mmap", Failing):
+            status, said = self.moved()
+        self.assertEqual(status, 3)
+        self.assertIn("Input/output error", said)
+        # The first step is stored, and no other.
+        plan = begin(Flash(1024, 1, 1).slip, BENCH, enough_tables(BENCH, 1024), 0, 0, 3)
+        self.assertEqual(self.content("dump"), stopped(plan, BENCH, 1, 0))
+
+    def test_a_dump_that_changes_after_it_was_judged(self):
+        for place in (2 * 1024 + 500, 3 * 1024 + 500):
+            path, real = self.file("dump", BENCH), move.foretold
+
+            def changing(*arguments):
+                with open(path, "r+b") as file:
+                    file.seek(place)
+                    file.write(b"x")
+                return real(*arguments)
+
+            with mock.patch.object(move, "foretold", changing):
+                status, said = self.moved()
+            self.assertEqual(status, 3)
+            self.assertIn("changed", said)
+            self.assertEqual(self.content("dump"), BENCH[:place] + b"x" + BENCH[place + 1:])
+
+    def test_a_locked_dump(self):
+        with open(self.file("dump", BENCH), "rb") as file:
+            move.fcntl.flock(file, move.fcntl.LOCK_EX)
+            status, said = self.moved()
+        self.assertEqual(status, 3)
+        self.assertIn("locked", said)
+        self.assertEqual(self.content("dump"), BENCH)
 
 
 class AgainstTheOracle(Case):

@@ -98,6 +98,13 @@ class Warnings(Case):
         self.assertIsNone(self.warning(BENCH, "--peb-size", "1k", "--unit", "1"))
         self.assertIsNone(self.warning(chip_image(), *options_of(CHIP)))
 
+    def test_none_where_it_cannot_be_told(self):
+        """The only good EC header is that of the first block."""
+        flash = Flash(2048, 512, 512)
+        blocks = flash.with_tables([flash.volume(reserved=2)], flash.dynamic(0, 0, 3), flash.dynamic(0, 1, 4))
+        image = flash.image(blocks[:1] + [block._replace(ec=b"UBI") for block in blocks[1:]])
+        self.assertIsNone(self.warning(image, *options_of(flash)))
+
     def test_half_and_twice_the_size(self):
         _, image = chip(65536, 2048, 512, blocks=16)
         for size in ("32k", "128k", "16k", "256k"):
