@@ -35,13 +35,19 @@ ONE_IN = 1000
 SHOWN = (["attach refused %d" % number for number in range(1, 13)]
          + ["begin refused %d" % number for number in range(1, 18)]
          + ["step refused 18", "finish refused 18", "next_write refused 18", "write_ec refused 19",
-            "write_vid refused 19", "listing refused 4", "unfit plan", "unfit header"]
+            "write_vid refused 19", "listing refused 4", "unfit plan", "unfit header", "unfit report"]
          + ["attached", "planned", "moved to the end"]
          + ["class %d" % klass for klass in range(7)] + ["state %d" % state for state in range(4)]
          + ["table 0", "table 1", "copies 0", "copies 1", "copies 2", "grade 0", "grade 1", "read only"]
          + ["ec read", "ec lost", "ec newer", "vid read", "vid bad", "vid newer", "record good", "record empty",
             "record bad", "geometry good", "geometry refused 2"])
 TABLES = attach.Lent._fields
+# The words of each function's struct, and two words of a report.
+STRUCT_WORDS = {
+    "attach": REPORT_WORDS, "listing": REPORT_WORDS, "begin": PLAN_WORDS, "step": PLAN_WORDS, "finish": PLAN_WORDS,
+    "next_write": PLAN_WORDS, "geometry": GEOMETRY_WORDS, "read_ec": EC_WORDS, "read_vid": VID_WORDS,
+    "write_ec": EC_WORDS, "write_vid": VID_WORDS, "read_record": RECORD_WORDS}
+HIGHEST, READ_ONLY = 11, 13
 GOOD_WRITES = {False: 1, True: 2}
 
 
@@ -113,6 +119,7 @@ class Case:
         self.check_headers()
         if self.chance.below(4) == 0:
             self.check_geometry()
+            self.check_short_words()
 
     # ------------------------------------------------------------ attaching
 
@@ -175,6 +182,19 @@ class Case:
             return
         same((answer, length.words()), (0, [len(text)]), "the listing's length")
         same(bytes(out.words()), text + b"\x5a" * (room - len(text)), "the listing")
+        if report is not None and self.chance.below(8) == 0:
+            self.check_unfit_listing(words, lent)
+
+    def check_unfit_listing(self, words, lent):
+        """A report with a word that does not fit its field; the highest sequence fits always."""
+        at = self.chance.pick([0, 1] + list(range(2, HIGHEST)) + list(range(HIGHEST + 1, REPORT_WORDS)))
+        most = 1 if at == READ_ONLY else 2 ** 32 - 1
+        spoilt = words.words()
+        spoilt[at] = most + 1 + self.chance.below(99)
+        out, length = Lent("B", LISTING_MOST, 0x5A), Lent("Q", 1, self.fill)
+        answer = self.functions.call("listing", Lent.of("Q", spoilt, self.fill), *lent, out, length)
+        same((answer, length.words(), set(out.words())), (UNFIT, [self.fill], {0x5A}), "report %s" % spoilt)
+        self.count("unfit report")
 
     def check_tool(self):
         """`ubibench list`, mostly with the numbers on the command line."""
@@ -419,6 +439,26 @@ class Case:
         answer = self.functions.call("geometry", *numbers, words)
         same((answer, words.words()), (number, list(told or [self.fill] * GEOMETRY_WORDS)), "geometry %s" % numbers)
         self.count("geometry refused 2" if number else "geometry good")
+
+
+    def check_short_words(self):
+        """Too few words for a struct are refusal 4 of every function, and change nothing."""
+        name = self.chance.pick(sorted(STRUCT_WORDS))
+        words = Lent("Q", self.chance.below(STRUCT_WORDS[name]), self.fill)
+        tables, _ = self.tables([4000, 4000, 128])
+        lent = {"B": Lent("B", LISTING_MOST if name == "listing" else 172, 0x5A), "Q": Lent("Q", 7, self.fill)}
+        held, raw = Held(self.image), bytes(172)
+        answer = self.functions.call(name, *{
+            "attach": (self.slip, held, *tables, words), "begin": (self.slip, held, *tables, 0, 0, 1, words),
+            "step": (words, held), "finish": (words, held), "next_write": (words, held, lent["Q"]),
+            "geometry": (1024, 1, 1, words), "read_ec": (raw, words), "read_vid": (raw, 896, words),
+            "write_ec": (words, lent["B"]), "write_vid": (words, 896, lent["B"]),
+            "read_record": (raw, 896, 1, words, lent["B"]), "listing": (words, *tables, lent["B"], lent["Q"])}[name])
+        same(answer, 4, "%s with %d words" % (name, words.length))
+        same(held.bytes() == self.image, True, "the image of %s with few words is as it was" % name)
+        for one in tables + [words, *lent.values()]:
+            same(set(one.words()) <= {self.fill, 0x5A}, True, "what %s with few words left is as it was" % name)
+        self.count("%s short of words" % name)
 
 
 def plan_words(plan):
