@@ -103,7 +103,8 @@ class Maker:
         """Files for the file system, half of it text that can be compressed; and the kernel."""
         dice = random.Random(self.blocks)
         os.makedirs(self.path("root/etc"))
-        for name, data in (("root/etc/unit", b"scanner 7\n" * 300), ("root/log", b"vial reading 17\n" * (self.size // 32)),
+        for name, data in (("root/etc/unit", b"scanner 7\n" * 300),
+                           ("root/log", b"vial reading 17\n" * (self.size // 32)),
                            ("root/image", dice.randbytes(self.size // 2)),
                            ("kernel", dice.randbytes(3 * self.flash.leb_size + 1234)),
                            ("settings", b"colour=blue\n" * 200)):
@@ -209,7 +210,8 @@ class Trial:
         text = done.stdout.decode("utf-8")
         rows = re.findall(r"^ +(\d+)  ([%s]+)$" % re.escape(SIGNS), text, re.M)
         drawn = "".join(row for _, row in rows)
-        demand(done.status == 0 and drawn == "".join(SIGNS[klass] for klass in self.report.classes), "the map:\n" + text)
+        wanted = "".join(SIGNS[klass] for klass in self.report.classes)
+        demand(done.status == 0 and drawn == wanted, "the map:\n" + text)
         demand([int(number) for number, _ in rows] == list(range(0, self.maker.blocks, 64)), "rows of 64")
         for number, name in enumerate(NAMES):
             mapped = sum(1 for entry in self.report.entries if entry.volume == number)

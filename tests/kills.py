@@ -27,6 +27,7 @@ import mmap
 import os
 import random
 import re
+import select
 import shutil
 import signal
 import subprocess
@@ -202,22 +203,27 @@ class Child:
     def wait_until_told(self, step):
         """Until it has told of this step or a later one, or has ended."""
         while True:
-            piece = os.read(self.out, 65536)
-            self.told += piece
+            piece = self.heard()
             found = TOLD.findall(self.told)
             if not piece or found and int(found[-1][0]) >= step or step == 0 and self.told:
                 return
+
+    def heard(self):
+        """What it tells next; nothing at its end. One that says nothing for long is killed, and a failure."""
+        if not select.select([self.out], [], [], SECONDS)[0]:
+            self.kill()
+            raise Failure("the tool hangs")
+        piece = os.read(self.out, 65536)
+        self.told += piece
+        return piece
 
     def kill(self):
         os.kill(self.pid, signal.SIGKILL)
 
     def ended(self):
         """Waits for the end."""
-        while True:
-            piece = os.read(self.out, 65536)
-            if not piece:
-                break
-            self.told += piece
+        while self.heard():
+            pass
         os.close(self.out)
         _, status = os.waitpid(self.pid, 0)
         killed = os.WIFSIGNALED(status)

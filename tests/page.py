@@ -50,7 +50,8 @@ Loaded = namedtuple("Loaded", "dom console requests")
 # One that breaks every rule, and has no verdict.
 BROKEN = """<!DOCTYPE html>
 <html><head><meta charset="utf-8"><title>broken</title></head><body>
-<script>console.error("a word on the console")</script><img src="http://127.0.0.1:9/picture.png" style="visibility:hidden">
+<script>console.error("a word on the console")</script>
+<img src="http://127.0.0.1:9/picture.png" style="visibility:hidden">
 </body></html>
 """
 
