@@ -107,7 +107,7 @@ class Failing(Case):
 
         def ending(file, view):
             calls.append(1)
-            return 0 if len(calls) == 3 else real(file, view[:1024])
+            return 0 if len(calls) >= 3 else real(file, view[:1024])
 
         for way in (dump.PLAIN, Way(64, 64, 0, False)):
             calls.clear()

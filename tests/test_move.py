@@ -12,8 +12,9 @@ from support import BENCH, BENCH_OPTIONS, SMALL, SMALL_OPTIONS, Case, Flash, ora
 
 import mover
 import ubi
-from benchtool import cli, move
+from benchtool import cli, files, move
 from benchtool.library import Library
+from benchtool.trouble import Trouble
 from cases import Chance
 from cases_mover_random import random_chip
 from mover import begin, cut_image, enough_tables, image_after, judged_geometry, step, step_count, write_of
@@ -100,6 +101,15 @@ class Output(Case):
         self.ends(done, 3)
         self.assertIn(b"No such file or directory", done.stderr)
         self.assertEqual(os.listdir(self.directory), ["dump"])
+
+    def test_a_copy_that_fails_leaves_nothing(self):
+        for call in ("fsync", "replace"):
+            self.file("out", b"old")
+            with mock.patch.object(files.os, call, side_effect=OSError(28, "No space left on device")):
+                with self.assertRaisesRegex(Trouble, "No space left on device"):
+                    files.write_whole(self.path("out"), [b"new"])
+            self.assertEqual(os.listdir(self.directory), ["out"])
+            self.assertEqual(self.content("out"), b"old")
 
     def test_an_old_copy_is_replaced_whole(self):
         self.file("out", b"old" * 100000)
