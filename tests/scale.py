@@ -4,7 +4,6 @@ import contextlib
 import io
 import os
 import sys
-import tempfile
 from collections import namedtuple
 
 sys.dont_write_bytecode = True
@@ -48,15 +47,14 @@ def tool(*words):
 
 
 def tool_on(data, command, *options):
-    """The tool on a file of these bytes."""
-    with tempfile.NamedTemporaryFile(prefix="scale-", dir=memory_directory()) as file:
-        file.write(data)
-        file.flush()
-        return tool(command, file.name, *options)
+    """The tool on a file of these bytes, in memory and without a name that could be left behind."""
+    with open(os.memfd_create("dump"), "wb", buffering=0) as file:
+        assert file.write(data) == len(data)
+        return tool(command, "/proc/self/fd/%d" % file.fileno(), *options)
 
 
 def memory_directory():
-    """Files that are read once need no disk."""
+    """For files that need no disk."""
     return "/dev/shm" if os.access("/dev/shm", os.W_OK) else None
 
 
