@@ -33,7 +33,7 @@ def chip_map(chip):
     rows = -(-chip.peb_count // columns)
     width, height = LEFT + columns * CELL + 2, TOP + rows * CELL + 4
     parts = [opening("Chip map", width, height), definitions()]
-    parts += [text(LEFT + column * CELL + 1, TOP - 4, column) for column in range(0, columns, 8)]
+    parts += [text(LEFT + column * CELL + 1, TOP - 4, column) for column in range(0, min(columns, chip.peb_count), 8)]
     parts += [text(LEFT - 5, TOP + row * CELL + 8, row * columns, "end") for row in range(rows)]
     places = chip.places()
     for peb in chip.pebs:
