@@ -255,19 +255,30 @@ static void further_steps(const struct plan *p)
     library_step(l.image, 0);
 }
 
-static void finish(const struct plan *p, uint32_t run)
+/* the library's finish, after which the plan's words are as before, but all steps were run */
+static void library_finish(uint32_t steps)
 {
     uint64_t before[CHODULJIN_PLAN_WORDS];
     memcpy(before, l.plan, sizeof before);
+    uint32_t answer = choduljin_finish(l.plan, CHODULJIN_PLAN_WORDS, l.image, l.in.image_len);
+    if (answer != 0)
+        differ("finish", answer, 0);
+    before[CHODULJIN_PLAN_STEPS] = steps;
+    for (int i = 0; i < CHODULJIN_PLAN_WORDS; i++)
+        same_plan_word(i, before[i]);
+}
+
+/* a step and a finish after it are done, and change nothing */
+static void finish(const struct plan *p, uint32_t run)
+{
     for (; run < p->steps; run++) {
         struct write w = plain_write(p, l.model, run);
         plain_apply(l.model, &w);
     }
-    uint32_t answer = choduljin_finish(l.plan, CHODULJIN_PLAN_WORDS, l.image, l.in.image_len);
-    if (answer != 0)
-        differ("finish", answer, 0);
-    for (int i = 0; i < CHODULJIN_PLAN_WORDS; i++)
-        same_plan_word(i, before[i]);
+    library_finish(p->steps);
+    same_image("finish", l.image);
+    library_step(l.image, 0);
+    library_finish(p->steps);
 }
 
 /* ---- Stops ---- */

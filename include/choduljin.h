@@ -227,6 +227,10 @@ uint32_t choduljin_read_record(const uint8_t *record, size_t record_length, uint
  * A plan is good for one run on the image that it was begun on, as the calls before left it. After a cut, and after
  * anything else wrote the image, attach and begin anew: a stale plan is not noticed, and can destroy data.
  *
+ * A plan is good for one run, on the image that it was begun on, as the calls before left it. A stale plan is not
+ * detected, and its steps destroy what they meet: after a cut, or after anything else wrote the image, attach and begin
+ * anew.
+ *
  * Words of a plan. They are for the next call; only the first two and the number of steps need be looked at. */
 enum {
     CHODULJIN_PLAN_NUMBER,    /* 0 if there is a plan, else the refusal's number */
@@ -257,8 +261,10 @@ uint32_t choduljin_begin(const uint8_t *slip, size_t slip_length, const uint8_t 
  * was left; nothing changes); 4 (plan is too short); 18; CHODULJIN_UNFIT. Refused, it changes nothing. */
 uint32_t choduljin_step(uint64_t *plan, size_t plan_length, uint8_t *image, size_t image_length);
 
-/* All steps that are left. Answer: 0; 4; 18; CHODULJIN_UNFIT. The plan's words do not change. */
-uint32_t choduljin_finish(const uint64_t *plan, size_t plan_length, uint8_t *image, size_t image_length);
+/* All steps that are left. Answer: 0 (done; plan[CHODULJIN_PLAN_STEPS] is the number of steps, and no other word
+ * changes: a further call of this or of choduljin_step answers 0 and changes nothing); 4 (plan is too short); 18;
+ * CHODULJIN_UNFIT. After these three the plan's words are as before. */
+uint32_t choduljin_finish(uint64_t *plan, size_t plan_length, uint8_t *image, size_t image_length);
 
 /* What the next step will write, told beforehand. Answer: 0 (the words are stored); 4 (plan or write is too short); 18;
  * CHODULJIN_UNFIT. Refused, it changes nothing. */

@@ -8,11 +8,15 @@ import subprocess
 import tempfile
 import unittest
 
+from support import bench_dump
+
 ROOT = os.path.dirname(os.path.dirname(os.path.abspath(__file__)))
 BUILD = os.path.join(ROOT, "build")
 HEADER = os.path.join(ROOT, "include", "choduljin.h")
 LIBRARY = os.path.join(BUILD, "libchoduljin.so")
 SLIP_SIZE = 20
+ON = 256
+MAY_NOT_RUN = 18
 STRICT = ("-Wall", "-Wextra", "-Werror", "-pedantic", "-I" + os.path.dirname(HEADER))
 
 
@@ -25,6 +29,11 @@ def sample():
     """Slip, dump and listing of the sample."""
     whole = read("samples", "small.dump")
     return whole[:SLIP_SIZE], whole[SLIP_SIZE:], read("samples", "small.txt").decode().splitlines()
+
+
+def lent(*slices):
+    """Each slice as C lends it: a pointer and a length."""
+    return [x for s in slices for x in (s, ctypes.c_size_t(len(s)))]
 
 
 class Scratch(unittest.TestCase):
@@ -99,10 +108,9 @@ class Words(unittest.TestCase):
     def test_a_report_has_its_words_in_the_header_s_order(self):
         slip, dump, listing = sample()
         library = ctypes.CDLL(LIBRARY)
-        lent = [(ctypes.c_uint32 * size)() for size in (4096 * 2, 4096 * 3, 128)] + [(ctypes.c_uint64 * 17)()]
-        slices = [slip, dump] + lent
-        answer = library.choduljin_attach(*[x for s in slices for x in (s, ctypes.c_size_t(len(s)))])
-        found = dict(zip(words_of("REPORT_NUMBER"), lent[3]))
+        words = [(ctypes.c_uint32 * size)() for size in (4096 * 2, 4096 * 3, 128)] + [(ctypes.c_uint64 * 17)()]
+        answer = library.choduljin_attach(*lent(slip, dump, *words))
+        found = dict(zip(words_of("REPORT_NUMBER"), words[3]))
         first = listing[0].split()
         told = dict(zip(first[::2], map(int, first[1::2])))
         names = {"attached": "PEB_COUNT", "entries": "ENTRIES", "mean": "MEAN", "highest": "HIGHEST",
@@ -126,6 +134,39 @@ class Installed(Scratch):
         self.assertEqual((done.returncode, done.stdout[:8]), (1, b"grade 1\n"))
         listed = subprocess.run([root + "/bin/ubilist"], input=slip + dump, stdout=subprocess.PIPE).stdout
         self.assertEqual(listed, read("samples", "small.txt"))
+
+
+class Move(unittest.TestCase):
+    """01's bench move: three bytes of data in units of one, so 6 steps."""
+    STEPS = 6
+
+    def setUp(self):
+        whole = bench_dump()
+        self.library = ctypes.CDLL(LIBRARY)
+        self.plan = (ctypes.c_uint64 * 24)()
+        self.image = ctypes.create_string_buffer(whole[SLIP_SIZE:], len(whole) - SLIP_SIZE)
+        tables = [(ctypes.c_uint32 * size)() for size in (4096 * 2, 4096 * 3, 128)]
+        words = lent(whole[:SLIP_SIZE], self.image, *tables) + [0, 0, 3] + lent(self.plan)
+        self.assertEqual(self.library.choduljin_begin(*words), 0)
+
+    def call(self, name):
+        return self.library[name](*lent(self.plan, self.image))
+
+    def test_a_finished_plan_runs_no_step_again(self):
+        begun = list(self.plan)
+        self.assertEqual(self.call("choduljin_step"), ON)
+        self.assertEqual(self.call("choduljin_finish"), 0)
+        image = self.image.raw
+        for again in ("choduljin_step", "choduljin_finish"):
+            self.assertEqual(list(self.plan), begun[:SIZES["PLAN_STEPS"]] + [self.STEPS])
+            self.assertEqual((self.call(again), self.image.raw == image), (0, True))
+        self.assertEqual(list(self.plan), begun[:SIZES["PLAN_STEPS"]] + [self.STEPS])
+
+    def test_a_refused_finish_leaves_the_plan(self):
+        self.plan[SIZES["PLAN_EC"]] = 0  # no version of a header
+        begun, image = list(self.plan), self.image.raw
+        self.assertEqual(self.call("choduljin_finish"), MAY_NOT_RUN)
+        self.assertEqual((list(self.plan), self.image.raw == image), (begun, True))
 
 
 class Exports(unittest.TestCase):

@@ -1,7 +1,7 @@
 -- What a call from C answers as one number, and the words that it leaves. Assumes nothing.
 use mathlib.Core.Bool.{Bool, cond}
 use mathlib.Core.List.{List, [], _∷_}
-use Prim.Native.Nat.{ℕ}
+use Prim.Native.Nat.{ℕ, _-_}
 use lib.Dec.{ltb}
 use lib.ListN.{length}
 use Rattle.base.specs.Answers.{Answer, given, refused}
@@ -9,6 +9,9 @@ use Rattle.header.specs.Fields.{Verdict, good, bad, newer}
 use Rattle.volume_record.specs.Record as records
 use Rattle.volume_record.specs.Record.{RecordVerdict}
 use Rattle.job.specs.Job.{Progress, on, done}
+use Rattle.job.specs.Course.{afterSteps, finishing}
+use Rattle.mover_rules.specs.Write.{stepCount}
+use Rattle.mover_rules.specs.Step.{moverJob}
 use Rattle.mover_rules.specs.declared.Plan.{Plan}
 use Rattle.mover_steps.specs.declared.NextWrite.{NextWrite}
 use Rattle.mover_steps.specs.declared.NextWrite.the-variants as next
@@ -86,6 +89,16 @@ abbrev pub progressWords : Answer (Progress Plan) → List ℕ
 progressWords (given (on p)) = answerWords planWords (given p)
 progressWords (given done) = []
 progressWords (refused k p) = []
+
+-- the plan after all steps that are left, where they are done
+abbrev pub doneWords : Answer (Progress Plan) → Plan → List ℕ
+doneWords (given done) q = answerWords planWords (given q)
+doneWords (given (on p)) q = []
+doneWords (refused k p) q = []
+
+abbrev pub finishedWords : Plan → List ℕ → List ℕ
+finishedWords p image =
+    doneWords (finishing moverJob p image .answer) (afterSteps moverJob p image (stepCount p - p.steps) .plan)
 
 -- 1 for bytes stored, 2 for a block erased, 0 for nothing; from which byte of the image on, and how many
 abbrev pub nextWords : NextWrite → List ℕ

@@ -1,24 +1,27 @@
 // A move: its beginning, its steps, and what the next one will write.
 ghost use mathlib.Core.Path.{_≡_};
 ghost use mathlib.Core.Bool.{true, _||_};
+ghost use Prim.Native.Nat.{_≤_};
+ghost use lib.ListN.{length};
 ghost use Rattle.report.specs.Attach.{lent, request, attachingInto, longEnough, tablesAfter, over};
 ghost use Rattle.job.specs.Job.{stepping};
 ghost use Rattle.job.specs.Course.{finishing};
 ghost use Rattle.mover_rules.specs.Begin.{beginning};
-ghost use Rattle.mover_rules.specs.Step.{moverJob, steppedAnswer};
+ghost use Rattle.mover_rules.specs.Step.{moverJob};
 ghost use Rattle.mover_steps.specs.Upcoming.{nextWrite};
 ghost use Rattle.capi_words.specs.Lent.{fits};
 ghost use Rattle.capi_words.specs.Structs.{planWords, answerWords, planMost, planIn};
 ghost use Rattle.capi.specs.Calls.{short, judged, changed, numberOf, progressNumber, progressWords};
-ghost use Rattle.capi.specs.Calls.{nextNumber, nextWords};
+ghost use Rattle.capi.specs.Calls.{finishedWords, nextNumber, nextWords};
 use crate::MAY_NOT_RUN;
-use crate::ON;
 use crate::UNFIT;
 use crate::store::store_begun;
 use crate::store::store_next;
+use crate::store::store_plan;
 use crate::store::store_stepped;
 use capi_words::PLAN_WORDS;
 use capi_words::WRITE_WORDS;
+use mover_rules::Plan;
 use mover_rules::Stepped;
 use report::refusal::SHORT_BUFFER;
 
@@ -83,21 +86,34 @@ pub extern "C" fn choduljin_step(plan: &mut [u64], image: &mut [u8]) -> u32
     store_stepped(s, plan)
 }
 
-fn stepped_number(s: Stepped) -> u32
-    ensures { λ r. ⌜ r ≡ progressNumber (steppedAnswer s) ⌝ }
+// All steps that are left. The plan's words are stored where they are done, so that a further call runs none again.
+fn run_steps(plan: Plan, image: &mut [u8], lent: &mut [u64]) -> u32
+    requires { ⌜ 24 ≤ length (now lent) ⌝ }
+    ensures answer { λ r. ⌜ r ≡ progressNumber (finishing moverJob plan (now (image .entry)) .answer) ⌝ }
+    ensures words { λ _. ⌜ now (lent .exit)
+        ≡ over (finishedWords plan (now (image .entry))) (now (lent .entry)) ⌝ }
+    ensures image { λ _. ⌜ now (image .exit) ≡ finishing moverJob plan (now (image .entry)) .image ⌝ }
 {
-    match s {
-        Stepped::On(next) => return ON,
-        Stepped::Done => return 0,
-        Stepped::Refused => return MAY_NOT_RUN,
+    let mut p = plan;
+    loop {
+        let s = mover_steps::step(p, image);
+        match s {
+            Stepped::On(next) => p = next,
+            Stepped::Done => return store_plan(p, lent),
+            Stepped::Refused => return MAY_NOT_RUN,
+        }
     }
 }
 
 // All steps that are left of a plan.
 #[no_mangle]
-pub extern "C" fn choduljin_finish(plan: &[u64], image: &mut [u8]) -> u32
+pub extern "C" fn choduljin_finish(plan: &mut [u64], image: &mut [u8]) -> u32
     ensures answer { λ r. ⌜ r ≡ judged (short 24 (now (plan .entry))) (fits (now (plan .entry)) planMost)
         (progressNumber (finishing moverJob (planIn (now (plan .entry))) (now (image .entry)) .answer)) ⌝ }
+    ensures plan { λ _. ⌜ now (plan .exit)
+        ≡ changed (short 24 (now (plan .entry))) (fits (now (plan .entry)) planMost)
+        (over (finishedWords (planIn (now (plan .entry))) (now (image .entry))) (now (plan .entry)))
+        (now (plan .entry)) ⌝ }
     ensures image { λ _. ⌜ now (image .exit)
         ≡ changed (short 24 (now (plan .entry))) (fits (now (plan .entry)) planMost)
         (finishing moverJob (planIn (now (plan .entry))) (now (image .entry)) .image) (now (image .entry)) ⌝ }
@@ -109,8 +125,7 @@ pub extern "C" fn choduljin_finish(plan: &[u64], image: &mut [u8]) -> u32
         return UNFIT;
     }
     let p = capi_words::plan_in(plan);
-    let s = mover_steps::finish(p, image);
-    stepped_number(s)
+    run_steps(p, image, plan)
 }
 
 // What the plan's next step will write.

@@ -3,6 +3,7 @@ ghost use mathlib.Core.Path.{_≡_};
 ghost use mathlib.Core.List.{[], _∷_};
 ghost use Prim.Native.Nat.{ℕ, _≤_};
 ghost use lib.ListN.{length};
+ghost use Rattle.base.specs.Answers.{given};
 ghost use Rattle.geometry.specs.Geometry.{geometryRead};
 ghost use Rattle.header.specs.Ec.{ecAnswer};
 ghost use Rattle.header.specs.Vid.{vidAnswer};
@@ -25,6 +26,7 @@ use header::EcRead;
 use header::VidRead;
 use listing_text::Rendered;
 use mover_rules::Begun;
+use mover_rules::Plan;
 use mover_rules::Stepped;
 use mover_steps::NextWrite;
 use report::Attached;
@@ -108,13 +110,20 @@ pub fn store_begun(b: Begun, lent: &mut [u64]) -> u32
     ensures words { λ _. ⌜ now (lent .exit) ≡ over (answerWords planWords (begunAnswer b)) (now (lent .entry)) ⌝ }
 {
     match b {
-        Begun::Planned(p) => {
-            let words = capi_words::plan_words(p);
-            store_words(lent, &words);
-            return 0;
-        }
+        Begun::Planned(p) => return store_plan(p, lent),
         Begun::Refused { number, place } => return store_refusal(number, place, lent),
     }
+}
+
+// A plan as it stands.
+pub fn store_plan(p: Plan, lent: &mut [u64]) -> u32
+    requires { ⌜ 24 ≤ length (now lent) ⌝ }
+    ensures answer { λ r. ⌜ r ≡ 0 ⌝ }
+    ensures words { λ _. ⌜ now (lent .exit) ≡ over (answerWords planWords (given p)) (now (lent .entry)) ⌝ }
+{
+    let words = capi_words::plan_words(p);
+    store_words(lent, &words);
+    0
 }
 
 // What a step answered: the plan as it goes on, if it does.

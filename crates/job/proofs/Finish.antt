@@ -94,22 +94,28 @@ module _ {P : Type 0} (J : Job P) (L : Lawful J) where
     pub fewer : J .count q y - J.ran q < J.count p image - J.ran p
     fewer = let l = one-less in omega arith
 
+    pub left-on : afterSteps J q y (J.count q y - J.ran q) ≡ afterSteps J p image (J.count p image - J.ran p)
+    left-on = rw (one-less, goes-first p q image (sym e) (J.count q y - J.ran q), ← i)
+
     pub finish-on : finishing J q y ≡ finishing J p image
     unfolding finishing
-    finish-on = ap (nextStep J) (rw (one-less, goes-first p q image (sym e) (J.count q y - J.ran q), ← i))
+    finish-on = ap (nextStep J) left-on
 
   -- the last step
   module _ (p : P) (image : List ℕ) {a : Answer (Progress P)} {y : List ℕ} (e : a ≡ stepping J p image .answer)
       (i : y ≡ stepping J p image .image) where
+    pub left-last : Over a → afterSteps J p image (J.count p image - J.ran p) ≡ record { plan = p; image = image }
+    left-last o = go (next-step p image)
+      where
+        go : Next p image → afterSteps J p image (J.count p image - J.ran p) ≡ record { plan = p; image = image }
+        go (goes q b l) = over-not-on o (sym b ∙ sym e)
+        go (ends b t) = none-more p image b t (J.count p image - J.ran p)
+
     pub finish-last : {s : Stepping P} → Over a → finishing J p image ≡ s → (a ≡ s.answer) × (y ≡ s.image)
     unfolding finishing nextStep
-    finish-last {s} o f = go (next-step p image)
-      where
-        go : Next p image → (a ≡ s.answer) × (y ≡ s.image)
-        go (goes q b l) = over-not-on o (sym b ∙ sym e)
-        go (ends b t) =
-            let z = sym (ap (nextStep J) (none-more p image b t (J.count p image - J.ran p))) ∙ f in
-            (e ∙ ap (λ (x : Stepping P). x.answer) z, i ∙ ap (λ (x : Stepping P). x.image) z)
+    finish-last {s} o f =
+        let z = sym (ap (nextStep J) (left-last o)) ∙ f in
+        (e ∙ ap (λ (x : Stepping P). x.answer) z, i ∙ ap (λ (x : Stepping P). x.image) z)
 
   -- ---- the course to the end
 
@@ -174,3 +180,15 @@ module _ {P : Type 0} (J : Job P) (L : Lawful J) where
   finish-after p image (suc k) =
       let x = afterSteps J p image k in
       finish-next x.plan x.image (next-step x.plan x.image) ∙ finish-after p image k
+
+  -- a further step of the plan that it leaves, on the image that it leaves, and a further run of all that are left,
+  -- answer the same and change nothing
+  pub finish-again : (p : P) (image : List ℕ)
+      → let q = afterSteps J p image (J.count p image - J.ran p) .plan in let y = finishing J p image .image in
+      (stepping J q y ≡ finishing J p image) × (finishing J q y ≡ finishing J p image)
+  unfolding finishing nextStep
+  finish-again p image =
+      let k : ℕ = J.count p image - J.ran p in
+      let q : P = afterSteps J p image k .plan in
+      let s = all-ended (suc k) p image k (omega arith) (omega arith) .stands in
+      (ap (stepping J q) s, ap (finishing J q) s ∙ finish-after p image k)

@@ -1,13 +1,11 @@
 -- `capi::store::store_begun` meets its contract. Assumes nothing.
-use mathlib.Core.Path.{refl}
 use borrow.Author.Needs.{needs}
 use Rattle.capi.proofs.store.store_begun.Statement.{statement}
 use Rattle.capi.proofs.store.store_begun.Tie as tie
 
 returns : tie.Need-returns
 returns c =
-    let w = c.before.before in let g = w.before.before.before in
-    rw g.before.before.b.given.1 (refl, rw g.plan-words.ensures at w.store-words.ensures)
+    let s = c.before.before in rw s.before.before.before.b.given.1 s.store-plan.ensures
 
 returns-2 : tie.Need-returns-2
 returns-2 c =
@@ -17,8 +15,6 @@ pub store-begun-spec : {M : Type 1} → statement M
 store-begun-spec =
     tie.close
     (tie.spec
-    (λ c. search needs)
-    (λ c κs. search needs)
     (λ c. search needs)
     (λ c κs. search needs)
     (λ c. search needs)
