@@ -227,10 +227,6 @@ uint32_t choduljin_read_record(const uint8_t *record, size_t record_length, uint
  * A plan is good for one run on the image that it was begun on, as the calls before left it. After a cut, and after
  * anything else wrote the image, attach and begin anew: a stale plan is not noticed, and can destroy data.
  *
- * A plan is good for one run, on the image that it was begun on, as the calls before left it. A stale plan is not
- * detected, and its steps destroy what they meet: after a cut, or after anything else wrote the image, attach and begin
- * anew.
- *
  * Words of a plan. They are for the next call; only the first two and the number of steps need be looked at. */
 enum {
     CHODULJIN_PLAN_NUMBER,    /* 0 if there is a plan, else the refusal's number */

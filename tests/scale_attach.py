@@ -243,9 +243,10 @@ class Case:
             same(words.words()[:PLAN_WORDS], plan_words(plan), "the plan after a step")
             same(held.bytes() == image, True, "the image after step %d is the oracle's" % plan.steps)
         self.check_next_write(plan, words, held, image)
-        before = words.words()
+        ended = words.words()
+        ended[PLAN_WORDS - 1] = count
         same(self.functions.call("finish", words, held), 0, "finishing")
-        same((words.words(), held.bytes() == mover.image_after(plan, image)), (before, True), "what finishing leaves")
+        same((words.words(), held.bytes() == mover.image_after(plan, image)), (ended, True), "what finishing leaves")
         self.check_done(plan, words, held)
 
     def check_done(self, plan, words, held):
@@ -323,7 +324,7 @@ class Case:
         if number or name == "next_write":
             return number, self.image, steps
         if name == "finish":
-            return 0, mover.image_after(plan, self.image), steps
+            return 0, mover.image_after(plan, self.image), max(steps, mover.step_count(plan))
         answer, after, image = stepped
         return ON if answer == mover.ON else 0, image, after.steps
 
