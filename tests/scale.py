@@ -14,13 +14,7 @@ for place in (ROOT, os.path.join(ROOT, "oracle"), HERE):
         sys.path.insert(0, place)
 
 from clib import VARIABLE, library_path  # noqa: E402
-
-import attach  # noqa: E402
-import listing  # noqa: E402
-import ubi  # noqa: E402
-from mover import enough_tables  # noqa: E402
-
-PROGRAM = os.path.join(ROOT, "ubibench")
+from support import PROGRAM, oracle_listing  # noqa: E402, F401
 
 Ended = namedtuple("Ended", "status stdout stderr")
 
@@ -56,16 +50,6 @@ def tool_on(data, command, *options):
 def memory_directory():
     """For files that need no disk."""
     return "/dev/shm" if os.access("/dev/shm", os.W_OK) else None
-
-
-def oracle_listing(slip, image):
-    """The oracle's text, without the listing program's 60 KiB."""
-    try:
-        peb_size = ubi.geometry_from_slip(slip).peb_size
-        lines = listing.report_lines(attach.attach(slip, image, enough_tables(image, peb_size)))
-    except ubi.Refused as refused:
-        lines = [attach.refusal_line(refused)]
-    return "".join(line + "\n" for line in lines).encode("ascii")
 
 
 def status_of(text):
