@@ -18,6 +18,7 @@ def table_cases():
     add_damaged_records(records)
     add_record_lengths(records)
     add_random_records(records)
+    add_written_records(records)
     tables = TableProbes(cases)
     add_small_tables(tables)
     add_bad_records_in_tables(tables)
@@ -278,6 +279,30 @@ def add_random_records(probes):
             field = chance.pick(sorted(pools))
             change[field] = chance.pick(pools[field])
         probes.record(record._replace(**change), None, leb_size, unit)
+
+
+def add_written_records(probes):
+    """Any numbers and name, to lent bytes of any length and content."""
+    chance = probes.chance
+
+    def write(record, lent, want):
+        payload = bytearray([frames.WRITE_RECORD])
+        for (_, _, width), value in zip(ubi.RECORD_FIELDS, record):
+            payload += value.to_bytes(width, "big")
+        probes.cases.add(bytes(payload) + record.name + lent, want)
+
+    for length in (0, 1, 4, 168, 171, 172, 173, 200):
+        want = "written" if length >= RECORD_SIZE else "refused 4"
+        write(volume(896), b"\xff" * length, want)
+        write(volume(896, b"data", flags=3), chance.bytes(length), want)
+    for name, _, width in ubi.RECORD_FIELDS:
+        for value in (0, 1, 256 ** width - 2, 256 ** width - 1):
+            write(volume(896, **{name: value}), b"\xff" * 172, "written")
+    for _ in range(60):
+        numbers = [chance.below(256 ** width)
+                   for _, _, width in ubi.RECORD_FIELDS]
+        write(ubi.VolumeRecord(*(numbers + [chance.bytes(128)])),
+              chance.bytes(chance.pick([172, 172, 180, 171])), None)
 
 
 # ---------------------------------------------------------------- two copies

@@ -125,7 +125,7 @@ def header_answer(payload):
 
 # ----------------------------------------------------------------- table
 
-RECORD, TABLES = 1, 2
+RECORD, TABLES, WRITE_RECORD = 1, 2, 3
 NEITHER_TAKEN = 2
 
 
@@ -162,6 +162,10 @@ def table_answer(payload):
         return record_answer(fields)
     if operation == TABLES:
         return tables_answer(fields)
+    if operation == WRITE_RECORD:
+        record = ubi.VolumeRecord(*(
+            fields.numbers(ubi.RECORD_FIELDS) + [fields.bytes(ubi.NAME_SIZE)]))
+        return write_answer(ubi.write_record, record, bytearray(fields.rest()))
     raise AssertionError("no such operation")
 
 

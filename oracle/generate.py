@@ -71,6 +71,8 @@ PROGRAMS = (
         "table op 2 taken 0 mark 2": 183,
         "table op 2 taken 1 mark 1": 197,
         "table op 2 taken 2 mark 1": 353,
+        "table op 3 refused 4": 29,
+        "table op 3 written": 69,
     }),
     ("test_attach", attach_cases, 3000000, {
         "attached": 1426,

@@ -362,6 +362,13 @@ def record_bytes(record, padding=bytes(RECORD_CRC_AT - RECORD_PADDING_AT)):
     return bytes(raw)
 
 
+def write_record(record, out):
+    """The first 172 bytes; what the record says is not judged."""
+    if len(out) < RECORD_SIZE:
+        raise Refused(4)
+    out[:RECORD_SIZE] = record_bytes(record)
+
+
 def empty_record_bytes():
     zeroes = bytes(RECORD_CRC_AT)
     return zeroes + jamcrc(zeroes).to_bytes(4, "big")

@@ -53,8 +53,8 @@ use Rattle.choice.specs.Keyed.{Keyed, repeatAt}
 use Rattle.choice.specs.Chain.{Chains}
 use Rattle.choice.specs.Marking.{Linking, MarkedTo}
 use Rattle.choice.proofs.Marks.{marked-none}
-use Rattle.attach.specs.Stage.{Ended, SameBeyond, Room, Past8, Past10, Past11, outcome}
-use Rattle.attach.proofs.Ends.{words-tail, late-refusal}
+use Rattle.summary.specs.Stage.{Ended, SameBeyond, Room, Past8, Past10, Past11, outcome}
+use Rattle.summary.proofs.Ends.{words-tail, late-refusal}
 
 -- ---- refusals 1 to 4
 

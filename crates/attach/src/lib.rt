@@ -1,7 +1,4 @@
 // Attaching: from a slip and an image to the report.
-mod summary;
-mod tables;
-
 ghost use mathlib.Core.Path.{_≡_};
 ghost use Prim.Native.Nat.{_≤_};
 ghost use lib.ListN.{length};
@@ -9,7 +6,7 @@ ghost use Rattle.geometry.specs.Placed.{Placed};
 ghost use Rattle.base.specs.Answers.{given};
 ghost use Rattle.report.specs.Attach.{request, attachingInto, byGeometry, lent, longEnough, attachedAnswer, answerOf, tablesAfter};
 ghost use Rattle.choice.specs.Chain.{buckets};
-ghost use Rattle.attach.specs.Stage.{Ended, Room, Past8, Past10, outcome};
+ghost use Rattle.summary.specs.Stage.{Ended, Room, Past8, Past10, outcome};
 use geometry::Geometry;
 use geometry::GeometryRead;
 use report::Attached;
@@ -40,7 +37,7 @@ fn attach_chosen(
     let choice = volume_table::choose_table(copy0, copy1, g.leb_size, g.unit, n as u32);
     let taken = choice.taken;
     let Taken::Leb(lnum) = taken else {
-        return tables::refuse(refusal::NO_TABLE, 0, n, pebs, map, states);
+        return summary::refuse(refusal::NO_TABLE, 0, n, pebs, map, states);
     };
     let table = volume_table::taken_table(copy0, copy1, taken, g.leb_size);
     summary::report_on(
@@ -78,7 +75,7 @@ fn attach_with_heads(
     choice::link_copies(n, map, heads);
     let again = choice::first_repeat(image, g, n, map);
     if again < n {
-        return tables::refuse(
+        return summary::refuse(
             refusal::REPEATED_SEQUENCE,
             again as u32,
             n,
@@ -89,7 +86,7 @@ fn attach_with_heads(
     }
     let vid = totals.vid;
     if vid.unused {
-        return tables::refuse(refusal::EMPTY_IMAGE, 0, n, pebs, map, states);
+        return summary::refuse(refusal::EMPTY_IMAGE, 0, n, pebs, map, states);
     }
     choice::mark_chosen(image, g, n, map, heads, pebs);
     attach_chosen(image, g, n, totals, pebs, map, states)
@@ -130,7 +127,7 @@ fn attach_pebs(
 {
     let p = scan::pass(image, g, n, pebs, map);
     if p.refusal != 0 {
-        return tables::refuse(p.refusal, p.place, n, pebs, map, states);
+        return summary::refuse(p.refusal, p.place, n, pebs, map, states);
     }
     attach_passed(image, g, n, p.totals, pebs, map, states)
 }

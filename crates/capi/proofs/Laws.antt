@@ -15,7 +15,8 @@ use Rattle.volume_record.specs.Record.{RecordVerdict}
 use Rattle.volume_record.specs.declared.VolumeRecord.{VolumeRecord}
 use Rattle.report.specs.Attach.{over}
 use Rattle.capi_words.specs.Structs.{recordWords, planWords, answerWords}
-use Rattle.capi.specs.Calls.{recordNumber, progressNumber, ifGood, doneWords, finishedWords}
+use Rattle.capi_answers.specs.Calls.{recordNumber, progressNumber, ifGood}
+use Rattle.capi.specs.Finish.{doneWords, finishedWords}
 
 -- what two results are of one value, they are of an equal one
 pub told : {X B C : Type 0} (f : X → B) (g : X → C) {x y : X} {b : B} {c : C} → x ≡ y → (b ≡ f x) × (c ≡ g x)

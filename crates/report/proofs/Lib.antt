@@ -6,3 +6,4 @@ pub mod Bench
 pub mod Facts
 pub mod Tables
 pub mod Words
+pub mod Numbers

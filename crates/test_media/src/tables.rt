@@ -1,13 +1,20 @@
-// Judges a volume record or two copies of a volume table, as the first byte says, and prints the answer.
+// Judges a volume record or two copies of a volume table, or writes a record, as the first byte says, and prints the
+// answer.
 use volume_record::RecordKind;
 use volume_record::RecordRead;
+use volume_record::RecordWritten;
 use volume_record::VolumeRecord;
 use volume_table::Taken;
 
 pub fn answer(payload: &[u8]) {
+    let operation = frames::number_at(payload, 0, 1);
+    if operation == 3 {
+        write_record(payload);
+        return;
+    }
     let leb_size = frames::u32_at(payload, 1);
     let unit = frames::u32_at(payload, 5);
-    if frames::number_at(payload, 0, 1) == 1 {
+    if operation == 1 {
         print_record(volume_record::read_record(frames::rest(payload, 9), leb_size, unit));
         return;
     }
@@ -24,6 +31,48 @@ pub fn answer(payload: &[u8]) {
         unit,
         peb_count,
     );
+}
+
+// The record at byte 1: its numbers in the order of their bytes, then its name.
+fn record_at(payload: &[u8], name: [u8; 128]) -> VolumeRecord {
+    VolumeRecord {
+        reserved: frames::u32_at(payload, 1),
+        alignment: frames::u32_at(payload, 5),
+        data_pad: frames::u32_at(payload, 9),
+        vol_type: frames::u8_at(payload, 13),
+        update_marker: frames::u8_at(payload, 14),
+        name_length: (frames::number_at(payload, 15, 2) % 0x10000) as u16,
+        flags: frames::u8_at(payload, 17),
+        name,
+    }
+}
+
+fn write_record(payload: &[u8]) {
+    let from = frames::rest(payload, 18);
+    if from.len() < 128 {
+        return;
+    }
+    let n = from.len() - 128;
+    if 256 < n {
+        return;
+    }
+    let mut name = [0u8; 128];
+    base::store(&mut name, 0, &from[0..128]);
+    let mut out = [0u8; 256];
+    base::store(&mut out, 0, &from[128..]);
+    record_into(record_at(payload, name), &mut out[0..n]);
+}
+
+fn record_into(v: VolumeRecord, out: &mut [u8]) {
+    let r = record_write::write_record(v, out);
+    match r {
+        RecordWritten::Done => frames::word(b"written"),
+        RecordWritten::Short => frames::word(b"refused 4"),
+    }
+    if 0 < out.len() {
+        frames::word(b" ");
+        frames::hex(out);
+    }
 }
 
 fn print_record(r: RecordRead) {

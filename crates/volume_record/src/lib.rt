@@ -1,8 +1,10 @@
-// A volume record of 172 bytes, read and written.
+// A volume record of 172 bytes: its fields, and its reader.
 mod fields;
 mod record;
-mod write;
 
+pub use fields::NAME_SIZE;
+pub use fields::RECORD_ALIGNMENT;
+pub use fields::RECORD_CRC;
 pub use fields::RECORD_DATA_PAD;
 pub use fields::RECORD_FLAGS;
 pub use fields::RECORD_MARKER;
@@ -11,14 +13,16 @@ pub use fields::RECORD_NAME_LENGTH;
 pub use fields::RECORD_RESERVED;
 pub use fields::RECORD_SIZE;
 pub use fields::RECORD_TYPE;
+pub use fields::SUMMED_SIZE;
 pub use fields::field_bytes;
+pub use fields::field_of;
 pub use fields::get_field;
+pub use fields::set_field;
 pub use record::empty_record;
 pub use record::is_empty;
 pub use record::is_good;
 pub use record::parse;
 pub use record::read_record;
-pub use write::write_record;
 
 // The flags of a record.
 pub const AUTORESIZE: u8 = 1;

@@ -1,5 +1,5 @@
 -- `attach::attach_chosen` meets its contract. Assumes nothing.
-use Rattle.attach.proofs.Ends.{ended-refused}
+use Rattle.summary.proofs.Ends.{ended-refused}
 use Rattle.attach.proofs.Stages.{table-past, no-table}
 use borrow.Author.Needs.{needs}
 use Rattle.attach.proofs.attach_chosen.Statement.{statement}
@@ -29,20 +29,9 @@ pub attach-chosen-spec : {M : Type 1} → statement M
 attach-chosen-spec =
     tie.close
     (tie.spec
-    (λ c κs. search needs)
-    (λ c κs. search needs)
-    (λ c. search needs)
-    (λ c κs. search needs)
-    (λ c. search needs)
-    (λ c. search needs)
-    (λ c κs. search needs)
-    (λ c. search needs)
-    (λ c. search needs)
-    (λ c. search needs)
+    (λ c κs. search needs) (λ c κs. search needs) (λ c. search needs) (λ c κs. search needs) (λ c. search needs)
+    (λ c. search needs) (λ c κs. search needs) (λ c. search needs) (λ c. search needs) (λ c. search needs)
     returns
     (λ c κs. search needs)
     report-on-requires
-    (λ c. search needs)
-    (λ c. search needs)
-    (λ c. search needs)
-    (λ c. search needs))
+    (λ c. search needs) (λ c. search needs) (λ c. search needs) (λ c. search needs))

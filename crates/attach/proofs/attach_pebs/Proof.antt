@@ -1,5 +1,5 @@
 -- `attach::attach_pebs` meets its contract. Assumes nothing.
-use Rattle.attach.proofs.Ends.{ended-from, ended-refused}
+use Rattle.summary.proofs.Ends.{ended-from, ended-refused}
 use Rattle.attach.proofs.Stages.{pass-refusal, pass-beyond, past-eight}
 use borrow.Author.Needs.{needs}
 use Rattle.attach.proofs.attach_pebs.Statement.{statement}
@@ -36,14 +36,8 @@ pub attach-pebs-spec : {M : Type 1} → statement M
 attach-pebs-spec =
     tie.close
     (tie.spec
-    (λ c κs. search needs)
-    (λ c κs. search needs)
-    (λ c. search needs)
-    (λ c. search needs)
-    (λ c. search needs)
+    (λ c κs. search needs) (λ c κs. search needs) (λ c. search needs) (λ c. search needs) (λ c. search needs)
     returns
     attach-passed-requires
-    (λ c. search needs)
-    (λ c. search needs)
-    (λ c. search needs)
+    (λ c. search needs) (λ c. search needs) (λ c. search needs)
     returns-2)

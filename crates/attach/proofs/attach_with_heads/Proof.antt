@@ -1,5 +1,5 @@
 -- `attach::attach_with_heads` meets its contract. Assumes nothing.
-use Rattle.attach.proofs.Ends.{ended-from, ended-refused}
+use Rattle.summary.proofs.Ends.{ended-from, ended-refused}
 use Rattle.attach.proofs.Stages.{keyed, link-beyond, repeat-refusal, unused-refusal, linking, mark-beyond, past-ten}
 use borrow.Author.Needs.{needs}
 use Rattle.attach.proofs.attach_with_heads.Statement.{statement}
@@ -71,23 +71,12 @@ attach-with-heads-spec =
     (tie.spec
     (λ c κs. search needs)
     first-repeat-requires
-    (λ c. search needs)
-    (λ c κs. search needs)
-    (λ c. search needs)
-    (λ c. search needs)
-    (λ c. search needs)
+    (λ c. search needs) (λ c κs. search needs) (λ c. search needs) (λ c. search needs) (λ c. search needs)
     (λ c. search needs)
     returns
-    (λ c κs. search needs)
-    (λ c. search needs)
-    (λ c. search needs)
-    (λ c. search needs)
-    (λ c. search needs)
+    (λ c κs. search needs) (λ c. search needs) (λ c. search needs) (λ c. search needs) (λ c. search needs)
     returns-2
     mark-chosen-requires
     attach-chosen-requires
-    (λ c. search needs)
-    (λ c. search needs)
-    (λ c. search needs)
-    (λ c. search needs)
+    (λ c. search needs) (λ c. search needs) (λ c. search needs) (λ c. search needs)
     returns-3)

@@ -15,8 +15,7 @@ ec-fields-spec =
     (tie.spec
     (λ c κs. search needs)
     (λ c. omega arith)
-    (λ c κs. search needs)
-    (λ c κs. search needs)
+    (λ c κs. search needs) (λ c κs. search needs)
     (λ c. omega arith)
     (λ c κs. search needs)
     (λ c. omega arith)

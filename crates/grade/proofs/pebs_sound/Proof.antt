@@ -49,7 +49,6 @@ pebs-sound-spec =
     (λ c. (omega arith, refl))
     (λ c κs. search needs)
     returns
-    (λ c. search needs)
-    (λ c. search needs)
+    (λ c. search needs) (λ c. search needs)
     loop-again
     returns-2)

@@ -103,8 +103,7 @@ rules-hold-spec =
     returns-3
     returns-4
     returns-5
-    (λ c. search needs)
-    (λ c. search needs)
+    (λ c. search needs) (λ c. search needs)
     returns-6
     (λ c. search needs)
     returns-7

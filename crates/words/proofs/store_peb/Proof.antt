@@ -18,11 +18,7 @@ pub store-peb-spec : {M : Type 1} → statement M
 store-peb-spec =
     tie.close
     (tie.spec
-    (λ c. search needs)
-    (λ c. search needs)
-    (λ c. search needs)
-    (λ c. search needs)
-    (λ c. search needs)
+    (λ c. search needs) (λ c. search needs) (λ c. search needs) (λ c. search needs) (λ c. search needs)
     (λ c. search needs)
     slice-write-pebs-2
     (λ c. search needs)

@@ -5,7 +5,7 @@ use borrow.Author.Needs.{needs}
 use Rattle.base.specs.Answers.{Answer}
 use Rattle.geometry.specs.declared.Geometry.{Geometry}
 use Rattle.capi_words.specs.Structs.{geometryWords}
-use Rattle.capi.specs.Calls.{numberOf, givenWords}
+use Rattle.capi_answers.specs.Calls.{numberOf, givenWords}
 use Rattle.capi.proofs.Laws.{told}
 use Rattle.report.specs.Attach.{over}
 use Rattle.capi.proofs.attaching.choduljin_geometry.Statement.{statement}
@@ -26,7 +26,5 @@ choduljin-geometry-spec =
     tie.close
     (tie.spec
     returns
-    (λ c κs. search needs)
-    (λ c κs. search needs)
-    (λ c. search needs)
+    (λ c κs. search needs) (λ c κs. search needs) (λ c. search needs)
     returns-2)

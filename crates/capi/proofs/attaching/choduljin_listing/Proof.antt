@@ -9,7 +9,7 @@ use Rattle.base.proofs.Answers.{was-false, was-true}
 use Rattle.report.specs.Attach.{lent, over}
 use Rattle.report.specs.declared.Report.{Report}
 use Rattle.listing_text.specs.Render.{rendering, outAfter}
-use Rattle.capi.specs.Calls.{numberOf, givenWords}
+use Rattle.capi_answers.specs.Calls.{numberOf, givenWords}
 use Rattle.capi.proofs.Laws.{told}
 use Rattle.capi.proofs.attaching.choduljin_listing.Statement.{statement}
 use Rattle.capi.proofs.attaching.choduljin_listing.Tie as tie
@@ -52,8 +52,5 @@ choduljin-listing-spec =
     (λ c κs. search needs)
     returns-3
     attached-in-requires
-    (λ c κs. search needs)
-    (λ c κs. search needs)
-    (λ c. search needs)
-    (λ c. search needs)
+    (λ c κs. search needs) (λ c κs. search needs) (λ c. search needs) (λ c. search needs)
     returns-4)

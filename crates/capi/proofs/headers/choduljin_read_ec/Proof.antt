@@ -6,7 +6,7 @@ use Rattle.base.specs.Answers.{Answer}
 use Rattle.header.specs.Fields.{Verdict}
 use Rattle.header.specs.declared.EcHeader.{EcHeader}
 use Rattle.capi_words.specs.Structs.{ecWords}
-use Rattle.capi.specs.Calls.{verdictNumber, verdictWords}
+use Rattle.capi_answers.specs.Calls.{verdictNumber, verdictWords}
 use Rattle.capi.proofs.Laws.{told}
 use Rattle.report.specs.Attach.{over}
 use Rattle.capi.proofs.headers.choduljin_read_ec.Statement.{statement}
@@ -27,7 +27,5 @@ pub choduljin-read-ec-spec : {M : Type 1} → statement M
 choduljin-read-ec-spec =
     tie.close (tie.spec
     returns
-    (λ c κs. search needs)
-    (λ c κs. search needs)
-    (λ c. search needs)
+    (λ c κs. search needs) (λ c κs. search needs) (λ c. search needs)
     returns-2)

@@ -7,7 +7,7 @@ use Rattle.header.specs.Ec.{ecWritten, ecOut}
 use Rattle.header.specs.declared.EcHeader.{EcHeader}
 use Rattle.capi_words.specs.Structs.{ecMost}
 use Rattle.capi_words.proofs.Laws.{within}
-use Rattle.capi.specs.Calls.{numberOf}
+use Rattle.capi_answers.specs.Calls.{numberOf}
 use Rattle.capi.proofs.Laws.{told}
 use Rattle.capi.proofs.headers.choduljin_write_ec.Statement.{statement}
 use Rattle.capi.proofs.headers.choduljin_write_ec.Tie as tie
@@ -42,7 +42,5 @@ choduljin-write-ec-spec =
     (λ c κs. search needs)
     returns-2
     ec-in-requires
-    (λ c κs. search needs)
-    (λ c κs. search needs)
-    (λ c. search needs)
+    (λ c κs. search needs) (λ c κs. search needs) (λ c. search needs)
     returns-3)

@@ -7,7 +7,7 @@ use Rattle.header.specs.Vid.{vidWritten, vidOut}
 use Rattle.header.specs.declared.VidHeader.{VidHeader}
 use Rattle.capi_words.specs.Structs.{vidMost}
 use Rattle.capi_words.proofs.Laws.{within}
-use Rattle.capi.specs.Calls.{numberOf}
+use Rattle.capi_answers.specs.Calls.{numberOf}
 use Rattle.capi.proofs.Laws.{told}
 use Rattle.capi.proofs.headers.choduljin_write_vid.Statement.{statement}
 use Rattle.capi.proofs.headers.choduljin_write_vid.Tie as tie
@@ -44,7 +44,5 @@ choduljin-write-vid-spec =
     (λ c κs. search needs)
     returns-2
     vid-in-requires
-    (λ c κs. search needs)
-    (λ c κs. search needs)
-    (λ c. search needs)
+    (λ c κs. search needs) (λ c κs. search needs) (λ c. search needs)
     returns-3)

@@ -8,7 +8,7 @@ use Rattle.mover_steps.specs.Upcoming.{nextWrite}
 use Rattle.mover_steps.specs.declared.NextWrite.{NextWrite}
 use Rattle.capi_words.specs.Structs.{planMost}
 use Rattle.capi_words.proofs.Laws.{within}
-use Rattle.capi.specs.Calls.{nextNumber, nextWords}
+use Rattle.capi_answers.specs.Calls.{nextNumber, nextWords}
 use Rattle.capi.proofs.Laws.{told}
 use Rattle.report.specs.Attach.{over}
 use Rattle.capi.proofs.moving.choduljin_next_write.Statement.{statement}
@@ -49,7 +49,5 @@ choduljin-next-write-spec =
     (λ c κs. search needs)
     returns-3
     plan-in-requires
-    (λ c κs. search needs)
-    (λ c κs. search needs)
-    (λ c. search needs)
+    (λ c κs. search needs) (λ c κs. search needs) (λ c. search needs)
     returns-4)

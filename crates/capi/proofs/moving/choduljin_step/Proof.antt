@@ -9,7 +9,7 @@ use Rattle.mover_rules.specs.Step.{moverJob}
 use Rattle.mover_rules.specs.declared.Plan.{Plan}
 use Rattle.capi_words.specs.Structs.{planMost}
 use Rattle.capi_words.proofs.Laws.{within}
-use Rattle.capi.specs.Calls.{progressNumber, progressWords}
+use Rattle.capi_answers.specs.Calls.{progressNumber, progressWords}
 use Rattle.capi.proofs.Laws.{told}
 use Rattle.report.specs.Attach.{over}
 use Rattle.capi.proofs.moving.choduljin_step.Statement.{statement}
@@ -49,12 +49,8 @@ choduljin-step-spec =
     tie.close
     (tie.spec
     returns
-    (λ c κs. search needs)
-    (λ c. search needs)
+    (λ c κs. search needs) (λ c. search needs)
     returns-2
     plan-in-requires
-    (λ c κs. search needs)
-    (λ c κs. search needs)
-    (λ c. search needs)
-    (λ c. search needs)
+    (λ c κs. search needs) (λ c κs. search needs) (λ c. search needs) (λ c. search needs)
     returns-3)

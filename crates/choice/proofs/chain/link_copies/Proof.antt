@@ -65,8 +65,7 @@ link-copies-spec =
     (λ c κs. search needs)
     loop-holds
     link-peb-requires
-    (λ c. search needs)
-    (λ c. search needs)
+    (λ c. search needs) (λ c. search needs)
     loop-again
     same-length
     same-length-2

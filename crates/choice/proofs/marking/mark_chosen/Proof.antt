@@ -50,8 +50,7 @@ mark-chosen-spec =
     μ-loop
     loop-holds
     choose-peb-requires
-    (λ c. search needs)
-    (λ c. search needs)
+    (λ c. search needs) (λ c. search needs)
     loop-again
     same-length
     returns)

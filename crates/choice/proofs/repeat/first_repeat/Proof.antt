@@ -117,8 +117,7 @@ first-repeat-spec =
     link-requires-2
     (λ c. search needs)
     loop-again
-    (λ c. search needs)
-    (λ c. search needs)
+    (λ c. search needs) (λ c. search needs)
     pebs-again
     returns
     returns-2)

@@ -17,6 +17,5 @@ pub by-folding-spec : {M : Type 1} → statement M
 by-folding-spec =
     tie.close
     (tie.spec
-    (λ c. search needs)
-    (λ c κs. search needs)
+    (λ c. search needs) (λ c κs. search needs)
     returns)

@@ -41,6 +41,5 @@ read-head-spec =
     (λ c κs. omega (arith, whole c.before))
     (λ c. search needs)
     (λ c κs. omega (arith, whole c.before.before))
-    (λ c. search needs)
-    (λ c κs. search needs)
+    (λ c. search needs) (λ c κs. search needs)
     returns-2)

@@ -10,6 +10,5 @@ pub make-plan-spec : {M : Type 1} → statement M
 make-plan-spec =
     tie.close
     (tie.spec
-    (λ c κs. search needs)
-    (λ c κs. search needs)
+    (λ c κs. search needs) (λ c κs. search needs)
     returns)

@@ -60,8 +60,7 @@ is-no-target-spec =
     mul-at
     add-data-end
     add-data-end-2
-    (λ c. search needs)
-    (λ c. search needs)
+    (λ c. search needs) (λ c. search needs)
     part-data-end-end
     (λ c κs. search needs)
     returns-3)

@@ -37,9 +37,7 @@ pub is-to-delete-spec : {M : Type 1} → statement M
 is-to-delete-spec =
     tie.close
     (tie.spec
-    (λ c κs. search needs)
-    (λ c. search needs)
-    (λ c κs. search needs)
+    (λ c κs. search needs) (λ c. search needs) (λ c κs. search needs)
     returns
     (λ c. search needs)
     returns-2

@@ -55,8 +55,7 @@ to-delete-at-spec =
     (λ c. search needs)
     mul-at
     add-is-to-delete
-    (λ c. search needs)
-    (λ c. search needs)
+    (λ c. search needs) (λ c. search needs)
     part-is-to-delete-end
     is-to-delete-requires
     returns-2)

@@ -18,8 +18,6 @@ both-crcs-spec =
     tie.close
     (tie.spec
     extend-crc-requires
-    (λ c κs. search needs)
-    (λ c. search needs)
+    (λ c κs. search needs) (λ c. search needs)
     extend-crc-requires-3
-    (λ c κs. search needs)
-    (λ c. search needs))
+    (λ c κs. search needs) (λ c. search needs))

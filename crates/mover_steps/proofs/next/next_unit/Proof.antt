@@ -40,8 +40,7 @@ next-unit-spec =
     (tie.spec
     (λ c. search needs)
     mul-done
-    (λ c κs. search needs)
-    (λ c. search needs)
+    (λ c κs. search needs) (λ c. search needs)
     add-at
     add-at-2
     unit-length-requires

@@ -27,6 +27,5 @@ vid-refusal-spec =
     returns-2
     (λ c. search needs)
     returns-3
-    (λ c. search needs)
-    (λ c κs. search needs)
+    (λ c. search needs) (λ c κs. search needs)
     returns-4)

@@ -98,7 +98,6 @@ rules-hold-spec =
     returns-7
     returns-8
     returns-9
-    (λ c. search needs)
-    (λ c κs. search needs)
+    (λ c. search needs) (λ c κs. search needs)
     returns-10
     returns-11)

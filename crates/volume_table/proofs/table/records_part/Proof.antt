@@ -22,7 +22,5 @@ records-part-spec =
     (λ c κs. search needs)
     (λ c. omega (arith, count-small c.before.before.args.leb-size))
     returns
-    (λ c. search needs)
-    (λ c. search needs)
-    (λ c. search needs)
+    (λ c. search needs) (λ c. search needs) (λ c. search needs)
     returns-2)

@@ -91,9 +91,7 @@ table-good-spec =
     returns
     mul-if2
     returns-2
-    (λ c κs. search needs)
-    (λ c κs. search needs)
-    (λ c. search needs)
+    (λ c κs. search needs) (λ c κs. search needs) (λ c. search needs)
     tally-requires
     returns-3
     returns-4

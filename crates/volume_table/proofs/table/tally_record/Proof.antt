@@ -33,9 +33,7 @@ pub tally-record-spec : {M : Type 1} → statement M
 tally-record-spec =
     tie.close
     (tie.spec
-    (λ c κs. search needs)
-    (λ c. search needs)
-    (λ c. search needs)
+    (λ c κs. search needs) (λ c. search needs) (λ c. search needs)
     cast-autoresize
     add-autoresize
     (λ c κs. search needs)

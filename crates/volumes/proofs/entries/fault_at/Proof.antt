@@ -24,7 +24,6 @@ fault-at-spec =
     (tie.spec
     (λ c κs. search needs)
     returns
-    (λ c κs. search needs)
-    (λ c. search needs)
+    (λ c κs. search needs) (λ c. search needs)
     entry-faulty-requires
     returns-2)
