@@ -11,9 +11,9 @@
  * where none writes what another is lent. A call takes about 20 KiB of stack.
  *
  * Answers. Each function but the last answers a number: 0 for success, 1 to 19 for the refusals of the rules, from 256
- * on for answers of this library's own. Judged in this order: too few words lent for a struct, or bytes for a name (4,
- * and nothing changes); words that are not those of a struct (CHODULJIN_UNFIT, and nothing changes); then the call
- * itself.
+ * on for answers of this library's own. Judged in this order: too few words lent for a struct or a length, or bytes for
+ * a name (4, and nothing changes); words that are not those of a struct (CHODULJIN_UNFIT, and nothing changes); then
+ * the call itself.
  * What is lent beyond an answer never changes.
  *
  * Words. A struct is lent as 64-bit words, one for each field, in the order given here. Words that a call stored can be
@@ -62,7 +62,7 @@ enum {
 #define CHODULJIN_ON 256u    /* a step was carried out: call again */
 #define CHODULJIN_BAD 257u   /* an EC header is lost, a VID header or a record is bad */
 #define CHODULJIN_EMPTY 258u /* a record is empty: there is no volume of its number */
-#define CHODULJIN_UNFIT 259u /* no struct has these words: one is too large for its field, a yes-or-no word is above 1,
+#define CHODULJIN_UNFIT 259u /* no struct has these words: one is too large for its field, a report's READ_ONLY above 1,
                                 the number of a plan is not 0, or the place of a plan or report whose number is 0 */
 
 /* Attaching -----------------------------------------------------------------------------------------------------------
@@ -73,7 +73,8 @@ enum {
  *   map[3 * k]       volume, map[3 * k + 1] LEB, map[3 * k + 2] PEB of entry k, by volume and then by LEB;
  *                    words up to 3 times the PEB count that no entry needs are CHODULJIN_NO_WORD
  *   states[v]        state of volume v, below
- * report: at least CHODULJIN_REPORT_WORDS words, filled with the report, or its first two with the refusal.
+ * report: at least CHODULJIN_REPORT_WORDS words, filled with the report, or its first two with the refusal. Its
+ * fields have 32 bits, the highest sequence 64.
  *
  * Answer: 0, or the refusal's number, 1 to 12, as in report[0]. Refusals 1 to 4 leave the tables as they are; 5 to 12
  * fill 2 and 3 words for each PEB of the image, and all 128 states, with CHODULJIN_NO_WORD. 4 because report is too
@@ -141,8 +142,8 @@ uint32_t choduljin_listing(const uint64_t *report, size_t report_length, const u
 
 /* Geometry ------------------------------------------------------------------------------------------------------------
  * Of three numbers of bytes. Unit and sub-unit are powers of two, 1 to 4,096, and the sub-unit is not the larger; a PEB
- * is 1,024 to 262,144 bytes, a multiple of the unit, with at least 172 bytes behind both headers.
- * Answer: 0 (its words are stored); 2; 4 (geometry has fewer than 6 words). */
+ * is 1,024 to 262,144 bytes, a multiple of the unit, with at least 172 bytes from the data start on (the LEB size).
+ * Answer: 0 (its words are stored); 2; 4 (geometry has fewer than 6 words). Refused, it changes nothing. */
 enum {
     CHODULJIN_GEOMETRY_PEB_SIZE,
     CHODULJIN_GEOMETRY_UNIT,
@@ -171,7 +172,7 @@ enum {
 enum {
     CHODULJIN_VID_VERSION,   /* 8 bits; 1 */
     CHODULJIN_VID_VOL_TYPE,  /* 8 bits; 1 dynamic, 2 static */
-    CHODULJIN_VID_COPY_FLAG, /* 8 bits; 1 if the block was moved: then data size and data CRC are those of its data */
+    CHODULJIN_VID_COPY_FLAG, /* 8 bits; 1 if it was moved with data: data size and data CRC are those of the data */
     CHODULJIN_VID_COMPAT,    /* 8 bits; compatibility of an internal volume, 0 of a user's */
     CHODULJIN_VID_VOLUME,    /* 32 bits, as those up to the sequence */
     CHODULJIN_VID_LEB,
@@ -198,7 +199,8 @@ uint32_t choduljin_write_vid(const uint64_t *vid, size_t vid_length, uint32_t le
     uint8_t *out, size_t out_length);
 
 /* A record of the volume table, 172 bytes, judged by LEB size and unit. name: at least 128 bytes; the name is its first
- * words[CHODULJIN_RECORD_NAME_LENGTH] bytes, none of them 0, and a 0 follows them: it is a C string.
+ * words[CHODULJIN_RECORD_NAME_LENGTH] bytes, none of them 0, and a 0 follows them: it is a C string. All 128 bytes of
+ * the name field are stored.
  * Answer: 0 (good: words and name are stored); CHODULJIN_EMPTY; CHODULJIN_BAD; 4 (words, name or record is too short).
  * Only a good record changes words and name. */
 enum {
@@ -227,7 +229,8 @@ uint32_t choduljin_read_record(const uint8_t *record, size_t record_length, uint
  * A plan is good for one run on the image that it was begun on, as the calls before left it. After a cut, and after
  * anything else wrote the image, attach and begin anew: a stale plan is not noticed, and can destroy data.
  *
- * Words of a plan. They are for the next call; only the first two and the number of steps need be looked at. */
+ * Words of a plan, 32 bits but for those of its headers. They are for the next call; only the first two and the number
+ * of steps need be looked at. */
 enum {
     CHODULJIN_PLAN_NUMBER,    /* 0 if there is a plan, else the refusal's number */
     CHODULJIN_PLAN_PLACE,     /* 0, or the refusal's place */
@@ -257,17 +260,17 @@ uint32_t choduljin_begin(const uint8_t *slip, size_t slip_length, const uint8_t 
  * was left; nothing changes); 4 (plan is too short); 18; CHODULJIN_UNFIT. Refused, it changes nothing. */
 uint32_t choduljin_step(uint64_t *plan, size_t plan_length, uint8_t *image, size_t image_length);
 
-/* All steps that are left. Answer: 0 (done; plan[CHODULJIN_PLAN_STEPS] is the number of steps, and no other word
- * changes: a further call of this or of choduljin_step answers 0 and changes nothing); 4 (plan is too short); 18;
- * CHODULJIN_UNFIT. After these three the plan's words are as before. */
+/* All steps that are left. Answer: 0 (done; plan[CHODULJIN_PLAN_STEPS] is the number of steps of the move, or stays if
+ * it was higher, and no other word changes: a further call of this or of choduljin_step answers 0 and changes nothing);
+ * 4 (plan is too short); 18; CHODULJIN_UNFIT. Refused, it changes nothing. */
 uint32_t choduljin_finish(uint64_t *plan, size_t plan_length, uint8_t *image, size_t image_length);
 
 /* What the next step will write, told beforehand. Answer: 0 (the words are stored); 4 (plan or write is too short); 18;
  * CHODULJIN_UNFIT. Refused, it changes nothing. */
 enum {
     CHODULJIN_WRITE_KIND,  /* 0 nothing: no step is left; 1 bytes are stored; 2 a block is erased, to 0xFF */
-    CHODULJIN_WRITE_AT,    /* from which byte of the image on, */
-    CHODULJIN_WRITE_COUNT, /* and how many */
+    CHODULJIN_WRITE_AT,    /* from which byte of the image on, and how many; 0 for kind 0 */
+    CHODULJIN_WRITE_COUNT,
     CHODULJIN_WRITE_WORDS  /* 3 */
 };
 

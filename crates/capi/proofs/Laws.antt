@@ -79,8 +79,11 @@ module _ (p₀ p : Plan) (image₀ image lent : List ℕ) (f : toLast p image �
       (ap progressNumber z.0, (ap (λ x. over (doneWords x (toLast p₀ image₀ .plan)) lent) z.0, z.1))
 
 -- a further step of the plan that they leave, on the image that they leave, and a further run of all that are left,
--- answer the same and change nothing
+-- answer the same and change nothing: neither the image nor the plan's words
 pub finished-again : (p : Plan) (image : List ℕ)
     → let q = toLast p image .plan in let y = finishing moverJob p image .image in
-    (stepping moverJob q y ≡ finishing moverJob p image) × (finishing moverJob q y ≡ finishing moverJob p image)
-finished-again = finish-again moverJob mover-lawful
+    (stepping moverJob q y ≡ finishing moverJob p image) × ((finishing moverJob q y ≡ finishing moverJob p image)
+    × (finishedWords q y ≡ finishedWords p image))
+finished-again p image =
+    let r = finish-again moverJob mover-lawful p image in
+    (r.0, (r.1.0, λ j. doneWords (r .1 .0 j .answer) (r .1 .1 j)))

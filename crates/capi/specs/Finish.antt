@@ -9,12 +9,13 @@ use Rattle.mover_rules.specs.Step.{moverJob}
 use Rattle.mover_rules.specs.declared.Plan.{Plan}
 use Rattle.capi_words.specs.Structs.{planWords, answerWords}
 
--- the plan after all steps that are left, where they are done
+-- the words of plan q where a finish is done; else none, and the lent words stay. A finish never answers `on`
 abbrev pub doneWords : Answer (Progress Plan) → Plan → List ℕ
 doneWords (given done) q = answerWords planWords (given q)
 doneWords (given (on p)) q = []
 doneWords (refused k p) q = []
 
+-- those of the plan after all steps that are left, where they are done
 abbrev pub finishedWords : Plan → List ℕ → List ℕ
 finishedWords p image =
     doneWords (finishing moverJob p image .answer) (afterSteps moverJob p image (stepCount p - p.steps) .plan)

@@ -26,7 +26,7 @@ use mover_rules::Plan;
 use mover_rules::Stepped;
 use report::refusal::SHORT_BUFFER;
 
-// The plan of a move, or its refusal; the report is left in the lent tables.
+// The plan of a move, or its refusal; the lent tables are left as attaching leaves them.
 #[no_mangle]
 pub extern "C" fn choduljin_begin(
     slip: &[u8],

@@ -62,7 +62,7 @@ nextNumber (next.Erase at n) = 0
 nextNumber next.Nothing = 0
 nextNumber next.Refused = 18
 
--- ---- words that an answer leaves: none where it is not given
+-- ---- words that a call stores; where there are none, the lent words stay
 
 abbrev pub givenWords : {A : Type 0} → (A → List ℕ) → Answer A → List ℕ
 givenWords words (given a) = words a

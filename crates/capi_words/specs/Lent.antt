@@ -11,10 +11,11 @@ fits ws [] = true
 fits [] (m ∷ ms) = false
 fits (w ∷ ws) (m ∷ ms) = leb w m && fits ws ms
 
--- the same word by word, as contracts of inner functions ask for it: the words from the k-th on
+-- are the words from the k-th on, one by one, not above their limits?
 abbrev pub BelowFrom : ℕ → List ℕ → List ℕ → Type 0
 BelowFrom k ws [] = Unit {0}
 BelowFrom k ws (m ∷ ms) = (getD ws k 0 ≤ m) × BelowFrom (suc k) ws ms
 
+-- `fits`, word by word, as contracts of inner functions ask for it
 abbrev pub Within : List ℕ → List ℕ → Type 0
 Within ws most = (length most ≤ length ws) × BelowFrom 0 ws most

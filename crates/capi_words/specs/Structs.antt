@@ -156,7 +156,7 @@ attachedFits w = cond (eqb (getD w 0 0) 0) (fits w reportMost) (fits w refusalMo
 unfoldable pub attachedIn : List ℕ → Answer Report
 attachedIn w = cond (eqb (getD w 0 0) 0) (given (reportIn w)) (refused (getD w 0 0) (getD w 1 0))
 
--- ---- a struct whose fields are as large as their types allow, which each struct of the code is
+-- ---- a struct whose fields are no larger than their types allow, which each struct of the code is
 
 pub record GeometryFits (g : Geometry) : Type 0 where
   pub peb-size : g .«peb_size» ≤ most32

@@ -66,7 +66,7 @@ ecWritten h out = headerWritten (judgeEc h) out
 unfoldable pub ecOut : EcHeader → List ℕ → List ℕ
 ecOut h out = headerOut (judgeEc h) (ecBytes h) out
 
--- the fields are as large as their bytes allow (they are so by their types)
+-- the fields are no larger than their bytes allow (they are so by their types)
 pub record EcFits (h : EcHeader) : Type 0 where
   pub version : h .version < 256 ^ 1
   pub counter : h .counter < 256 ^ 8

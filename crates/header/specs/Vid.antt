@@ -126,7 +126,7 @@ vidWritten size h out = headerWritten (judgeVid size h) out
 unfoldable pub vidOut : ℕ → VidHeader → List ℕ → List ℕ
 vidOut size h out = headerOut (judgeVid size h) (vidBytes h) out
 
--- the fields are as large as their bytes allow (they are so by their types)
+-- the fields are no larger than their bytes allow (they are so by their types)
 pub record VidFits (h : VidHeader) : Type 0 where
   pub version : h .version < 256 ^ 1
   pub vol-type : h .«vol_type» < 256 ^ 1

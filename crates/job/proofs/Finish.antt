@@ -182,13 +182,17 @@ module _ {P : Type 0} (J : Job P) (L : Lawful J) where
       finish-next x.plan x.image (next-step x.plan x.image) ∙ finish-after p image k
 
   -- a further step of the plan that it leaves, on the image that it leaves, and a further run of all that are left,
-  -- answer the same and change nothing
+  -- answer the same and change neither image nor plan
   pub finish-again : (p : P) (image : List ℕ)
       → let q = afterSteps J p image (J.count p image - J.ran p) .plan in let y = finishing J p image .image in
-      (stepping J q y ≡ finishing J p image) × (finishing J q y ≡ finishing J p image)
+      (stepping J q y ≡ finishing J p image) × ((finishing J q y ≡ finishing J p image)
+      × (afterSteps J q y (J.count q y - J.ran q) .plan ≡ q))
   unfolding finishing nextStep
   finish-again p image =
       let k : ℕ = J.count p image - J.ran p in
       let q : P = afterSteps J p image k .plan in
-      let s = all-ended (suc k) p image k (omega arith) (omega arith) .stands in
-      (ap (stepping J q) s, ap (finishing J q) s ∙ finish-after p image k)
+      let y : List ℕ = finishing J p image .image in
+      let x = all-ended (suc k) p image k (omega arith) (omega arith) in
+      let e = ap (stepping J q) x.stands in
+      let l = left-last q y (sym (ap (λ (s : Stepping P). s.answer) e)) refl x.over in
+      (e, (ap (finishing J q) x.stands ∙ finish-after p image k, ap (λ z. z.plan) l))
