@@ -2,11 +2,13 @@
 use mathlib.Core.Path.{_≡_, refl, sym, ap, _∙_}
 use mathlib.Core.Logic.{inl, inr}
 use mathlib.Core.List.{List}
-use Prim.Native.Nat.{ℕ, _-_}
+use mathlib.Core.Bool.{true}
+use Prim.Native.Nat.{ℕ, _+_, _-_}
+use lib.ListN.{getD, set}
 use Rattle.base.specs.Answers.{Answer, given, refused}
 use Rattle.job.specs.Job.{done, stepping}
 use Rattle.job.specs.Course.{Left, afterSteps, nextStep, finishing}
-use Rattle.job.proofs.Finish.{left-last, finish-last, finish-again}
+use Rattle.job.proofs.Finish.{left-last, finish-last, finish-again, finish-done}
 use Rattle.mover_rules.specs.Write.{stepCount}
 use Rattle.mover_rules.specs.Step.{moverJob}
 use Rattle.mover_rules.specs.declared.Plan.{Plan}
@@ -14,7 +16,9 @@ use Rattle.mover_rules.proofs.Steps.{mover-lawful}
 use Rattle.volume_record.specs.Record.{RecordVerdict}
 use Rattle.volume_record.specs.declared.VolumeRecord.{VolumeRecord}
 use Rattle.report.specs.Attach.{over}
-use Rattle.capi_words.specs.Structs.{recordWords, planWords, answerWords}
+use Rattle.capi_words.specs.Lent.{fits}
+use Rattle.capi_words.specs.Structs.{recordWords, planWords, answerWords, planMost, planIn}
+use Rattle.capi_words.proofs.Back.{nexts-words}
 use Rattle.capi_answers.specs.Calls.{recordNumber, progressNumber, ifGood}
 use Rattle.capi.specs.Finish.{doneWords, finishedWords}
 
@@ -77,6 +81,17 @@ module _ (p₀ p : Plan) (image₀ image lent : List ℕ) (f : toLast p image �
   last-refused e =
       let z = finish-last moverJob mover-lawful p image e i (inr refl) same-finish in
       (ap progressNumber z.0, (ap (λ x. over (doneWords x (toLast p₀ image₀ .plan)) lent) z.0, z.1))
+
+-- where they are done, the word of the plan's steps is the number of steps of the move, or stays if it was higher, and
+-- no other word changes
+pub finished-words : (ws image : List ℕ) → fits ws planMost ≡ true
+    → finishing moverJob (planIn ws) image .answer ≡ given done
+    → over (finishedWords (planIn ws) image) ws
+    ≡ set ws 23 (getD ws 23 0 + (stepCount (planIn ws) - getD ws 23 0))
+unfolding planIn
+finished-words ws image f d =
+    let q = finish-done moverJob mover-lawful (planIn ws) image d in
+    (λ j. over (doneWords (d j) (q j)) ws) ∙ nexts-words ws (stepCount (planIn ws) - getD ws 23 0) f
 
 -- a further step of the plan that they leave, on the image that they leave, and a further run of all that are left,
 -- answer the same and change nothing: neither the image nor the plan's words

@@ -18,7 +18,8 @@ use Rattle.header.specs.declared.EcHeader.{EcHeader}
 use Rattle.header.specs.declared.VidHeader.{VidHeader}
 use Rattle.report.specs.Attach.{over}
 use Rattle.report.specs.declared.Report.{Report}
-use Rattle.mover_rules.specs.Step.{oneOn}
+use Rattle.job.proofs.Runs.{nexts}
+use Rattle.mover_rules.specs.Step.{oneOn, moverJob}
 use Rattle.mover_rules.specs.declared.Plan.{Plan}
 use Rattle.capi_words.specs.Lent.{fits}
 use Rattle.capi_words.specs.Structs.{ecWords, vidWords, reportWords, planWords, answerWords}
@@ -64,7 +65,7 @@ pub refusal-back : (k p : ℕ) (t : List ℕ) → (k ≡ 0 → ⊥) → k ≤ mo
 unfolding attachedFits attachedIn
 refusal-back k p t n h l = (rw (ne-eqb k 0 n) (within-fits (k ∷ p ∷ t) refusalMost (omega arith)), rw (ne-eqb k 0 n))
 
--- ---- a plan's words with one step more run: the last is one higher, and no other changes
+-- ---- a plan's words with steps more run: the last is as many higher, and no other changes
 
 front : (n k : ℕ) (ws : List ℕ) → k + n ≤ length ws → drop k ws ≡ table (λ (i : ℕ). getD ws i 0) k n ++ drop (k + n) ws
 front zero k ws h = rw add-zero
@@ -72,14 +73,37 @@ front (suc n) k ws h =
     rw (drop-cons ws k 0 (omega arith))
     (ap (λ (l : List ℕ). getD ws k 0 ∷ l) (rw (add-suc, ← suc-add) (front n (suc k) ws (omega arith))))
 
-pub one-on-words : (ws : List ℕ) → fits ws planMost ≡ true
-    → over (answerWords planWords (given (oneOn (planIn ws)))) ws ≡ set ws 23 (getD ws 23 0 + 1)
-unfolding planWords planIn oneOn
-one-on-words ws e =
+-- so many steps run
+abbrev withSteps : Plan → ℕ → Plan
+withSteps p n = record {
+  «peb_size» = p.«peb_size»;
+  unit = p.unit;
+  «sub_unit» = p.«sub_unit»;
+  old = p.old;
+  target = p.target;
+  vid = p.vid;
+  ec = p.ec;
+  steps = n;
+}
+
+nexts-is : (p : Plan) (k : ℕ) → nexts moverJob p k ≡ withSteps p (p.steps + k)
+unfolding oneOn
+nexts-is p zero = rw add-zero
+nexts-is p (suc k) = rw (nexts-is p k) (ap (withSteps p) (omega arith))
+
+steps-words : (ws : List ℕ) (n : ℕ) → fits ws planMost ≡ true
+    → over (answerWords planWords (given (withSteps (planIn ws) n))) ws ≡ set ws 23 n
+unfolding planWords planIn
+steps-words ws n e =
     let w = within ws planMost e in
     let a : getD ws 0 0 ≡ 0 = omega arith in
     let b : getD ws 1 0 ≡ 0 = omega arith in
     subst
-    (λ (l : List ℕ). over (answerWords planWords (given (oneOn (planIn l)))) l ≡ set l 23 (getD l 23 0 + 1))
+    (λ (l : List ℕ). over (answerWords planWords (given (withSteps (planIn l) n))) l ≡ set l 23 n)
     (sym (front 24 0 ws (omega arith)))
     (rw (a, b))
+
+pub nexts-words : (ws : List ℕ) (k : ℕ) → fits ws planMost ≡ true
+    → over (answerWords planWords (given (nexts moverJob (planIn ws) k))) ws ≡ set ws 23 (getD ws 23 0 + k)
+unfolding planIn planWords
+nexts-words ws k e = rw (nexts-is (planIn ws) k) (steps-words ws (getD ws 23 0 + k) e)

@@ -13,11 +13,14 @@ use Rattle.job.specs.Write.{appliedWhole}
 use Rattle.job.specs.Job.{Job, Progress, on, done, stepWrite, stepAnswer, Stepping, stepping}
 use Rattle.job.specs.Course.{toEnd, planLeft, nextStep, oneStep, afterSteps, finishing, imageLeft}
 use Rattle.job.proofs.Writes.{whole-length}
-use Rattle.job.proofs.Runs.{Lawful}
+use Rattle.job.proofs.Runs.{Lawful, nexts}
 
 module _ {P : Type 0} (J : Job P) (L : Lawful J) where
   abbrev Over : Answer (Progress P) → Type 0
   Over a = (a ≡ given done) ⊎ (a ≡ refused 18 0)
+
+  refused-done : {A : Type 0} → _≡_ {A = Answer (Progress P)} (refused 18 0) (given done) → A
+  refused-done e = absurd (let z : _≡_ {A = ℕ} 0 1 = cc in omega arith)
 
   module _ (p : P) (image : List ℕ) where
     abbrev next : List ℕ
@@ -26,10 +29,11 @@ module _ {P : Type 0} (J : Job P) (L : Lawful J) where
     abbrev left : ℕ
     left = J.count p image - J.ran p
 
-    -- a step goes on, and one less is left; or it is done or refused, and changes nothing
+    -- a step goes on, and one less is left; or it is done, which it is if none is left, or refused, and changes nothing
     data Next : Type 0 where
-      goes : (q : P) → stepping J p image .answer ≡ given (on q) → left ≡ suc (J.count q next - J.ran q) → Next
-      ends : Over (stepping J p image .answer) → next ≡ image → Next
+      goes : stepping J p image .answer ≡ given (on (J.next p)) → left ≡ suc (J.count (J.next p) next - J.ran (J.next p))
+          → Next
+      ends : Over (stepping J p image .answer) → next ≡ image → (stepping J p image .answer ≡ given done → left ≡ 0) → Next
 
     next-step : Next
     unfolding stepping stepAnswer stepWrite
@@ -44,10 +48,11 @@ module _ {P : Type 0} (J : Job P) (L : Lawful J) where
             let e = L.same-count p y ∙ L .by-length p y image l .1 in
             let c = L.counts p in
             let b = ltb-true (J.ran p) (J.count p image) h in
-            goes (J.next p) (rw (m, h)) (rw m (omega arith))
-        go true m false h = ends (inl (rw (m, h)))
-            (rw (m, L.late p image (J.ran p) (ltb-false (J.ran p) (J.count p image) h)))
-        go false m b h = ends (inr (rw m)) (rw m)
+            goes (rw (m, h)) (rw m (omega arith))
+        go true m false h =
+            let b = ltb-false (J.ran p) (J.count p image) h in
+            ends (inl (rw (m, h))) (rw (m, L.late p image (J.ran p) b)) (λ _. omega arith)
+        go false m b h = ends (inr (rw m)) (rw m) (λ e. refused-done (rw m at e))
 
   over-not-on : {A : Type 0} {q : P} {a : Answer (Progress P)} → Over a → given (on q) ≡ a → A
   over-not-on (inl d) e = absurd (let z : _≡_ {A = ℕ} 0 1 = cc in omega arith)
@@ -85,11 +90,11 @@ module _ {P : Type 0} (J : Job P) (L : Lawful J) where
     one-less = go (next-step p image)
       where
         go : Next p image → J.count p image - J.ran p ≡ suc (J.count q y - J.ran q)
-        go (goes q′ a l) = let z : q′ ≡ q = same (sym a ∙ sym e) in rw i (rw z at l)
+        go (goes a l) = let z : J .next p ≡ q = same (sym a ∙ sym e) in rw i (rw z at l)
           where
             same : {a b : P} → _≡_ {A = Answer (Progress P)} (given (on a)) (given (on b)) → a ≡ b
             same e = cc
-        go (ends o s) = over-not-on o e
+        go (ends o s z) = over-not-on o e
 
     pub fewer : J .count q y - J.ran q < J.count p image - J.ran p
     fewer = let l = one-less in omega arith
@@ -108,8 +113,8 @@ module _ {P : Type 0} (J : Job P) (L : Lawful J) where
     left-last o = go (next-step p image)
       where
         go : Next p image → afterSteps J p image (J.count p image - J.ran p) ≡ record { plan = p; image = image }
-        go (goes q b l) = over-not-on o (sym b ∙ sym e)
-        go (ends b t) = none-more p image b t (J.count p image - J.ran p)
+        go (goes b l) = over-not-on o (sym b ∙ sym e)
+        go (ends b t z) = none-more p image b t (J.count p image - J.ran p)
 
     pub finish-last : {s : Stepping P} → Over a → finishing J p image ≡ s → (a ≡ s.answer) × (y ≡ s.image)
     unfolding finishing nextStep
@@ -129,8 +134,9 @@ module _ {P : Type 0} (J : Job P) (L : Lawful J) where
       → ((q : P) (j : ℕ) → k ≡ suc j → J.count p image - J.ran p ≡ suc (J.count q (stepping J p image .image) - J.ran q)
       → Ended q (stepping J p image .image) j) → Ended p image k
   unfolding finishing nextStep
-  by-next p image zero h (goes q e l) more = absurd (omega arith)
-  by-next p image (suc k) h (goes q e l) more =
+  by-next p image zero h (goes e l) more = absurd (omega arith)
+  by-next p image (suc k) h (goes e l) more =
+      let q : P = J.next p in
       let y : List ℕ = stepping J p image .image in
       let f = finish-on p q image {y = y} (sym e) refl in
       let z = goes-first p q image e in
@@ -140,7 +146,7 @@ module _ {P : Type 0} (J : Job P) (L : Lawful J) where
         stands = rw (← f, z k) r.stands;
         over = rw (← f) r.over;
       }
-  by-next p image k h (ends o i) more =
+  by-next p image k h (ends o i z) more =
       let z = none-more p image o i in
       let f = z (J.count p image - J.ran p) in
       record { same = z k ∙ sym f; stands = rw (f, z k) i; over = rw f o }
@@ -170,8 +176,8 @@ module _ {P : Type 0} (J : Job P) (L : Lawful J) where
   -- and it is the same after any number of steps
   finish-next : (p : P) (image : List ℕ) → Next p image
       → finishing J (planLeft J p (stepping J p image .answer)) (stepping J p image .image) ≡ finishing J p image
-  finish-next p image (goes q e l) = rw e (finish-on p q image (sym e) refl)
-  finish-next p image (ends o i) = rw i (ap (λ (q : P). finishing J q image) (plan-stays p o))
+  finish-next p image (goes e l) = rw e (finish-on p (J.next p) image (sym e) refl)
+  finish-next p image (ends o i z) = rw i (ap (λ (q : P). finishing J q image) (plan-stays p o))
 
   pub finish-after : (p : P) (image : List ℕ) (k : ℕ)
       → finishing J (afterSteps J p image k .plan) (afterSteps J p image k .image) ≡ finishing J p image
@@ -196,3 +202,28 @@ module _ {P : Type 0} (J : Job P) (L : Lawful J) where
       let e = ap (stepping J q) x.stands in
       let l = left-last q y (sym (ap (λ (s : Stepping P). s.answer) e)) refl x.over in
       (e, (ap (finishing J q) x.stands ∙ finish-after p image k, ap (λ z. z.plan) l))
+
+  -- the plan that it leaves where it is done: with as many steps more run as were left
+  next-first : (p : P) (k : ℕ) → nexts J (J.next p) k ≡ nexts J p (suc k)
+  next-first p zero = refl
+  next-first p (suc k) = ap J.next (next-first p k)
+
+  plan-done : (n : ℕ) (p : P) (image : List ℕ) → J.count p image - J.ran p < n → finishing J p image .answer ≡ given done
+      → Next p image → afterSteps J p image (J.count p image - J.ran p) .plan ≡ nexts J p (J.count p image - J.ran p)
+  unfolding finishing nextStep
+  plan-done zero p image h d x = absurd (omega arith)
+  plan-done (suc n) p image h d (goes e l) =
+      let q : P = J.next p in
+      let y : List ℕ = stepping J p image .image in
+      let k : ℕ = J.count q y - J.ran q in
+      let r = plan-done n q y (omega arith) (ap (λ (s : Stepping P). s.answer) (finish-on p q image (sym e) refl) ∙ d)
+      (next-step q y) in
+      rw l (ap (λ z. z.plan) (goes-first p q image e k) ∙ (r ∙ next-first p k))
+  plan-done (suc n) p image h d (ends o i z) =
+      let m = none-more p image o i (J.count p image - J.ran p) in
+      let a : stepping J p image .answer ≡ given done = rw m at d in
+      ap (λ x. x.plan) m ∙ rw (z a)
+
+  pub finish-done : (p : P) (image : List ℕ) → finishing J p image .answer ≡ given done
+      → afterSteps J p image (J.count p image - J.ran p) .plan ≡ nexts J p (J.count p image - J.ran p)
+  finish-done p image d = plan-done (suc (J.count p image - J.ran p)) p image (omega arith) d (next-step p image)
