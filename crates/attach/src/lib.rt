@@ -34,12 +34,12 @@ fn attach_chosen(
 {
     let copy0 = layout::layout_content(image, g, n, pebs, map, 0);
     let copy1 = layout::layout_content(image, g, n, pebs, map, 1);
-    let choice = volume_table::choose_table(copy0, copy1, g.leb_size, g.unit, n as u32);
+    let choice = table_choice::choose_table(copy0, copy1, g.leb_size, g.unit, n as u32);
     let taken = choice.taken;
     let Taken::Leb(lnum) = taken else {
         return summary::refuse(refusal::NO_TABLE, 0, n, pebs, map, states);
     };
-    let table = volume_table::taken_table(copy0, copy1, taken, g.leb_size);
+    let table = table_choice::taken_table(copy0, copy1, taken, g.leb_size);
     summary::report_on(
         image,
         g,

@@ -213,3 +213,15 @@ module _ {A : Type 0} where
   every-entry p d z [] t k = z
   every-entry p d z (x ∷ xs) t zero = and-left (p x) (every p xs) t
   every-entry p d z (x ∷ xs) t (suc k) = every-entry p d z xs (and-right (p x) (every p xs) t) k
+
+-- ---- words behind a place, where the lists behind an earlier one are equal
+
+pub behind : (a b : ℕ) (l m : List ℕ) → a ≤ b → drop a l ≡ drop a m → drop b l ≡ drop b m
+behind a b l m h e =
+    let q : b ≡ a + (b - a) = omega arith in
+    rw (q, ← (drop-drop (b - a) a l), ← (drop-drop (b - a) a m), e)
+
+pub word-behind : (a j : ℕ) (l m : List ℕ) → a ≤ j → drop a l ≡ drop a m → getD l j 0 ≡ getD m j 0
+word-behind a j l m h e =
+    let q : j ≡ a + (j - a) = omega arith in
+    rw (q, ← (getD-drop a l (j - a) 0), ← (getD-drop a m (j - a) 0), e)

@@ -8,7 +8,7 @@ ghost use Rattle.job.specs.Job.{stepping};
 ghost use Rattle.job.specs.Course.{finishing};
 ghost use Rattle.mover_rules.specs.Begin.{beginning};
 ghost use Rattle.mover_rules.specs.Step.{moverJob};
-ghost use Rattle.mover_steps.specs.Upcoming.{nextWrite};
+ghost use Rattle.mover_next.specs.Upcoming.{nextWrite};
 ghost use Rattle.capi_words.specs.Lent.{fits};
 ghost use Rattle.capi_words.specs.Structs.{planWords, answerWords, planMost, planIn};
 ghost use Rattle.capi_answers.specs.Calls.{short, judged, changed, numberOf, progressNumber, progressWords};
@@ -150,6 +150,6 @@ pub extern "C" fn choduljin_next_write(plan: &[u64], image: &[u8], write: &mut [
         return UNFIT;
     }
     let p = capi_words::plan_in(plan);
-    let w = mover_steps::next_write(p, image);
+    let w = mover_next::next_write(p, image);
     store_next(w, write)
 }

@@ -10,8 +10,8 @@ use Rattle.volume_record.specs.Record as records
 use Rattle.volume_record.specs.Record.{RecordVerdict}
 use Rattle.job.specs.Job.{Progress, on, done}
 use Rattle.mover_rules.specs.declared.Plan.{Plan}
-use Rattle.mover_steps.specs.declared.NextWrite.{NextWrite}
-use Rattle.mover_steps.specs.declared.NextWrite.the-variants as next
+use Rattle.mover_next.specs.declared.NextWrite.{NextWrite}
+use Rattle.mover_next.specs.declared.NextWrite.the-variants as next
 use Rattle.capi_words.specs.Structs.{planWords, answerWords}
 
 -- ---- the order of judging: words that are too few, refusal 4; words that do not fit; then the call itself

@@ -31,9 +31,9 @@ use Rattle.report.proofs.Choice.{chosen-at}
 use Rattle.report.proofs.Map.{concat-cong}
 use Rattle.report.proofs.Words.{entry-words-length}
 use Rattle.mapping.specs.Settle.{settledClass, settledKey, classFrom, pebRow, mapRow, Settled, Marked, Mapped}
-use Rattle.mapping.specs.Slots.{firstSlots, slotOf, rowSlot, slotWord, Slots, inSlot, allEntries, Collected}
-use Rattle.mapping.proofs.Laws.{reserved-fit}
-use Rattle.mapping.proofs.SlotLaws.{HasSlot, slot-within, slot-apart, none-there, one-there, entries-from}
+use Rattle.map_slots.specs.Slots.{firstSlots, slotOf, rowSlot, slotWord, Slots, inSlot, allEntries, Collected}
+use Rattle.map_slots.proofs.Reserved.{reserved-fit}
+use Rattle.map_slots.proofs.SlotLaws.{HasSlot, slot-within, slot-apart, none-there, one-there, entries-from}
 
 -- ---- classes
 

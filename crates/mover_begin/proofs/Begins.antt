@@ -29,9 +29,10 @@ use Rattle.mover_rules.specs.Begin.{isIn, refusal13, mapped, refusal15, refusal
 use Rattle.mover_rules.specs.declared.Plan.{Plan}
 use Rattle.mover_rules.proofs.Bounds.{copy-rules}
 use Rattle.job.proofs.Blocks.{peb-length}
-use Rattle.mover_checks.specs.Reported.{Fits, isDamaged, isNoTarget, examined, renewedAs, ecWith}
-use Rattle.mover_checks.specs.declared.Examined.{Examined}
-use Rattle.mover_checks.proofs.Data.{renewed}
+use Rattle.mover_checks.specs.Reported.{isNoTarget, ecWith}
+use Rattle.mover_copy.specs.Examined.{Fits, isDamaged, examined, renewedAs}
+use Rattle.mover_copy.specs.declared.Examined.{Examined}
+use Rattle.mover_copy.proofs.Data.{renewed}
 use Rattle.mover_begin.specs.Begins.{mediumIn, Told, Moved, planWith}
 
 -- ---- the copy that is moved

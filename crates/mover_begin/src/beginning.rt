@@ -8,11 +8,12 @@ ghost use Rattle.report.specs.Attach.{request, attachingInto, lent, longEnough,
 ghost use Rattle.mover_rules.specs.Begin.{planFor, planOf, beginning, begunAnswer};
 ghost use Rattle.mover_rules.specs.declared.Begun.the-variants.{Planned};
 ghost use Rattle.copies.specs.InPlace.{copyAt};
-ghost use Rattle.mover_checks.specs.Reported.{renewedAs, ecWith};
+ghost use Rattle.mover_checks.specs.Reported.{ecWith};
+ghost use Rattle.mover_copy.specs.Examined.{renewedAs};
 ghost use Rattle.mover_begin.specs.Begins.{mediumIn, Told, Begins, Moved, planWith};
 use header::VidHeader;
 use lookup::LebPlace;
-use mover_checks::Examined;
+use mover_copy::Examined;
 use mover_rules::Begun;
 use mover_rules::Plan;
 use report::Attached;
@@ -42,7 +43,7 @@ fn make_plan(
         (ecWith (report .geometry) counter (report .«image_seq»))) ⌝ }
 {
     let g = report.geometry;
-    let vid = mover_checks::new_vid(h, found, report.highest);
+    let vid = mover_copy::new_vid(h, found, report.highest);
     let ec = mover_checks::new_ec(g, counter, report.image_seq);
     Begun::Planned(Plan {
         peb_size: g.peb_size,
@@ -79,7 +80,7 @@ fn plan_copy(
         (some (old, copyOf (report .geometry) (now (p .entry)) h)) ⌝ }
 {
     let g = report.geometry;
-    let found = mover_checks::examine(p, g, h);
+    let found = mover_copy::examine(p, g, h);
     if found.damaged {
         return refuse(refusal::DAMAGED_COPY);
     }

@@ -37,7 +37,7 @@ use Rattle.report.specs.Report.{classOf, classAt, counterAt, isInternal, meanOf
 use Rattle.words.specs.Words.{noWord}
 use Rattle.mover_rules.specs.Headers.{dataEnd, oldCounter}
 use Rattle.mover_checks.specs.Reported.{Reported, isNoTarget}
-use Rattle.mover_checks.proofs.Data.{clean-end}
+use Rattle.mover_copy.proofs.Data.{clean-end}
 
 -- ---- the class word
 

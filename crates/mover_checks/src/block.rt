@@ -8,12 +8,12 @@ ghost use Rattle.report.specs.View.{viewOf, viewsOf, mediumOf, goodVid, copies}
 ghost use Rattle.report.specs.Report.{isInternal, meanOf};
 ghost use Rattle.mover_rules.specs.Headers.{oldCounter};
 ghost use Rattle.mover_checks.specs.Reported.{Reported, isNoTarget, ecWith};
-use crate::copy::data_end;
 use geometry::Geometry;
 use header::COMPAT_DELETE;
 use header::EcHeader;
+use mover_copy::data_end;
+use peb_scan::VidSeen;
 use report::class;
-use scan::VidSeen;
 use words::NO_WORD;
 
 // Is the PEB with the bytes p a block of an internal volume that is to be deleted?
@@ -21,9 +21,9 @@ fn is_to_delete(p: &[u8], g: Geometry) -> bool
     requires { ⌜ (Placed g) × (length (now p) ≡ g .«peb_size») ⌝ }
     ensures { λ r. ⌜ r ≡ isInternal 1 (goodVid (viewOf g (now (p .entry)) .vid)) ⌝ }
 {
-    let v = scan::see_vid(p, g);
+    let v = peb_scan::see_vid(p, g);
     match v {
-        VidSeen::Good(h) => return scan::is_internal(h, COMPAT_DELETE),
+        VidSeen::Good(h) => return peb_scan::is_internal(h, COMPAT_DELETE),
         VidSeen::Newer => return false,
         VidSeen::Blank => return false,
         VidSeen::Bad => return false,

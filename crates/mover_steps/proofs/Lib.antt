@@ -2,4 +2,3 @@
 pub mod Rules
 pub mod Units
 pub mod Whole
-pub mod Upcoming

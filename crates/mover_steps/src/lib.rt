@@ -1,17 +1,10 @@
-// The steps of a move on the lent image, one by one or all that are left; and what the next one will write.
-mod next;
+// The steps of a move on the lent image, one by one or all that are left.
 mod step_finish;
 mod steps;
 
-pub use next::next_write;
 pub use step_finish::finish;
+pub use steps::data_steps;
+pub use steps::may_run;
+pub use steps::peb_start;
 pub use steps::step;
-
-// The write of a plan's next step: from which byte of the image on, and how many; nothing when all steps are done;
-// refusal 18.
-pub enum NextWrite {
-    Store { at: usize, length: usize },
-    Erase { at: usize, length: usize },
-    Nothing,
-    Refused,
-}
+pub use steps::unit_length;

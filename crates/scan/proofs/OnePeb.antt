@@ -23,13 +23,15 @@ use Rattle.report.specs.Scan.{when, differs, ecRefusal, vidRefusal, viewRefusal
 use Rattle.report.specs.Report.{counterOr}
 use Rattle.report.specs.Volumes.{orZero}
 use Rattle.report.specs.Scratch.{keyWords}
-use Rattle.scan.specs.Seen.{ecSeen, vidSeen}
-use Rattle.scan.specs.Pass.{seqIn, withEc, withVid, smallCounter, PebPassed}
+use Rattle.peb_scan.specs.Seen.{ecSeen, vidSeen}
+use Rattle.peb_scan.specs.Seen.{smallCounter}
+use Rattle.scan.specs.Totals.{seqIn, withEc, withVid}
+use Rattle.scan.specs.Pass.{PebPassed}
 use Rattle.scan.specs.declared.EcTotals.{EcTotals}
 use Rattle.scan.specs.declared.VidTotals.{VidTotals}
 use Rattle.scan.specs.declared.ScanTotals.{ScanTotals}
-use Rattle.scan.specs.declared.EcSeen.{EcSeen}
-use Rattle.scan.specs.declared.VidSeen.{VidSeen}
+use Rattle.peb_scan.specs.declared.EcSeen.{EcSeen}
+use Rattle.peb_scan.specs.declared.VidSeen.{VidSeen}
 
 -- ---- a good counter is small
 

@@ -24,7 +24,9 @@ use Rattle.report.specs.Report.{counterOr, hasCounter, highestOf, readOnlyOf}
 use Rattle.report.specs.Volumes.{orZero}
 use Rattle.report.specs.Scratch.{keyWords, keysOf}
 use Rattle.report.proofs.Words.{key-length}
-use Rattle.scan.specs.Pass.{seqIn, withEc, withVid, smallCounter, TotalsOf, firstRow, firstWords, PebPassed, refusedAt, Passed}
+use Rattle.peb_scan.specs.Seen.{smallCounter}
+use Rattle.scan.specs.Totals.{seqIn, withEc, withVid}
+use Rattle.scan.specs.Pass.{TotalsOf, firstRow, firstWords, PebPassed, refusedAt, Passed}
 use Rattle.scan.specs.declared.EcTotals.{EcTotals}
 use Rattle.scan.specs.declared.ScanTotals.{ScanTotals}
 use Rattle.scan.specs.declared.PebPass.{PebPass}

@@ -18,48 +18,10 @@ use Rattle.report.specs.Scan.{Refusal, imageSeq, viewRefusal, refusal5678}
 use Rattle.report.specs.Volumes.{orZero}
 use Rattle.report.specs.Report.{counterOr, hasCounter, isInternal, sequenceOr0, highestOf, readOnlyOf}
 use Rattle.report.specs.Scratch.{keyWords, keysOf}
-use Rattle.scan.specs.declared.EcTotals.{EcTotals}
-use Rattle.scan.specs.declared.VidTotals.{VidTotals}
+use Rattle.scan.specs.Totals.{seqIn, withEc, withVid, SmallTotals}
 use Rattle.scan.specs.declared.ScanTotals.{ScanTotals}
 use Rattle.scan.specs.declared.PebPass.{PebPass}
 use Rattle.scan.specs.declared.ImagePass.{ImagePass}
-
--- the image sequence compared with, if there is one yet
-abbrev pub seqIn : EcTotals → Option ℕ
-seqIn s = cond s.«has_seq» (some s.«image_seq») none
-
--- the totals with an EC header more
-abbrev pub withEc : EcTotals → EcView → EcTotals
-withEc s (ecGood h) = record {
-  «has_seq» = true;
-  «image_seq» = cond s.«has_seq» s.«image_seq» h.«image_seq»;
-  counters = s.counters + h.counter;
-  good = s.good + 1;
-}
-withEc s ecNewer = s
-withEc s ecBlank = s
-withEc s ecLost = s
-
--- the totals with a PEB more: whether it is free or blank, its sequence (0 if none), whether it asks for read-only
-abbrev pub withSequence : VidTotals → Bool → ℕ → Bool → VidTotals
-withSequence s idle sequence asks = record {
-  highest = max s.highest sequence;
-  «read_only» = s.«read_only» || asks;
-  unused = s.unused && idle;
-}
-
--- the totals with a VID header more
-abbrev pub withVid : VidTotals → Bool → VidView → VidTotals
-withVid s idle v = withSequence s idle (sequenceOr0 (goodVid v)) (isInternal 2 (goodVid v))
-
--- a good counter is at most 0x7FFFFFFF
-abbrev pub smallCounter : EcView → Type 0
-smallCounter v = counterOr 0 (goodEc v) ≤ 0x7FFFFFFF
-
--- one header more is within a word
-pub record SmallTotals (s : EcTotals) : Type 0 where
-  pub counters-small : s .counters ≤ mostPebs * 0x7FFFFFFF
-  pub good-few : s .good ≤ mostPebs
 
 -- the totals of the first n PEBs
 pub record TotalsOf (n : ℕ) (vs : Views) (s : ScanTotals) : Type 0 where

@@ -1,31 +1,8 @@
 // One pass over an image's headers: what each PEB, judged alone, says; refusals 5 to 8; the totals of the report.
-mod first_words;
-mod peb;
 mod run;
 mod totals;
 
-use header::EcHeader;
-use header::VidHeader;
-pub use peb::see_ec;
-pub use peb::see_vid;
 pub use run::pass;
-pub use totals::is_internal;
-
-// What an EC header is.
-pub enum EcSeen {
-    Good(EcHeader),
-    Newer,
-    Blank,
-    Lost,
-}
-
-// What a VID header is.
-pub enum VidSeen {
-    Good(VidHeader),
-    Newer,
-    Blank,
-    Bad,
-}
 
 // What the EC headers passed so far add up to.
 pub struct EcTotals {

@@ -6,17 +6,17 @@ use crate::ImagePass;
 use crate::PebPass;
 use crate::ScanTotals;
 use crate::VidTotals;
-use crate::first_words::first_class;
-use crate::first_words::first_counter;
-use crate::first_words::is_idle;
-use crate::first_words::store_key;
-use crate::peb::see_ec;
-use crate::peb::see_vid;
 use crate::totals::ec_refusal;
 use crate::totals::vid_refusal;
 use crate::totals::with_ec;
 use crate::totals::with_vid;
 use geometry::Geometry;
+use peb_scan::first_class;
+use peb_scan::first_counter;
+use peb_scan::is_idle;
+use peb_scan::see_ec;
+use peb_scan::see_vid;
+use peb_scan::store_key;
 use words::store_peb;
 
 // PEB i, with the bytes p: its refusal, or the totals with it and its words.

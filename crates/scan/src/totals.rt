@@ -8,36 +8,20 @@ ghost use Rattle.geometry.specs.declared.Geometry.{Geometry};
 ghost use Rattle.report.specs.View.{isMappable, ecGood};
 ghost use Rattle.report.specs.Scan.{when, differs, ecRefusal, vidRefusal};
 ghost use Rattle.report.specs.Volumes.{orZero};
-ghost use Rattle.scan.specs.Seen.{ecSeen, vidSeen};
-ghost use Rattle.scan.specs.Pass.{seqIn, withEc, withVid, withSequence, smallCounter, SmallTotals};
-use crate::EcSeen;
+ghost use Rattle.peb_scan.specs.Seen.{ecSeen, vidSeen, smallCounter};
+ghost use Rattle.scan.specs.Totals.{seqIn, withEc, withVid, withSequence, SmallTotals};
 use crate::EcTotals;
-use crate::VidSeen;
 use crate::VidTotals;
 use geometry::Geometry;
 use header::COMPAT_READ_ONLY;
 use header::COMPAT_REJECT;
 use header::EcHeader;
-use header::LAYOUT_VOLUME;
 use header::VidHeader;
+use peb_scan::EcSeen;
+use peb_scan::VidSeen;
+use peb_scan::is_internal;
+use peb_scan::is_mappable;
 use report::refusal;
-
-// Is the volume a user volume or the layout volume?
-pub fn is_mappable(volume: u32) -> bool
-    ensures { λ r. ⌜ r ≡ isMappable volume ⌝ }
-{
-    volume < 128 || volume == LAYOUT_VOLUME
-}
-
-// Is it a block of another internal volume, with this compatibility?
-pub fn is_internal(h: VidHeader, compat: u8) -> bool
-    ensures { λ r. ⌜ r ≡ (not (isMappable (h .volume)) && eqb (h .compat) compat) ⌝ }
-{
-    if is_mappable(h.volume) {
-        return false;
-    }
-    h.compat == compat
-}
 
 // The totals with an EC header more.
 pub fn with_ec(s: EcTotals, e: EcSeen) -> EcTotals

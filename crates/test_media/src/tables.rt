@@ -109,7 +109,7 @@ fn print_leb(leb: u32) {
 }
 
 fn print_tables<'a>(copy0: &'a [u8], copy1: &'a [u8], leb_size: u32, unit: u32, peb_count: u32) {
-    let choice = volume_table::choose_table(copy0, copy1, leb_size, unit, peb_count);
+    let choice = table_choice::choose_table(copy0, copy1, leb_size, unit, peb_count);
     let taken = choice.taken;
     match taken {
         Taken::Leb(leb) => print_leb(leb),
@@ -117,7 +117,7 @@ fn print_tables<'a>(copy0: &'a [u8], copy1: &'a [u8], leb_size: u32, unit: u32, 
     }
     frames::word(b" mark");
     frames::next_number(choice.copies_mark as u64);
-    let records = volume_table::taken_table(copy0, copy1, taken, leb_size);
+    let records = table_choice::taken_table(copy0, copy1, taken, leb_size);
     frames::word(b" records");
     frames::next_number(records.len() as u64);
     frames::next_number(crc32::crc32(records) as u64);

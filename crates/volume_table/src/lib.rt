@@ -1,11 +1,9 @@
-// The volume table in the two layout LEBs, and which of its copies counts.
+// The volume table in a layout LEB: its records, and whether it is good.
 mod table;
 
-pub use table::choose_table;
 pub use table::record_count;
 pub use table::records_part;
 pub use table::table_good;
-pub use table::taken_table;
 
 // The layout LEB whose table is taken: 0 or 1. Neither is refusal 11.
 pub enum Taken {

@@ -4,8 +4,8 @@ use borrow.Author.Tests.{lt-ltb, le-ltb}
 use borrow.Author.Needs.{needs}
 use Rattle.base.proofs.Answers.{was-false, was-true}
 use Rattle.mover_rules.specs.declared.Plan.{Plan}
-use Rattle.mover_steps.specs.Upcoming.{nextWrite}
-use Rattle.mover_steps.specs.declared.NextWrite.{NextWrite}
+use Rattle.mover_next.specs.Upcoming.{nextWrite}
+use Rattle.mover_next.specs.declared.NextWrite.{NextWrite}
 use Rattle.capi_words.specs.Structs.{planMost}
 use Rattle.capi_words.proofs.Laws.{within}
 use Rattle.capi_answers.specs.Calls.{nextNumber, nextWords}

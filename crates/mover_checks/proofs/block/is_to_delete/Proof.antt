@@ -2,7 +2,7 @@
 use mathlib.Core.Path.{sym, ap, _∙_}
 use Rattle.report.specs.View.{VidView, copyOf, goodVid}
 use Rattle.report.specs.Report.{isInternal}
-use Rattle.scan.specs.Seen.{vidSeen}
+use Rattle.peb_scan.specs.Seen.{vidSeen}
 use borrow.Author.Needs.{needs}
 use Rattle.mover_checks.proofs.block.is_to_delete.Statement.{statement}
 use Rattle.mover_checks.proofs.block.is_to_delete.Tie as tie

@@ -5,7 +5,7 @@ use borrow.Author.Tests.{eq-eqb, ne-eqb}
 use Rattle.report.specs.View.{ecGood}
 use Rattle.report.specs.Scan.{when, ecRefusal}
 use Rattle.report.specs.Volumes.{orZero}
-use Rattle.scan.specs.Pass.{seqIn}
+use Rattle.scan.specs.Totals.{seqIn}
 use Rattle.scan.proofs.totals.good_ec_refusal.Statement.{statement}
 use Rattle.scan.proofs.totals.good_ec_refusal.Tie as tie
 
