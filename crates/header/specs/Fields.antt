@@ -24,8 +24,8 @@ pub data Verdict (A : Type 0) : Type 0 where
   newer : Verdict A
 
 module _ {A : Type 0} where
-  -- a header with magic and CRC right: "a version above 1 refuses the image before any other field is judged"; version 0
-  -- is bad; then the rules of its other fields
+  -- a header with magic and CRC right: "a version above 1 refuses the image before any other field is judged";
+  -- version 0 is bad; then the rules of its other fields
   abbrev pub judged : ℕ → List Bool → A → Verdict A
   judged version rules h = cond (eqb version 1) (cond (allOf rules) (good h) bad) (cond (eqb version 0) bad newer)
 

@@ -32,7 +32,8 @@ lent pebs map states = record { pebs = pebs; map = map; states = states }
 
 -- refusal 4: "a lent table .. is too short"
 unfoldable pub roomRules : Tables → ℕ → List Bool
-roomRules t n = leb (n * pebStride) (length t.pebs) ∷ leb (n * entryStride) (length t.map) ∷ leb 128 (length t.states) ∷ []
+roomRules t n =
+    leb (n * pebStride) (length t.pebs) ∷ leb (n * entryStride) (length t.map) ∷ leb 128 (length t.states) ∷ []
 
 abbrev pub longEnough : Tables → ℕ → Bool
 longEnough t n = allOf (roomRules t n)

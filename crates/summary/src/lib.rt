@@ -1,4 +1,4 @@
-// The end of attaching: from the table taken on, the map, refusal 12, states and the report; or the tables of a refusal.
+// The end of attaching: from the table taken on, the map, refusal 12, states and the report; or a refusal's tables.
 mod tables;
 
 ghost use mathlib.Core.Path.{_≡_};
