@@ -3,16 +3,16 @@ use mathlib.Core.Path.{_≡_, refl, sym, ap, ap₂, _∙_}
 use mathlib.Core.Bool.{true, false, and-true}
 use mathlib.Core.Option.{none, some}
 use mathlib.Core.List.{List, _++_}
-use Prim.Native.Nat.{ℕ, zero, suc, _%_, _≤_, _<_}
-use native.Mathlib.Nat.{div-add-mod', mul-comm}
+use Prim.Native.Nat.{ℕ, zero, suc, _≤_, _<_}
 use native.Mathlib.Omega.{arith}
-use borrow.Author.Tests.{lt-ltb, le-ltb, lt-leb, le-leb, leb-true, eqb-true}
+use borrow.Author.Tests.{lt-ltb, le-ltb, lt-leb, le-leb, leb-true}
 use lib.Dec.{leb}
 use lib.ListN.{length, drop}
 use Rattle.base.specs.Answers.{Answer, given, refused, allOf}
 use Rattle.base.proofs.Answers.{each-holds}
 use Rattle.words.specs.Words.{pebWordsNeeded, mapWordsNeeded, stateWordsNeeded}
 use Rattle.words.proofs.Laws.{volume-at, lnum-at}
+use Rattle.geometry.proofs.Laws.{image-whole, image-least, image-few}
 use Rattle.geometry.specs.declared.Geometry.{Geometry}
 use Rattle.geometry.specs.Placed.{Placed}
 use Rattle.geometry.specs.Slip.{slipGeometry}
@@ -77,10 +77,6 @@ module _ (t : Tables) (n : ℕ) where
       rw (le-leb (pebWordsNeeded n) (length t.pebs) a, le-leb (mapWordsNeeded n) (length t.map) b)
       (sym (and-true (leb stateWordsNeeded (length t.states))))
 
-pub image-few : (g : Geometry) (image : List ℕ) → allOf (imageRules g image) ≡ true → pebCount g image ≤ 4096
-unfolding imageRules
-image-few g image e = leb-true (pebCount g image) 4096 (each-holds (imageRules g image) e 2)
-
 module _ (g : Geometry) (image : List ℕ) (t : Tables) where
   abbrev end : Outcome
   end = byGeometry image (longEnough t) (given g)
@@ -97,14 +93,8 @@ module _ (g : Geometry) (image : List ℕ) (t : Tables) where
       unfolding imageRules roomRules
       room-of p = record {
         placed = p;
-        whole =
-            omega (
-              arith,
-              div-add-mod' (length image) g.«peb_size»,
-              mul-comm g.«peb_size» (pebCount g image),
-              eqb-true (length image % g.«peb_size») 0 (each-holds (imageRules g image) e 0),
-            );
-        least = leb-true 2 (pebCount g image) (each-holds (imageRules g image) e 1);
+        whole = image-whole g image e;
+        least = image-least g image e;
         few = image-few g image e;
         long-pebs = leb-true _ (length t.pebs) (each-holds (roomRules t (pebCount g image)) h 0);
         long-map = leb-true _ (length t.map) (each-holds (roomRules t (pebCount g image)) h 1);

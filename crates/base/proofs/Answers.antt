@@ -8,7 +8,7 @@ use Prim.Native.Nat.{ℕ, zero, suc}
 use native.Mathlib.Omega.{arith}
 use borrow.Author.Tests.{not-true, not-false}
 use lib.ListN.{getD}
-use Rattle.base.specs.Answers.{orElse, mapO, allOf}
+use Rattle.base.specs.Answers.{Answer, given, refused, orElse, mapO, allOf}
 
 -- ---- tests
 
@@ -77,6 +77,10 @@ or-true-cases false b e = inr e
 
 pub none-some : {A B : Type 0} {a : A} → none ≡ some a → B
 none-some e = absurd (let z : _≡_ {A = ℕ} 0 1 = cc in omega arith)
+
+-- a refusal is no answer
+pub refused-not : {A : Type 0} {k p : ℕ} {a : A} → _≡_ {A = Answer A} (refused k p) (given a) → ⊥
+refused-not e = let z : _≡_ {A = ℕ} 0 1 = cc in omega arith
 
 -- by cases of an option, which is then known
 pub by-option : {A B : Type 0} (o : Option A) → (o ≡ none → B) → ((a : A) → o ≡ some a → B) → B

@@ -152,6 +152,16 @@ module _ {A : Type 0} where
   first-some n f i a h e =
       by-option (firstBelow n f) (λ q. none-some (sym (first-none-at n f q i h) ∙ e)) (λ x q. (x, q))
 
+  -- nothing stands before the first
+  pub first-before : (n : ℕ) (f : ℕ → Option A) (x : ℕ × A) → firstBelow n f ≡ some x → (j : ℕ) → j < x.0 → f j ≡ none
+  first-before n f x e j h =
+      by-option (firstBelow (suc j) f) (λ q. first-none-at (suc j) f q j (omega arith))
+      (λ y q.
+      let k = first-hit n f x.0 x.1 e in
+      let z : some y ≡ some x = sym (first-keeps f n (suc j) y q (omega (arith, k.0))) ∙ e in
+      let w : y ≡ x = cc in
+      absurd (omega (arith, first-hit (suc j) f y.0 y.1 q .0, ap (λ (u : ℕ × A). u.0) w)))
+
 -- ---- sums
 
 pub sum-grows : (f : ℕ → ℕ) (j k : ℕ) → j ≤ k → sumBelow j f ≤ sumBelow k f
@@ -161,3 +171,13 @@ sum-grows f j (suc k) h =
     (λ (l : j < suc k). omega (arith, sum-grows f j k (omega arith)))
     (λ (e : suc k ≤ j). let z : j ≡ suc k = omega arith in rw z (omega arith))
     (lt-or-le j (suc k))
+
+-- term by term
+pub sum-le : (n : ℕ) (f g : ℕ → ℕ) → ((i : ℕ) → i < n → f i ≤ g i) → sumBelow n f ≤ sumBelow n g
+sum-le zero f g h = omega arith
+sum-le (suc n) f g h = omega (arith, sum-le n f g (λ i k. h i (omega arith)), h n (omega arith))
+
+-- all terms 0
+pub sum-zero : (n : ℕ) (f : ℕ → ℕ) → ((i : ℕ) → i < n → f i ≡ 0) → sumBelow n f ≡ 0
+sum-zero zero f h = refl
+sum-zero (suc n) f h = omega (arith, sum-zero n f (λ i k. h i (omega arith)), h n (omega arith))

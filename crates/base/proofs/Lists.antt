@@ -14,7 +14,7 @@ use lib.Dec.{T, eqb, lit<}
 use lib.ListN.{length, take, drop, getD, set, replicate, length-take, length-drop, length-map, take-append-drop}
 use lib.ListN.{List·getD-append}
 use lib.Seq.{take-all, take-nil, take-length, take-take, drop-cons, drop-drop, drop-at, take-append-seam, getD-drop}
-use lib.Seq.{getD-append-add, paste, drop-length}
+use lib.Seq.{getD-append-add, paste, drop-length, drop-nil}
 use Rattle.base.proofs.Answers.{by-test, not-so, and-left, and-right}
 use Rattle.base.specs.Lists.{part, put, eqs, table, rows, Bytes}
 
@@ -51,6 +51,17 @@ part-take at n m s h = rw drop-take (take-take n (m - at) (drop at s) (omega ari
 
 pub part-part : (i n at m : ℕ) (s : List ℕ) → i + n ≤ m → part i n (part at m s) ≡ part (at + i) n s
 part-part i n at m s h = part-take i n m (drop at s) h ∙ rw (drop-drop i at s)
+
+-- the front of two lists joined, and what is behind it
+pub take-joined : {A : Type 0} (n : ℕ) (s t : List A) → take n (s ++ t) ≡ take n s ++ take (n - length s) t
+take-joined n [] t = rw (sub-zero, take-nil)
+take-joined zero (x ∷ s) t = rw zero-sub
+take-joined (suc n) (x ∷ s) t = rw suc-sub-suc (ap (λ l. x ∷ l) (take-joined n s t))
+
+pub drop-joined : {A : Type 0} (n : ℕ) (s t : List A) → drop n (s ++ t) ≡ drop n s ++ drop (n - length s) t
+drop-joined n [] t = rw (sub-zero, drop-nil)
+drop-joined zero (x ∷ s) t = rw zero-sub
+drop-joined (suc n) (x ∷ s) t = rw suc-sub-suc (drop-joined n s t)
 
 -- a part that is lent as `s[at..at + n]`
 pub lent-part : (at n : ℕ) (s : List ℕ) → take (at + n - at) (drop at s) ≡ part at n s

@@ -1,14 +1,17 @@
 -- Stores into lists of numbers, and runs of one number. Assumes nothing.
 use mathlib.Core.Path.{_≡_, refl, sym, _∙_, ap}
+use mathlib.Core.Logic.{⊎-elim}
 use mathlib.Core.List.{List, [], _∷_, _++_, append-assoc, append-nil}
-use Prim.Native.Nat.{ℕ, zero, suc, _+_, _-_, _≤_}
-use native.Mathlib.Nat.{add-assoc, zero-add}
+use Prim.Native.Nat.{ℕ, zero, suc, _+_, _-_, _≤_, _<_, min}
+use native.Mathlib.Nat.{add-assoc, add-zero, zero-add}
 use native.Mathlib.Omega.{arith}
 use lib.ListN.{length, take, drop, replicate, length-append, length-take, length-drop, take-append-drop}
+use lib.ListN.{drop-of-length-le}
 use lib.Seq.{take-append-seam, drop-append-seam, take-at, drop-at, take-append-le, drop-append-le, take-append-add}
-use lib.Seq.{drop-append-add, length-take-le, drop-drop, drop-length}
+use lib.Seq.{drop-append-add, length-take-le, drop-drop, drop-length, take-all}
 use Rattle.base.specs.Lists.{part, put, Bytes}
-use Rattle.base.proofs.Lists.{bytes-take, bytes-drop}
+use Rattle.base.proofs.Below.{lt-or-le}
+use Rattle.base.proofs.Lists.{length-part, take-joined, drop-joined, bytes-take, bytes-drop}
 
 -- ---- stores
 
@@ -105,7 +108,59 @@ put-middle n bs x y z e f =
 pub put-all : (bs s : List ℕ) → length bs ≡ length s → put 0 bs s ≡ bs
 put-all bs s e = rw (zero-add, e, drop-length, append-nil)
 
--- a part of the front (Lists has it without the length)
+-- a store into bytes that were stored before
+pub put-in-put : (at k : ℕ) (bs x s : List ℕ) → k + length bs ≤ length x → at + length x ≤ length s
+    → put (at + k) bs (put at x s) ≡ put at (put k bs x) s
+put-in-put at k bs x s h l =
+    let z : List ℕ = drop (at + length x) s in
+    let e : length (take at s) ≡ at = length-take-le at s (omega arith) in
+    ap (λ (m : ℕ). put (m + k) bs (put at x s)) (sym e) ∙ put-right k bs (take at s) (x ++ z)
+    ∙ ap (λ (r : List ℕ). take at s ++ r) (put-left k bs x z h)
+    ∙ ap (λ (m : ℕ). take at s ++ (put k bs x ++ drop (at + m) s)) (sym (length-put k bs x h))
+
+-- a store right behind another
+pub put-next : (at n : ℕ) (a b s : List ℕ) → length a ≡ n → at + n ≤ length s
+    → put (at + n) b (put at a s) ≡ put at (a ++ b) s
+put-next at n a b s e l =
+    let x : List ℕ = take at s ++ a in
+    let y : List ℕ = drop (at + length a) s in
+    let q : length x ≡ at + n = rw (length-append, length-take-le at s (omega arith), e) in
+    let p : x ++ y ≡ put at a s = append-assoc (take at s) a y in
+    let k : at + length a + length b ≡ at + length (a ++ b) = rw length-append (omega arith) in
+    ap (λ (m : ℕ). put m b (put at a s)) (sym q ∙ sym (add-zero (length x))) ∙ ap (put (length x + 0) b) (sym p)
+    ∙ put-right 0 b x y ∙ rw (zero-add, drop-drop (length b) (at + length a) s, k)
+    (append-assoc (take at s) a (b ++ drop (at + length (a ++ b)) s)
+    ∙ ap (λ (r : List ℕ). take at s ++ r) (sym (append-assoc a b (drop (at + length (a ++ b)) s))))
+
+-- up to its end
+pub take-put : (at : ℕ) (bs s : List ℕ) → at ≤ length s → take (at + length bs) (put at bs s) ≡ take at s ++ bs
+take-put at bs s h =
+    rw (← append-assoc (take at s) bs (drop (at + length bs) s))
+    (take-at (take at s ++ bs) (drop (at + length bs) s) (at + length bs) (rw (length-append, length-take-le at s h)))
+
+-- nothing stored
+pub put-none : (at : ℕ) (s : List ℕ) → put at [] s ≡ s
+put-none at s = rw add-zero (take-append-drop at s)
+
+-- n bytes from `at` on, of which all were stored
+pub stored-part : (at n : ℕ) (bs all : List ℕ) {y : List ℕ} → at + n ≤ length all → length bs ≡ n
+    → y ≡ bs ++ drop n (part at (at + n - at) all)
+    → take at all ++ (y ++ drop (at + n - at) (drop at all)) ≡ put at bs all
+stored-part at n bs all {y} h l e =
+    let k : at + n - at ≡ n = omega arith in
+    let z : drop n (part at n all) ≡ [] = drop-of-length-le (part at n all) {i = n}
+    (omega (arith, length-part at n all h)) in
+    rw (e, k, z, append-nil, drop-drop n at all, l)
+
+-- all that is there, where there are not so many
+pub take-min : (n : ℕ) (s : List ℕ) → take (min n (length s)) s ≡ take n s
+take-min n s =
+    ⊎-elim
+    (λ (h : n < length s). let e : min n (length s) ≡ n = omega arith in rw e)
+    (λ (h : length s ≤ n).
+    let e : min n (length s) ≡ length s = omega arith in
+    rw e (take-all (length s) s (omega arith) ∙ sym (take-all n s h)))
+    (lt-or-le n (length s))
 
 -- ---- runs of one number
 
@@ -118,6 +173,15 @@ pub take-replicate : (x s m : ℕ) → s ≤ m → take s (replicate m x) ≡ re
 take-replicate x zero m h = refl
 take-replicate x (suc s) zero h = absurd (omega arith)
 take-replicate x (suc s) (suc m) h = ap (λ (l : List ℕ). x ∷ l) (take-replicate x s m (omega arith))
+
+-- a part of a list with a run behind it, which the part does not outreach
+pub part-padded : (x b n k : ℕ) (s : List ℕ) → b + n ≤ length s + k
+    → part b n (s ++ replicate k x) ≡ part b n s ++ replicate (n - length (part b n s)) x
+part-padded x b n k s h =
+    let e : n - length (drop b s) ≡ n - length (part b n s) = omega (arith, length-take n (drop b s)) in
+    rw (drop-joined, take-joined, e, drop-replicate)
+    (ap (λ (t : List ℕ). part b n s ++ t)
+    (take-replicate x (n - length (part b n s)) (k - (b - length s)) (omega (arith, e, length-drop b s))))
 
 -- ---- bytes
 

@@ -2,12 +2,12 @@
 use mathlib.Core.Path.{_≡_, sym, ap, _∙_}
 use mathlib.Core.Logic.{_⊎_, inl, inr}
 use mathlib.Core.Bool.{true}
-use mathlib.Core.List.{List, [], _++_, append-nil}
+use mathlib.Core.List.{List, _++_, append-nil}
 use Prim.Native.Nat.{ℕ, _+_, _-_, _≤_, _<_}
 use native.Mathlib.Numerals.{add-one}
 use native.Mathlib.Omega.{arith}
 use lib.ListN.{length, take, drop, getD, set, List·getD-append, drop-of-length-le}
-use lib.Seq.{paste, paste-suc, length-paste-head, length-take-le, getD-take, getD-drop, getD-append-add, drop-drop}
+use lib.Seq.{paste, paste-suc, length-paste-head, length-take-le, getD-take, getD-drop, getD-append-add}
 use Rattle.base.specs.Lists.{part, put}
 use Rattle.base.proofs.Lists.{length-part}
 use Rattle.header.specs.Fields.{isGood}
@@ -55,18 +55,6 @@ module _ (d : List ℕ) (from to n i : ℕ) (i<n : i < n) (h : from + n ≤ leng
       let e : getD d (from + i) 0 ≡ getD s i 0 = sym (getD-take n (drop from d) i 0 i<n ∙ getD-drop from d i 0) in
       ap (set (paste d to s i) (to + i)) (kept apart ∙ e)
       ∙ rw add-one (paste-suc d to s i 0 (omega arith) (omega (arith, ls)))
-
--- ---- a part that was lent
-
--- n bytes from `at` on, of which all were stored
-pub stored-part : (at n : ℕ) (bs all : List ℕ) {y : List ℕ} → at + n ≤ length all → length bs ≡ n
-    → y ≡ bs ++ drop n (part at (at + n - at) all)
-    → take at all ++ (y ++ drop (at + n - at) (drop at all)) ≡ put at bs all
-stored-part at n bs all {y} h l e =
-    let k : at + n - at ≡ n = omega arith in
-    let z : drop n (part at n all) ≡ [] = drop-of-length-le (part at n all) {i = n}
-    (omega (arith, length-part at n all h)) in
-    rw (e, k, z, append-nil, drop-drop n at all, l)
 
 -- ---- a header that was made in 64 bytes of its own, then stored
 

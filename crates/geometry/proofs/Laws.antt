@@ -13,9 +13,10 @@ use mathlib.Core.List.{List}
 use borrow.Author.Tests.{leb-true, eqb-true, eq-eqb, ne-eqb, le-leb, lt-leb}
 use Rattle.base.specs.Below.{anyBelow}
 use Rattle.base.specs.Answers.{Answer, given, refused, allOf}
-use Rattle.base.proofs.Answers.{or-true-cases, one-broken, each-holds, cond-yes}
+use Rattle.base.proofs.Answers.{or-true-cases, one-broken, each-holds, cond-yes, refused-not}
 use Rattle.base.proofs.Below.{any-intro}
 use Rattle.geometry.specs.declared.Geometry.{Geometry}
+use Rattle.geometry.specs.Image.{pebCount, imageRules}
 use Rattle.geometry.specs.Slip.{hasField, valueAt, headRules, endsAt, wellFormed, slipGeometry, headRead}
 use Rattle.geometry.specs.Placed.{Placed}
 use Rattle.geometry.specs.Geometry.{goodUnit, roundUp, geometryRules, geometryOf, makeGeometry, vidStart}
@@ -157,9 +158,6 @@ made peb unit sub e =
 given-is : {a b : Geometry} → _≡_ {A = Answer Geometry} (given a) (given b) → a ≡ b
 given-is e = cc
 
-refused-not : {k : ℕ} {g : Geometry} → _≡_ {A = Answer Geometry} (refused k 0) (given g) → ⊥
-refused-not e = let z : _≡_ {A = ℕ} 0 1 = cc in omega arith
-
 pub placed : (peb unit sub : ℕ) (g : Geometry) → geometryOf peb unit sub ≡ given g → Placed g
 unfolding geometryOf
 placed peb unit sub g e =
@@ -169,3 +167,22 @@ placed peb unit sub g e =
 pub slip-placed : (s : List ℕ) (g : Geometry) → slipGeometry s ≡ given g → Placed g
 unfolding slipGeometry
 slip-placed s g e = placed (valueAt 0 4 s) (valueAt 7 2 s) (valueAt 12 2 s) g (cond-yes (wellFormed s) refused-not e .1)
+
+-- ---- an image of whole PEBs
+
+module _ (g : Geometry) (image : List ℕ) (e : allOf (imageRules g image) ≡ true) where
+  image-rule : (k : ℕ) → getD (imageRules g image) k true ≡ true
+  image-rule = each-holds (imageRules g image) e
+
+  pub image-whole : length image ≡ pebCount g image * g.«peb_size»
+  unfolding imageRules
+  image-whole =
+      omega (arith, div-add-mod' (length image) g.«peb_size», eqb-true (length image % g.«peb_size») 0 (image-rule 0))
+
+  pub image-least : 2 ≤ pebCount g image
+  unfolding imageRules
+  image-least = leb-true 2 (pebCount g image) (image-rule 1)
+
+  pub image-few : pebCount g image ≤ 4096
+  unfolding imageRules
+  image-few = leb-true (pebCount g image) 4096 (image-rule 2)

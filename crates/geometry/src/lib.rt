@@ -5,6 +5,9 @@ mod slip;
 
 pub use image::image_fits;
 pub use rules::check_geometry;
+pub use slip::HEAD_SIZE;
+pub use slip::ends_at;
+pub use slip::read_head;
 pub use slip::read_slip;
 
 // Where headers and data stand in a physical block (PEB), and how long a logical one (LEB) is.

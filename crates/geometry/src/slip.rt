@@ -7,7 +7,7 @@ use crate::GeometryRead;
 use crate::rules::check_geometry;
 
 // The bytes of the three fields of the head.
-const HEAD_SIZE: usize = 17;
+pub const HEAD_SIZE: usize = 17;
 
 // Does the slip begin with PEB size, unit and sub-unit?
 fn has_head(slip: &[u8]) -> bool
@@ -26,7 +26,7 @@ fn has_head(slip: &[u8]) -> bool
 }
 
 // Is the field at `at` the last one, tag 0?
-fn ends_at(slip: &[u8], at: usize) -> bool
+pub fn ends_at(slip: &[u8], at: usize) -> bool
     ensures { λ r. ⌜ r ≡ endsAt at (now (slip .entry)) ⌝ }
 {
     if slip.len() < at {
@@ -36,7 +36,7 @@ fn ends_at(slip: &[u8], at: usize) -> bool
 }
 
 // The geometry that the head of a slip gives, whatever follows it.
-fn read_head(slip: &[u8]) -> GeometryRead
+pub fn read_head(slip: &[u8]) -> GeometryRead
     ensures { λ r. ⌜ geometryRead r ≡ headRead (now (slip .entry)) ⌝ }
 {
     if !has_head(slip) {

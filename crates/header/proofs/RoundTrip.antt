@@ -10,7 +10,7 @@ use lib.ListN.{length, take, drop, length-take, take-append-drop}
 use lib.Seq.{take-add, take-append-seam}
 use Rattle.base.specs.Answers.{given, refused}
 use Rattle.base.specs.Lists.{part, eqs, Bytes}
-use Rattle.base.proofs.Answers.{and-left, and-right, cond-yes, cond-no}
+use Rattle.base.proofs.Answers.{and-left, and-right, cond-yes, cond-no, refused-not}
 use Rattle.base.proofs.Lists.{eqs-true, EachByte, each-append, each-zero, bytes-each}
 use Rattle.field.specs.Be.{beOf, toBeOn, toBe}
 use Rattle.field.proofs.Laws.{read-back-fits, written-read, each-toBe, field-lt}
@@ -28,9 +28,6 @@ use Rattle.header.proofs.Laws.{bad-not, read-good}
 use Rattle.header.proofs.Writes.{ec-64, vid-64}
 
 -- ---- answers
-
-refused-not : {A : Type 0} {n : ℕ} {x : A} → refused n 0 ≡ given x → ⊥
-refused-not e = let z : _≡_ {A = ℕ} 0 1 = cc in omega arith
 
 module _ {A : Type 0} where
   good-of : (v : Verdict A) → isGood v ≡ true → (x : A) × (v ≡ good x)

@@ -16,7 +16,7 @@ use Rattle.base.specs.Lists.{part}
 use Rattle.base.specs.Below.{sumBelow, concatBelow}
 use Rattle.base.proofs.Answers.{or-true-cases, none-some, by-option}
 use Rattle.base.proofs.Lists.{length-part}
-use Rattle.base.proofs.Rows.{rows-tail}
+use Rattle.base.proofs.Rows.{rows-tail, concat-cong}
 use Rattle.header.specs.Vid.{layoutVolume}
 use Rattle.words.specs.Words.{noWord, entryStride, mostPebs, mapWordsNeeded, classWord, counterWord, volumeWord, lnumWord, pebWord}
 use Rattle.words.proofs.Laws.{class-at, counter-at, volume-at, lnum-at, peb-at}
@@ -28,7 +28,6 @@ use Rattle.report.specs.Report.{counterOr, isPlace, staysIn, classOf, places, e
 use Rattle.report.specs.Attach.{entryWords, pebWords, mapWords}
 use Rattle.report.specs.Scratch.{keyWords, markedClass}
 use Rattle.report.proofs.Choice.{chosen-at}
-use Rattle.report.proofs.Map.{concat-cong}
 use Rattle.report.proofs.Words.{entry-words-length}
 use Rattle.mapping.specs.Settle.{settledClass, settledKey, classFrom, pebRow, mapRow, Settled, Marked, Mapped}
 use Rattle.map_slots.specs.Slots.{firstSlots, slotOf, rowSlot, slotWord, Slots, inSlot, allEntries, Collected}

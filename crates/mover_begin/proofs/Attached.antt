@@ -8,7 +8,7 @@ use native.Mathlib.Omega.{arith}
 use lib.ListN.{length, drop, length-append}
 use Rattle.base.specs.Answers.{Answer, given, refused, allOf, mapO}
 use Rattle.base.specs.Lists.{Bytes}
-use Rattle.base.proofs.Answers.{none-some, mapO-some, by-option, by-test}
+use Rattle.base.proofs.Answers.{none-some, mapO-some, by-option, by-test, refused-not}
 use Rattle.words.proofs.Laws.{class-at, counter-at}
 use Rattle.geometry.specs.declared.Geometry.{Geometry}
 use Rattle.geometry.specs.Slip.{slipGeometry}
@@ -75,15 +75,12 @@ module _ (m : Medium) (t : Tables) where
 
 -- ---- an image that attached
 
-not-given : {A : Type 0} {k p : ℕ} {a : A} → _≡_ {A = Answer A} (refused k p) (given a) → ⊥
-not-given e = let z : _≡_ {A = ℕ} 0 1 = cc in omega arith
-
 not-whole : (k : ℕ) (m : Medium) → early k ≡ whole m → ⊥
 not-whole k m e = let z : _≡_ {A = ℕ} 0 1 = cc in omega arith
 
 whole-of : (o : Outcome) (r : Report) → given r ≡ answerOf o → (m : Medium) × (o ≡ whole m) × (r ≡ reportOf m)
-whole-of (early k) r e = absurd (not-given (sym e))
-whole-of (late n x) r e = absurd (not-given (sym e))
+whole-of (early k) r e = absurd (refused-not (sym e))
+whole-of (late n x) r e = absurd (refused-not (sym e))
 whole-of (whole m) r e = (m, refl, cc)
 
 module _ (req : AttachRequest) (image : List ℕ) (room : ℕ → Bool) where
@@ -156,4 +153,4 @@ module _ (req : AttachRequest) (image : List ℕ) (room : ℕ → Bool) where
 pub refused-too : (x : Outcome) (k p v l t : ℕ) → refused k p ≡ answerOf x → refused k p ≡ beginOn x v l t
 refused-too (early j) k p v l t e = let a : k ≡ j = cc in let b : p ≡ 0 = cc in rw (a, b)
 refused-too (late n r) k p v l t e = let a : k ≡ r.number = cc in let b : p ≡ r.place = cc in rw (a, b)
-refused-too (whole m) k p v l t e = absurd (not-given e)
+refused-too (whole m) k p v l t e = absurd (refused-not e)

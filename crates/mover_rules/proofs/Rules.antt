@@ -9,7 +9,7 @@ use lib.Dec.{eqb}
 use lib.ListN.{length, getD}
 use borrow.Author.Tests.{ltb-true, leb-true, eqb-false, not-true}
 use Rattle.base.specs.Answers.{Answer, given, refused, allOf}
-use Rattle.base.proofs.Answers.{each-holds, cond-yes}
+use Rattle.base.proofs.Answers.{each-holds, cond-yes, refused-not}
 use Rattle.geometry.specs.Geometry.{geometryRules, geometryOf, makeGeometry}
 use Rattle.geometry.specs.declared.Geometry.{Geometry}
 use Rattle.geometry.proofs.Laws.{placed, unit-range}
@@ -36,9 +36,6 @@ module _ (p : Plan) where
         same-unit = refl;
         unit-most = omega arith;
       }
-
-  refused-not : {g : Geometry} → _≡_ {A = Answer Geometry} (refused 2 0) (given g) → ⊥
-  refused-not e = let z : _≡_ {A = ℕ} 0 1 = cc in omega arith
 
   pub measured : (g : Geometry) → geometryOf p.«peb_size» p.unit p.«sub_unit» ≡ given g → Measured g p
   unfolding geometryOf planGeometry

@@ -25,6 +25,7 @@ use lib.Dec.{eqb}
 use lib.ListN.{length, length-append}
 use borrow.Author.Tests.{eqb-true}
 use Rattle.base.specs.Below.{sumBelow, concatBelow}
+use Rattle.base.proofs.Rows.{concat-cong}
 use Rattle.base.proofs.Answers.{and-left, and-right, none-some}
 use Rattle.base.proofs.Below.{below-suc}
 use Rattle.header.specs.Vid.{layoutVolume}
@@ -48,10 +49,6 @@ module _ {A : Type 0} where
       (λ k. Memᴰ·append-left (f n) (concat-mem n f x i k m))
       (λ e. Memᴰ·append-right (concatBelow n f) (subst (λ j. List·Memᴰ x (f j)) e m))
       (below-suc n i h)
-
-  pub concat-cong : (n : ℕ) (f h : ℕ → List A) → ((i : ℕ) → i < n → f i ≡ h i) → concatBelow n f ≡ concatBelow n h
-  concat-cong zero f h e = refl
-  concat-cong (suc n) f h e = rw (concat-cong n f h (λ i k. e i (omega arith)), e n (omega arith))
 
 module _ {A B : Type 0} (f : A → B) where
   map-append : (s t : List A) → map f (s ++ t) ≡ map f s ++ map f t

@@ -50,3 +50,9 @@ pub const BAD_TARGET: u32 = 16;
 
 // mover: no sequence or no erase counter is left
 pub const NUMBERS_USED_UP: u32 = 17;
+
+// builder: a volume field is not 11 to 137 bytes, there are more than records, or the table is not good
+pub const BAD_VOLUMES: u32 = 20;
+
+// builder: the lengths are not one for each volume, do not sum to the content, or a content does not fit its volume
+pub const BAD_CONTENT: u32 = 21;

@@ -6,7 +6,7 @@ use mathlib.Core.List.{List}
 use Prim.Native.Nat.{ℕ, _-_, _*_, _/_, _%_, _≤_, _<_}
 use native.Mathlib.Nat.{mod-one, sub-zero, mul-assoc, mul-mod-left, div-add-mod'}
 use native.Mathlib.Omega.{arith}
-use borrow.Author.Tests.{leb-true, eqb-true}
+use borrow.Author.Tests.{ltb-true, leb-true, eqb-true}
 use lib.Dec.{eqb}
 use lib.ListN.{getD}
 use Rattle.base.specs.Answers.{allOf}
@@ -42,6 +42,14 @@ module _ (size unit : ℕ) (r : List ℕ) (g : recordGood size unit r ≡ true) 
       each-holds (recordRules size unit (recordOf r))
       (and-right (recordCrcMatches r) (allOf (recordRules size unit (recordOf r))) g)
 
+  pub good-reserved : 0 < recordOf r .reserved
+  unfolding recordRules
+  good-reserved = ltb-true _ _ (kept 0)
+
+  pub good-alignment : (0 < recordOf r .alignment) × (recordOf r .alignment ≤ size)
+  unfolding recordRules
+  good-alignment = (leb-true _ _ (kept 1), leb-true _ _ (kept 2))
+
   pub good-aligned : (recordOf r .alignment ≡ 1) ⊎ (recordOf r .alignment % unit ≡ 0)
   unfolding recordRules
   good-aligned = either _ _ _ _ (kept 3)
@@ -52,6 +60,10 @@ module _ (size unit : ℕ) (r : List ℕ) (g : recordGood size unit r ≡ true) 
 
   pub good-pads : size % unit ≡ 0 → (size - recordOf r .«data_pad») % unit ≡ 0
   good-pads h = rw good-pad (pads-multiple size unit (recordOf r .alignment) h good-aligned)
+
+  pub good-type : (recordOf r .«vol_type» ≡ 1) ⊎ (recordOf r .«vol_type» ≡ 2)
+  unfolding recordRules
+  good-type = either _ _ _ _ (kept 5)
 
 -- ---- empty or good
 

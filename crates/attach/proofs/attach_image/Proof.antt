@@ -2,7 +2,8 @@
 use mathlib.Core.Path.{sym, _∙_}
 use borrow.Author.Tests.{not-true, not-false}
 use Rattle.report.specs.Attach.{lent}
-use Rattle.attach.proofs.Stages.{image-few, refused3, refused4, room-of, ended-image}
+use Rattle.geometry.proofs.Laws.{image-few}
+use Rattle.attach.proofs.Stages.{refused3, refused4, room-of, ended-image}
 use borrow.Author.Needs.{needs}
 use Rattle.attach.proofs.attach_image.Statement.{statement}
 use Rattle.attach.proofs.attach_image.Tie as tie

@@ -2,7 +2,7 @@
 use native.Mathlib.Omega.{arith}
 use borrow.Author.Needs.{needs}
 use lib.ListN.{replicate, length-replicate}
-use Rattle.flash_writes.proofs.Writes.{stored-part}
+use Rattle.base.proofs.Stores.{stored-part}
 use Rattle.flash_writes.proofs.erase.Statement.{statement}
 use Rattle.flash_writes.proofs.erase.Tie as tie
 
