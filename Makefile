@@ -1,7 +1,7 @@
 # `make` proves the library and the programs and builds them into build/; `make install PREFIX=..` installs them.
 # Needs the Rattle kit (rt), a C compiler and, for the bench tool and the tests, Python 3. On x86-64 Linux.
 # `make clean` keeps target/, in which rt has what it has proved.
-VERSION := 0.10.0
+VERSION := 0.11.0
 SONAME := libchoduljin.so.0
 
 PREFIX ?= /usr/local
@@ -12,7 +12,7 @@ INSTALL ?= install
 
 # rt proves again what has changed, and nothing else; the folders tell of files that are gone.
 SOURCES := crates.txt $(shell find crates -type d -o -name '*.rt' -o -name '*.antt')
-BUILT := build/libchoduljin.a build/libchoduljin.so build/$(SONAME) build/ubilist build/attach
+BUILT := build/libchoduljin.a build/libchoduljin.so build/$(SONAME) build/ubilist build/attach build/build
 
 .DELETE_ON_ERROR:
 .PHONY: all test install clean
@@ -37,7 +37,7 @@ build/ubilist: $(SOURCES) | build build/libchoduljin.a
 	rt check ubilist
 	cp target/bin/ubilist $@
 
-build/attach: examples/attach.c include/choduljin.h build/libchoduljin.a
+build/attach build/build: build/%: examples/%.c include/choduljin.h build/libchoduljin.a
 	$(CC) -std=c99 $(CFLAGS) -Iinclude $(LDFLAGS) -o $@ $< build/libchoduljin.a
 
 test: all

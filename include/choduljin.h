@@ -1,4 +1,5 @@
-/* Choduljin: UBI images of raw NAND flash, attached, listed, and moved block by block, by proved code.
+/* Choduljin: UBI images of raw NAND flash, attached, listed, moved block by block, and built from a list of volumes, by
+ * proved code.
  *
  * An image is the bytes of a chip, 2 to 4,096 whole physical erase blocks (PEBs), without spare bytes. A slip is the
  * 20 bytes that say how the chip is built. A logical erase block (LEB) is a part of a volume; a PEB holds at most one.
@@ -8,9 +9,9 @@
  * is 0, that a slice which the call writes overlaps no other, and that nothing else changes lent memory during the call
  * (another thread, a device, another process through a mapping). Memory need not be zeroed before it is lent. Nothing
  * is kept after a call, nothing is allocated, and no call blocks or ends the process. Calls may run at the same time
- * where none writes what another is lent. A call takes about 20 KiB of stack.
+ * where none writes what another is lent. A call takes about 20 KiB of stack, choduljin_build about 32.
  *
- * Answers. Each function but the last answers a number: 0 for success, 1 to 19 for the refusals of the rules, from 256
+ * Answers. Each function but the last answers a number: 0 for success, 1 to 21 for the refusals of the rules, from 256
  * on for answers of this library's own. Judged in this order: too few words lent for a struct or a length, or bytes for
  * a name (4, and nothing changes); words that are not those of a struct (CHODULJIN_UNFIT, and nothing changes); then
  * the call itself.
@@ -34,7 +35,7 @@ extern "C" {
  * The lowest that applies is answered, but for the 4 of too few words, which comes first; 5 to 8 are found PEB by PEB.
  * The place is a PEB for 5 to 9 and 12, else 0. */
 enum {
-    CHODULJIN_MALFORMED_SLIP = 1,     /* the slip is not its four fields, or not 20 bytes */
+    CHODULJIN_MALFORMED_SLIP = 1,     /* the slip is not its four fields, or not 20 bytes; for build see there */
     CHODULJIN_BAD_GEOMETRY = 2,       /* PEB size, unit and sub-unit are outside their rules: see choduljin_geometry */
     CHODULJIN_BAD_IMAGE_SIZE = 3,     /* the image is not 2 to 4,096 whole PEBs */
     CHODULJIN_SHORT_BUFFER = 4,       /* something lent is too short */
@@ -54,7 +55,11 @@ enum {
     CHODULJIN_NUMBERS_USED_UP = 17,   /* move: no sequence number, or no erase counter, is left */
     CHODULJIN_MAY_NOT_RUN = 18,       /* step: the plan's geometry meets 2 or the image 3; a PEB is absent, or both are
                                          one; or 19 would refuse a header of the plan */
-    CHODULJIN_NOT_GOOD = 19           /* write: a reader would not call the header good */
+    CHODULJIN_NOT_GOOD = 19,          /* write: a reader would not call the header good */
+    CHODULJIN_BAD_VOLUMES = 20,       /* build: a volume field is not 11 to 137 bytes, there are more than the table has
+                                         records, or the table that they make is not good */
+    CHODULJIN_BAD_CONTENT = 21        /* build: there is not one length for each volume, they do not sum to that of the
+                                         content, or one is more than its volume holds */
 };
 
 /* Answers of this library's own. */
@@ -277,8 +282,38 @@ enum {
 uint32_t choduljin_next_write(const uint64_t *plan, size_t plan_length, const uint8_t *image, size_t image_length,
     uint64_t *write, size_t write_length);
 
-/* The library's version, a byte for each number: 0x000A00 for 0.10.0. */
-#define CHODULJIN_VERSION 0x000A00u
+/* Building ------------------------------------------------------------------------------------------------------------
+ * An image from a list of volumes and their contents, as a production line writes it to erased chips.
+ *
+ * slip: the first 17 bytes of attaching's slip, then a field for each volume, volume 0 first, then 00 00 00. A volume's
+ * field is 10 (tag 16), the length of its value in 2 bytes, 11 to 137, and the value; numbers are big-endian:
+ *   4 bytes   reserved: the PEBs of the volume, at least 1; all volumes together at most the PEB count less 2
+ *   4 bytes   alignment: 1, or a multiple of the unit up to the LEB size
+ *   1 byte    type: 1 dynamic, 2 static
+ *   1 byte    flags: 0, 1 autoresize (one volume at most), 2 skip the CRC of a static volume, or 3
+ *   the rest  name: 1 to 127 bytes, none of them 0, and no two volumes have the same
+ * There are at most as many fields as the table has records: LEB size / 172, at most 128. There may be none.
+ * image_seq: the image sequence of every EC header, any number.
+ * lengths: one for each volume, the number of bytes of its content, 0 for none. content: the contents, one after
+ * another. A LEB of a volume holds LEB size - pad bytes, the room, with pad = LEB size mod alignment; a volume holds
+ * reserved times its room.
+ * image: any number of bytes; what is in them does not matter.
+ *
+ * The image is filled from PEB 0 up: LEBs 0 and 1 of the layout volume, with the same table; then the LEBs of volume 0,
+ * those of volume 1, .. as far as the content goes, each with a room's bytes of it, the last of a volume with what is
+ * left; then PEBs with an EC header alone. All erase counters are 0, the sequence in a VID header is the PEB's number
+ * plus 1, copy flags and update markers are 0, and bytes that are neither header nor table nor content are 0xFF.
+ * Attached with the slip less its volume fields (20 bytes) the image has grade 0, and the LEBs of a volume, one after
+ * another, hold the content that was given, padded with 0xFF if the volume is dynamic.
+ *
+ * Answer: 0 (all bytes of the image are stored), or the refusal's number, 1, 2, 3, 20 or 21, judged in this order.
+ * Refused, it changes nothing. */
+uint32_t choduljin_build(const uint8_t *slip, size_t slip_length, uint32_t image_seq,
+    const uint32_t *lengths, size_t lengths_length, const uint8_t *content, size_t content_length,
+    uint8_t *image, size_t image_length);
+
+/* The library's version, a byte for each number: 0x000B00 for 0.11.0. */
+#define CHODULJIN_VERSION 0x000B00u
 
 uint32_t choduljin_version(void);
 

@@ -7,6 +7,7 @@ them.
 """
 
 import re
+from itertools import groupby
 
 import attach
 import listing
@@ -236,12 +237,7 @@ def attach_parts(fields):
 
 def words_in_runs(words):
     """A word, or word*count for more than one equal in a row."""
-    runs = []
-    for word in words:
-        if runs and runs[-1][0] == word:
-            runs[-1][1] += 1
-        else:
-            runs.append([word, 1])
+    runs = [(word, len(list(run))) for word, run in groupby(words)]
     return ["%d*%d" % (word, count) if count > 1 else str(word)
             for word, count in runs]
 

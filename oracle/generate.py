@@ -14,12 +14,14 @@ HERE = os.path.dirname(os.path.abspath(__file__))
 sys.path.insert(0, HERE)
 
 import attach  # noqa: E402
+import builder  # noqa: E402
 import listing  # noqa: E402
 import mover  # noqa: E402
 import samples  # noqa: E402
 import ubi  # noqa: E402
 from cases import together  # noqa: E402
 from cases_attach import attach_cases  # noqa: E402
+from cases_builder import builder_cases  # noqa: E402
 from cases_crc import crc_cases  # noqa: E402
 from cases_header import header_cases  # noqa: E402
 from cases_listing import listing_cases  # noqa: E402
@@ -37,9 +39,9 @@ def media_cases():
 
 
 # For each test program: its cases, the bytes its input stays below, and how
-# many cases there are of each kind of answer; an answer of test_attach or
-# test_listing is of several kinds, and of test_mover each operation is
-# counted. The numbers stand here so that a generator that loses a case does
+# many cases there are of each kind of answer; an answer of test_attach,
+# test_listing or test_builder is of several kinds, and of test_mover each
+# operation is counted. The numbers stand here so that a generator that loses a case does
 # not go unseen; who adds cases counts them again.
 PROGRAMS = (
     ("test_media", media_cases, 4000000, {
@@ -194,6 +196,28 @@ PROGRAMS = (
         "run on": 395,
         "run refused 18": 720,
     }),
+    ("test_builder", builder_cases, 4000000, {
+        "all PEBs reserved": 294,
+        "all records": 63,
+        "built": 1377,
+        "dynamic": 785,
+        "dynamic above one LEB": 337,
+        "dynamic empty": 113,
+        "dynamic full": 126,
+        "dynamic padded": 218,
+        "no volume": 86,
+        "refused 1": 684,
+        "refused 2": 191,
+        "refused 20": 623,
+        "refused 21": 261,
+        "refused 3": 166,
+        "static": 712,
+        "static above one LEB": 334,
+        "static empty": 93,
+        "static full": 124,
+        "static padded": 215,
+        "volumes": 1291,
+    }),
 )
 
 
@@ -215,6 +239,10 @@ def self_check(name, cases, limit, expected):
     elif name == "test_mover":
         # The image's checksum once for each operation.
         assert stdout.count(b"image ") == sum(kinds.values())
+    elif name == "test_builder":
+        # Two lines of a case, and four more of an image built.
+        assert stdout.count(b"\n") == (
+            2 * len(cases.payloads) + 4 * kinds["built"])
     else:
         lines = LINES_OF_ANSWER.get(name, 1)
         assert stdout.count(b"\n") == lines * len(cases.payloads)
@@ -243,6 +271,7 @@ def generate():
     attach.self_test()
     listing.self_test()
     mover.self_test()
+    builder.self_test()
     samples.self_test()
     files = samples.sample_files()
     for name, make_cases, limit, expected in PROGRAMS:

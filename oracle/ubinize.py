@@ -116,24 +116,30 @@ def find_ubinize():
     return found and os.path.abspath(found)
 
 
+def section(number, kind, name, size, alignment, flags, has_content):
+    """The ini file's lines for one volume; its content stands in a file."""
+    lines = ["[section-%d]" % number, "mode=ubi"]
+    if has_content:
+        lines.append("image=content-%d" % number)
+    lines += ["vol_id=%d" % number, "vol_type=" + kind, "vol_name=" + name,
+              "vol_size=%d" % size, "vol_alignment=%d" % alignment]
+    if flags:
+        lines.append("vol_flags=" + flags)
+    return lines + [""]
+
+
 def write_ini(directory, wanted, leb_size):
     """The ini file, and beside it the content of each volume."""
     chance = Chance(801)
     lines = []
     for one in wanted.volumes:
-        lines += ["[section-%d]" % one.number, "mode=ubi"]
         if one.size:
-            lines.append("image=content-%d" % one.number)
             with open(os.path.join(directory, "content-%d" % one.number),
                       "wb") as content:
                 content.write(chance.bytes(one.size))
-        lines += ["vol_id=%d" % one.number, "vol_type=" + one.kind,
-                  "vol_name=" + one.name,
-                  "vol_size=%d" % (one.reserved * leb_size),
-                  "vol_alignment=%d" % one.alignment]
-        if one.flags:
-            lines.append("vol_flags=" + one.flags)
-        lines.append("")
+        lines += section(one.number, one.kind, one.name,
+                         one.reserved * leb_size, one.alignment, one.flags,
+                         one.size > 0)
     with open(os.path.join(directory, "volumes.ini"), "w") as ini:
         ini.write("\n".join(lines))
 
@@ -142,17 +148,24 @@ def make_image(ubinize, wanted, flash):
     """What ubinize writes: the layout volume's two PEBs and all content."""
     with tempfile.TemporaryDirectory() as directory:
         write_ini(directory, wanted, flash.leb_size)
-        command = [ubinize, "-o", "image", "-p", str(wanted.peb_size),
-                   "-m", str(wanted.unit), "-s", str(wanted.sub_unit),
-                   "-e", str(wanted.counter)] + wanted.options
-        made = subprocess.run(
-            command + ["volumes.ini"], cwd=directory, stdout=subprocess.PIPE,
-            stderr=subprocess.STDOUT)
-        if made.returncode != 0:
-            sys.exit("ubinize makes no image of %s:\n%s" % (
-                wanted, made.stdout.decode("utf-8", "replace")))
-        with open(os.path.join(directory, "image"), "rb") as image:
-            return image.read()
+        return image_in(directory, ubinize, flash,
+                        ["-e", str(wanted.counter)] + wanted.options)
+
+
+def image_in(directory, ubinize, flash, options):
+    """The image of the ini file that stands in the directory."""
+    command = [ubinize, "-o", "image", "-p", str(flash.peb_size),
+               "-m", str(flash.unit), "-s", str(flash.geometry.sub_unit)]
+    made = subprocess.run(
+        command + options + ["volumes.ini"], cwd=directory,
+        stdout=subprocess.PIPE, stderr=subprocess.STDOUT)
+    if made.returncode != 0:
+        with open(os.path.join(directory, "volumes.ini"), "rb") as ini:
+            sys.exit("ubinize makes no image of\n%s%s" % (
+                ini.read().decode("latin-1"),
+                made.stdout.decode("utf-8", "replace")))
+    with open(os.path.join(directory, "image"), "rb") as image:
+        return image.read()
 
 
 def peb_count(wanted, flash):

@@ -16,10 +16,12 @@ use Rattle.mover_rules.proofs.Steps.{mover-lawful}
 use Rattle.volume_record.specs.Record.{RecordVerdict}
 use Rattle.volume_record.specs.declared.VolumeRecord.{VolumeRecord}
 use Rattle.report.specs.Attach.{over}
+use Rattle.builder_rules.specs.Blocks.{BuildPlan}
+use Rattle.builder_rules.specs.Build.{withoutPlan}
 use Rattle.capi_words.specs.Lent.{fits}
 use Rattle.capi_words.specs.Structs.{recordWords, planWords, answerWords, planMost, planIn}
 use Rattle.capi_words.proofs.Back.{nexts-words}
-use Rattle.capi_answers.specs.Calls.{recordNumber, progressNumber, ifGood}
+use Rattle.capi_answers.specs.Calls.{numberOf, recordNumber, progressNumber, ifGood}
 use Rattle.capi.specs.Finish.{doneWords, finishedWords}
 
 -- what two results are of one value, they are of an equal one
@@ -102,3 +104,9 @@ pub finished-again : (p : Plan) (image : List ℕ)
 finished-again p image =
     let r = finish-again moverJob mover-lawful p image in
     (r.0, (r.1.0, λ j. doneWords (r .1 .0 j .answer) (r .1 .1 j)))
+
+-- ---- building: the plan is in no number
+
+pub plan-number : (x : Answer BuildPlan) → numberOf (withoutPlan x) ≡ numberOf x
+plan-number (given b) = refl
+plan-number (refused k p) = refl
