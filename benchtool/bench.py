@@ -43,10 +43,12 @@ class Bench:
         return read_dump(path, Way(page, self.spare, self.front, hashed), file)
 
     def slip_of(self, dump):
-        if self.front:
-            return dump.front
+        return dump.front if self.front else self.slip_with()
+
+    def slip_with(self, volumes=()):
+        """The slip of the command line's numbers, with the fields of volumes that are to be built."""
         try:
-            return slip(self.numbers)
+            return slip(self.numbers, volumes)
         except OverflowError:
             raise Trouble("no slip holds these numbers: the PEB size is below 2^32, unit and sub-unit below 2^16")
 

@@ -13,7 +13,7 @@ HELP_WIDTH = 78
 
 STATUSES = """\
 exit status:
-  0  attached with grade 0 (list, show, report), or done (probe, move, diff)
+  0  attached with grade 0 (list, show, report), or done (probe, move, diff, build)
   1  attached with grade 1
   2  refused: `refused N at P` is on standard output
   3  input or usage error, in the system's words on standard error
@@ -29,6 +29,7 @@ examples:
   ubibench report chip.bin --peb-size 128k --unit 2048 --blocks 1024 -o unit.html
   ubibench move chip.bin --peb-size 128k --unit 2048 --volume 0 --leb 3 --to 17 -o moved.bin
   ubibench diff chip.bin moved.bin --peb-size 128k --unit 2048
+  ubibench build chip.ini --peb-size 128k --unit 2048 --blocks 1024 -o chip.bin
 
 """
 
@@ -39,6 +40,29 @@ examples:
   ubibench move chip.bin --peb-size 128k --unit 2k --volume 0 --leb 3 --to 17 -o cut.bin --stop-after 4:100
 
 The last one is a drill: power is lost 100 bytes into the fifth step.
+
+"""
+
+BUILD_EXAMPLES = """\
+example of a CONFIG, with a section for each volume:
+  [boot]
+  mode=ubi
+  vol_id=0               ; 0, 1, 2, .. without a gap
+  vol_name=boot
+  vol_type=static        ; without this line, dynamic
+  image=boot.bin         ; the content; without this line, none
+  [files]
+  mode=ubi
+  vol_id=1
+  vol_name=files
+  image=files.ubifs
+  vol_size=40MiB         ; without this line, the size of the image
+  vol_alignment=1        ; this is the default
+  vol_flags=autoresize   ; or skip-check, for a static volume
+
+examples:
+  ubibench build chip.ini --peb-size 128k --unit 2k --sub-unit 512 --blocks 1024 -o chip.bin
+  ubibench build chip.ini --peb-size 64k --unit 1 --blocks 128 -o nor.bin --image-seq 0x1234
 
 """
 
@@ -73,17 +97,21 @@ def stop(word):
 
 # ---------------------------------------------------------------- arguments
 
-def add_geometry(parser, blocks=True):
-    group = parser.add_argument_group("the chip, from its data sheet")
-    group.add_argument("--peb-size", type=number, metavar="N", help="bytes of an erase block")
-    group.add_argument("--unit", type=number, metavar="N", help="bytes of a page")
-    group.add_argument("--sub-unit", type=number, metavar="N",
-                       help="bytes of the smallest piece of a page that can be written (the unit)")
+def add_geometry(parser):
+    group = add_numbers(parser)
     group.add_argument("--slip", action="store_true",
                        help="the dump has its slip in front, as ubilist reads it: take the numbers from there")
-    if blocks:
-        group.add_argument("--blocks", type=number, metavar="N",
-                           help="erase blocks of the chip; compared with what is there")
+    group.add_argument("--blocks", type=number, metavar="N",
+                       help="erase blocks of the chip; compared with what is there")
+
+
+def add_numbers(parser, wanted=False):
+    group = parser.add_argument_group("the chip, from its data sheet")
+    group.add_argument("--peb-size", type=number, metavar="N", required=wanted, help="bytes of an erase block")
+    group.add_argument("--unit", type=number, metavar="N", required=wanted, help="bytes of a page")
+    group.add_argument("--sub-unit", type=number, metavar="N",
+                       help="bytes of the smallest piece of a page that can be written (the unit)")
+    return group
 
 
 def add_spare(parser):
@@ -116,6 +144,7 @@ def make_parser():
     add_report(commands)
     add_move(commands)
     add_diff(commands)
+    add_build(commands)
     return parser
 
 
@@ -170,6 +199,19 @@ def add_diff(commands):
     add_spare(parser)
 
 
+def add_build(commands):
+    parser = add_command(commands, "build", run_build, "build a chip's image from a list of volumes",
+                         BUILD_EXAMPLES)
+    parser.add_argument("config", metavar="CONFIG", help="the volumes, as ubinize takes them")
+    group = add_numbers(parser, wanted=True)
+    group.add_argument("--blocks", type=number, metavar="N", required=True,
+                       help="erase blocks of the chip; the image has as many")
+    parser.add_argument("-o", "--output", required=True, metavar="IMAGE", help="the whole chip")
+    parser.add_argument("--image-seq", type=number, default=0, metavar="N",
+                        help="the image sequence in the header of every block (0)")
+    parser.set_defaults(slip=False)
+
+
 # ------------------------------------------------- commands, loaded on demand
 
 def run_list(arguments):
@@ -202,6 +244,11 @@ def run_diff(arguments):
     return diff.run(arguments)
 
 
+def run_build(arguments):
+    from benchtool import build
+    return build.run(arguments)
+
+
 def run_version():
     from benchtool import library
     put("%s %s\n" % (NAME, library.load().version()))
@@ -223,7 +270,7 @@ def answer(words):
         if arguments.version:
             return run_version()
         if arguments.command is None:
-            parser.error("a command is wanted: list, probe, show, report, move or diff")
+            parser.error("a command is wanted: list, probe, show, report, move, diff or build")
         return arguments.run(arguments)
     except Refused as refused:
         return refuse(refused)

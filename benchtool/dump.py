@@ -48,6 +48,19 @@ def read_dump(path, way=PLAIN, file=None):
         raise Trouble("%s: %s" % (name, os.strerror(errno.ENOMEM)))
 
 
+def read_into(view, name, file, before):
+    """All bytes of a plain file, straight into the view; as `before` says, there are as many."""
+    reader = Reader(name, file, PLAIN)
+    try:
+        with Progress("reading " + name, len(view)) as progress:
+            reader.fill_whole(view, progress)
+        if not reader.at_end():
+            raise reader.changed()
+        reader.unchanged(before)
+    except OSError as error:
+        raise of_system(name, error)
+
+
 def opened(path):
     if path == STANDARD_INPUT:
         return open(0, "rb", buffering=0, closefd=False)
@@ -117,13 +130,15 @@ class Reader:
         if self.way.spare:
             return self.stripped_file(wanted, progress)
         buffer = memory(wanted)
-        view = memoryview(buffer)
-        for at in range(0, wanted, PIECE):
-            size = min(PIECE, wanted - at)
+        self.fill_whole(memoryview(buffer)[:wanted], progress)
+        return Image(buffer, wanted)
+
+    def fill_whole(self, view, progress):
+        for at in range(0, len(view), PIECE):
+            size = min(PIECE, len(view) - at)
             if self.fill(view[at:at + size]) != size:
                 raise self.changed()
             progress.at(at)
-        return Image(buffer, wanted)
 
     def stripped_file(self, wanted, progress):
         self.whole_pages(wanted)

@@ -9,11 +9,11 @@ from benchtool.progress import Progress
 from benchtool.trouble import Trouble, of_system
 
 
-def refuse_output(path, output):
-    """The dump itself is never the copy; and what is no plain file is not replaced by one."""
+def refuse_output(path, output, instead=""):
+    """What is read is never written over; and what is no plain file is not replaced by one."""
     try:
         if path != STANDARD_INPUT and os.path.exists(output) and os.path.samefile(path, output):
-            raise Trouble("%s and %s are the same file: a move in the dump itself is --in-place" % (path, output))
+            raise Trouble("%s and %s are the same file%s" % (path, output, instead))
         if os.path.exists(output) and not os.path.isfile(output):
             raise Trouble("%s: %s" % (output, os.strerror(errno.EEXIST)) + ", and it is no plain file")
     except OSError as error:

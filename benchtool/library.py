@@ -42,6 +42,7 @@ FUNCTIONS = {
     "begin": SLICE * 5 + (WORD,) * 3 + SLICE,
     "step": SLICE * 2,
     "next_write": SLICE * 3,
+    "build": SLICE + (WORD,) + SLICE * 3,
     "geometry": (WORD,) * 3 + SLICE,
     "read_ec": SLICE * 2,
     "read_vid": SLICE + (WORD,) + SLICE,
@@ -161,6 +162,17 @@ class Library:
         if answer != DONE:
             raise self.refusal(answer, 0)
         return tuple(write)
+
+    # A new image
+
+    def build(self, slip, image_seq, lengths, content, image):
+        """Fills the image with the slip's volumes. If they are Refused, nothing is stored."""
+        counts = words32(len(lengths))
+        counts[:] = lengths
+        answer = self._build(*lent(slip), image_seq, *lent(counts), content.address, content.length,
+                             image.address, image.length)
+        if answer != DONE:
+            raise self.refusal(answer, 0)
 
     # Small pieces
 

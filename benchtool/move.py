@@ -32,7 +32,7 @@ def run(arguments):
     bench = Bench(arguments)
     if arguments.in_place:
         return in_place(bench, arguments)
-    refuse_output(arguments.dump, arguments.output)
+    refuse_output(arguments.dump, arguments.output, ": a move in the dump itself is --in-place")
     dump = bench.read(arguments.dump)
     job = begin(bench, dump, arguments)
     carry_out(job, Copied(dump.image), arguments.stop_after)

@@ -89,6 +89,14 @@ REFUSALS = {
          "The chip is at the end of its numbers. Hand it on."),
     18: ("The plan of the move does not fit the image any more.",
          "The dump changed during the move, or this program is at fault: report it with the dump."),
+    20: ("The volumes make no good table: there are more than it has records, a name is empty, too long or given "
+         "twice, an alignment does not fit, two volumes autoresize, or all together want more blocks than the chip "
+         "has, less the two of the table.",
+         "Compare the list of volumes with the chip. `ubibench build` looks for all of this first, and names section "
+         "and key; if you see this from it, report it with the configuration."),
+    21: ("The contents do not fit the volumes: there is not one for each, or one is longer than its volume.",
+         "Compare the length of each content with its volume's size. `ubibench build` looks for this first, and names "
+         "section and key; if you see this from it, report it with the configuration."),
 }
 
 GRADE_0 = "Nothing wrong was found"

@@ -29,6 +29,7 @@ FUNCTIONS = {
     "step": SLICE * 2,
     "finish": SLICE * 2,
     "next_write": SLICE * 3,
+    "build": SLICE + (WORD,) + SLICE * 3,
     "geometry": (WORD,) * 3 + SLICE,
     "read_ec": SLICE * 2,
     "read_vid": SLICE + (WORD,) + SLICE,

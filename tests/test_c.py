@@ -8,7 +8,9 @@ import subprocess
 import tempfile
 import unittest
 
-from support import bench_dump
+from support import Flash, bench_dump
+
+import builder
 
 ROOT = os.path.dirname(os.path.dirname(os.path.abspath(__file__)))
 BUILD = os.path.join(ROOT, "build")
@@ -71,6 +73,33 @@ class Example(Scratch):
         done = self.run_on(slip * 10, dump)
         self.assertEqual((done.returncode, done.stdout), (3, b""))
         self.assertNotEqual(done.stderr, b"")
+
+
+class BuildExample(Scratch):
+    """examples/build.c: 8 blocks for `boot`, 40 for `log`, image sequence 1, of 64 blocks."""
+
+    def run_on(self, content, image):
+        words = [os.path.join(BUILD, "build"), self.file("content", content), image]
+        return subprocess.run(words, stdout=subprocess.PIPE, stderr=subprocess.PIPE)
+
+    def test_writes_the_image(self):
+        flash, out = Flash(131072, 2048, 512), os.path.join(self.directory, "image")
+        slip = builder.slip_with(flash.slip, [builder.volume_field(8, kind=2, name=b"boot"),
+                                              builder.volume_field(40, flags=1)])
+        for content in (b"", b"boot", bytes(range(256)) * (8 * flash.leb_size // 256)):
+            done = self.run_on(content, out)
+            self.assertEqual((done.returncode, done.stdout, done.stderr), (0, b"", b""))
+            given = slip, 1, [len(content), 0], content, bytes(64 * 131072)
+            self.assertEqual((builder.BUILT, read(out)), builder.build(*given))
+
+    def test_prints_a_refusal(self):
+        out = os.path.join(self.directory, "image")
+        done = self.run_on(bytes(8 * 129024 + 1), out)
+        self.assertEqual((done.returncode, done.stdout), (2, b"refused 21 at 0\n"))
+        self.assertFalse(os.path.exists(out))
+        done = self.run_on(b"boot", os.path.join(self.directory, "none", "image"))
+        self.assertEqual((done.returncode, done.stdout), (3, b""))
+        self.assertIn(b"No such file or directory", done.stderr)
 
 
 # How many words each struct has, and where a plan's parts stand.
@@ -174,7 +203,7 @@ class Exports(unittest.TestCase):
         declared = set(re.findall(r"^uint32_t (choduljin_\w+)\(", read("include", "choduljin.h").decode(), re.M))
         lines = subprocess.run(["nm", "-D", "--defined-only", LIBRARY], check=True, stdout=subprocess.PIPE).stdout
         self.assertEqual({line.split()[-1].split("@")[0] for line in lines.decode().splitlines()}, declared)
-        self.assertEqual(len(declared), 13)
+        self.assertEqual(len(declared), 14)
 
     def test_needs_the_c_library_alone(self):
         shown = subprocess.run(["readelf", "-d", LIBRARY], check=True, stdout=subprocess.PIPE).stdout.decode()

@@ -49,13 +49,13 @@ class Usage(Case):
                       ("list", dump, "--slip", "--unit", "1"),
                       ("report", dump) + BENCH_OPTIONS,
                       ("move", dump, "--volume", "0", "--leb", "0", "--to", "3") + BENCH_OPTIONS,
-                      ("diff", dump) + BENCH_OPTIONS):
+                      ("diff", dump) + BENCH_OPTIONS, ("build", dump) + BENCH_OPTIONS):
             done = run(*words)
             self.ends(done, cli.TROUBLE, b"")
             self.assertIn(b"ubibench", done.stderr)
 
     def test_help_is_0_with_examples(self):
-        for words in (("--help",), ("list", "--help"), ("move", "--help")):
+        for words in (("--help",), ("list", "--help"), ("move", "--help"), ("build", "--help")):
             done = run(*words)
             self.ends(done, 0)
             self.assertIn(b"exit status", done.stdout)

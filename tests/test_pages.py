@@ -212,9 +212,10 @@ class Words(unittest.TestCase):
 
     def test_refusals(self):
         table = self.table("Refusals")
-        for number in (5, 7, 8, 9, 10, 11, 12):
+        for number in (5, 7, 8, 9, 10, 11, 12, 20, 21):
             self.assertEqual(table[number], words.REFUSALS[number], number)
-        self.assertEqual(sorted(words.REFUSALS), list(range(1, 19)))
+        # 19 is of writing a header, which no command does.
+        self.assertEqual(sorted(words.REFUSALS), list(range(1, 19)) + [20, 21])
 
 
 if __name__ == "__main__":
