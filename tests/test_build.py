@@ -570,6 +570,15 @@ class Function(unittest.TestCase):
             given = slip, 9, lengths, bytes(range(256)) * (size // 256) + b"x" * (size % 256)
             self.assertEqual(self.compare(*given, b"\xa5" * 8192), number, (fields, lengths))
 
+    def test_128_volumes_and_one_more(self):
+        """A LEB of 31,744 bytes would hold 184 records, and a table has 128."""
+        flash = Flash(32768, 512, 512)
+        for volumes, blocks, number in ((128, 130, 0), (128, 129, 20), (129, 131, 20), (129, 140, 20)):
+            fields = [builder.volume_field(1, name=b"v%d" % at) for at in range(volumes)]
+            given = builder.slip_with(flash.slip, fields), 3, [1] * volumes, b"x" * volumes
+            image = b"\xa5" * (blocks * flash.peb_size)
+            self.assertEqual(self.compare(*given, image), number, (volumes, blocks))
+
     def test_no_volumes(self):
         self.assertEqual(self.compare(SMALL.slip, 5, [], b"", b"\0" * 2048), 0)
         self.assertEqual(self.compare(SMALL.slip, 5, [0], b"", b"\0" * 2048), 21)
