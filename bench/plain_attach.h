@@ -1,5 +1,6 @@
-/* Attaching in plain C with zlib's CRC, from the rules document alone: a second implementation, which the benchmark
-   times and the fuzzers compare the library with. Whoever changes it keeps to the rules, away from the proved code. */
+/* Attaching in plain C with zlib's CRC, from the rules document and its change requests alone: a second
+   implementation, which the benchmark times and the fuzzers compare the library with. Whoever changes it keeps to the
+   rules, away from the proved code. */
 #ifndef PLAIN_ATTACH_H
 #define PLAIN_ATTACH_H
 #include <stddef.h>
@@ -30,7 +31,7 @@ struct copy {
     uint64_t sequence;
 };
 
-/* with a refusal, its place and nothing else; image_seq is 0 if no EC header is good */
+/* with a refusal, its place and nothing else; image_seq is the first nonzero one in good EC headers, 0 if none is */
 struct report {
     uint32_t refusal, place, peb_count, entries, mean, image_seq, read_only, table, copies_mark, grade;
     uint64_t highest;

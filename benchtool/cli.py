@@ -208,7 +208,7 @@ def add_build(commands):
                        help="erase blocks of the chip; the image has as many")
     parser.add_argument("-o", "--output", required=True, metavar="IMAGE", help="the whole chip")
     parser.add_argument("--image-seq", type=number, default=0, metavar="N",
-                        help="the image sequence in the header of every block (0)")
+                        help="the image sequence in the header of every block (0, which names no image)")
     parser.set_defaults(slip=False)
 
 

@@ -96,8 +96,8 @@ def lengths(before, after):
 
 
 def numbers(before, after):
-    """The first line of the listing, number by number."""
-    for name in ("entries", "mean", "highest", "read_only", "table", "copies_mark", "grade"):
+    """The first line of the listing, number by number, and the image sequence, which a stopped move may lose."""
+    for name in ("entries", "mean", "highest", "image_seq", "read_only", "table", "copies_mark", "grade"):
         if before.report[name] != after.report[name]:
             yield "%s %d -> %d" % (name, before.report[name], after.report[name])
 

@@ -177,7 +177,7 @@ class Page:
         yield "Blocks", "%s (%s)" % (grouped(chip.peb_count), told)
         yield "In a block", "VID header from byte %d, data from byte %d on, LEB of %s bytes" % (
             chip.vid_start, chip.data_start, grouped(chip.leb_size))
-        yield "Image sequence", str(chip.image_seq)
+        yield "Image sequence", str(chip.image_seq) if chip.image_seq else "0: no block names its image"
         yield "Highest sequence", grouped(chip.highest)
         yield "Volume table", "copy %d was used; copies %d: %s" % (
             chip.table, chip.copies_mark, words.COPIES[chip.copies_mark])

@@ -61,8 +61,10 @@ REFUSALS = {
     6: ("Block `P` says that its second header or its data start elsewhere than the numbers of unit and sub-unit say.",
         "If `P` is the first written block, unit or sub-unit is wrong: `ubibench probe` says which fit. If not, the "
         "block is from elsewhere: dump again."),
-    7: ("Block `P` was written as part of another image than the first good block.",
-        "Were two dumps mixed, or was the chip written anew without being erased? Is `P` a bad block? Dump again."),
+    7: ("Block `P` was written as part of another image than the first block that names one.",
+        "Were two dumps mixed, or was the chip written anew without being erased? Is `P` or that first block a bad "
+        "block? Dump again. Bytes 24 to 27 of a block name its image; 0, as older units wrote it, names none and is "
+        "not refused."),
     8: ("Block `P` belongs to software that forbids anyone who does not know it to use the chip.",
         "List it with that software."),
     9: ("Block `P` claims the same part of a volume with the same sequence number as an earlier block.",

@@ -5,7 +5,8 @@
 
 #include <string.h>
 
-enum { MOST_BLOCKS = 12, MOST_VOLUMES = 3, MOST_LEBS = 4, NAME_AT = 16, FLAGS_AT = 144 };
+enum { MOST_BLOCKS = 12, MOST_VOLUMES = 3, MOST_LEBS = 4, SEQ_AT = 24, NAME_AT = 16, FLAGS_AT = 144 };
+enum { SEQ = 0x5EED0001 };
 
 /* ---- Chance ---- */
 
@@ -81,13 +82,13 @@ static void mend_record(uint8_t *record)
     put(record + RECORD_CRC, 4, plain_crc(record, RECORD_CRC));
 }
 
-/* that of the first good EC header */
+/* that of the first good EC header which has one; a new one if none has */
 static uint32_t image_seq(const struct chip *c)
 {
     for (uint32_t peb = 0; peb < c->n; peb++)
-        if (plain_judge_ec(block(c, peb)) == GOOD)
-            return be32(block(c, peb) + 24);
-    return 0x5EED0001;
+        if (plain_judge_ec(block(c, peb)) == GOOD && be32(block(c, peb) + SEQ_AT) != 0)
+            return be32(block(c, peb) + SEQ_AT);
+    return SEQ;
 }
 
 static void put_ec(const struct chip *c, uint8_t *ec, uint32_t seq)
@@ -97,7 +98,7 @@ static void put_ec(const struct chip *c, uint8_t *ec, uint32_t seq)
     put(ec + 8, 8, one_in(40) ? MOST_NUMBER - below(2) : below(1000));
     put(ec + 16, 4, c->g.vid_start);
     put(ec + 20, 4, c->g.data_start);
-    put(ec + 24, 4, seq);
+    put(ec + SEQ_AT, 4, seq);
     mend_header(ec);
 }
 
@@ -214,7 +215,7 @@ static uint8_t *next_block(struct chip *c, uint32_t *taken, uint32_t left)
     if (*taken + left >= c->n)
         return NULL;
     uint8_t *peb = block(c, (*taken)++);
-    put_ec(c, peb, 0x5EED0001);
+    put_ec(c, peb, SEQ);
     return peb;
 }
 
@@ -250,6 +251,28 @@ static void swap_blocks(struct chip *c)
         a[i] = b[i];
         b[i] = kept;
     }
+}
+
+/* good EC headers of units older than the image sequence: none of them, half, nearly all or all */
+static void older_ec(struct chip *c)
+{
+    static const uint8_t of_8[] = { 0, 4, 7, 8 };
+    uint32_t share = of_8[below(4)];
+    for (uint32_t peb = 0; peb < c->n; peb++)
+        if (below(8) < share && plain_judge_ec(block(c, peb)) == GOOD) {
+            put(block(c, peb) + SEQ_AT, 4, 0);
+            mend_header(block(c, peb));
+        }
+}
+
+/* another image sequence in one EC header: refusal 7, if another header has one */
+static void other_seq(struct chip *c)
+{
+    uint8_t *ec = some_block(c);
+    if (plain_judge_ec(ec) != GOOD)
+        return;
+    put(ec + SEQ_AT, 4, one_in(2) ? 1 + below(3) : image_seq(c) ^ 1u << below(32));
+    mend_header(ec);
 }
 
 static struct geometry some_geometry(size_t room)
@@ -288,6 +311,9 @@ size_t chip_make(uint8_t *dump, size_t room)
         next_block(&c, &taken, 0);
     for (uint32_t k = 0; k < c.n; k++)
         swap_blocks(&c);
+    older_ec(&c);
+    if (one_in(16))
+        other_seq(&c);
     return SLIP + c.size;
 }
 
@@ -421,14 +447,14 @@ static void fresh_user(struct chip *c)
 
 static void fresh_ec(struct chip *c)
 {
-    put_ec(c, some_block(c), image_seq(c));
+    put_ec(c, some_block(c), one_in(3) ? 0 : image_seq(c));
 }
 
 static void all_ec(struct chip *c)
 {
     uint32_t seq = image_seq(c);
     for (uint32_t peb = 0; peb < c->n; peb++)
-        put_ec(c, block(c, peb), seq);
+        put_ec(c, block(c, peb), one_in(4) ? 0 : seq);
 }
 
 /* the same record into all layout blocks, or only into one */
@@ -603,7 +629,7 @@ static void add_block(struct chip *c)
     uint8_t *peb = block(c, c->n);
     memset(peb, 0xFF, c->g.peb_size);
     if (!one_in(4))
-        put_ec(c, peb, image_seq(c));
+        put_ec(c, peb, one_in(3) ? 0 : image_seq(c));
     c->size += c->g.peb_size;
     c->n++;
 }
@@ -639,7 +665,7 @@ static void (*const changes_known[])(struct chip *) = {
     fresh_user,    fresh_user,   fresh_ec,     all_ec,       fresh_table, fresh_layout, one_table,   fresh_record,
     change_record, change_record, swap_blocks, double_block, newer_copy,  newer_copy,   tear,        erase,
     flip,          header_byte,  data_byte,    data_byte,    add_block,   add_block,    remove_block, change_slip,
-    change_length,
+    change_length, older_ec,     other_seq,
 };
 
 /* is it a slip of blocks of which an input can have a few? */

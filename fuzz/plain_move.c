@@ -83,6 +83,7 @@ static void put_vid(struct plan *p, const struct copy *c, const uint8_t *data, u
     put(p->vid + HEADER_CRC, 4, plain_crc(p->vid, HEADER_CRC));
 }
 
+/* the image sequence is the one that refusal 7 compares with, 0 if there is none */
 static void put_ec(struct plan *p, uint32_t counter, uint32_t image_seq)
 {
     memcpy(p->ec, "UBI#\1", 5);

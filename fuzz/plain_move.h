@@ -1,5 +1,5 @@
-/* Moving a block in plain C, from the rules document alone: the beginning, the write of each step, what a stop leaves,
-   and demand 3's premise on a stopped image. */
+/* Moving a block in plain C, from the rules document and its change requests alone: the beginning, the write of each
+   step, what a stop leaves, and demand 3's premise on a stopped image. */
 #ifndef PLAIN_MOVE_H
 #define PLAIN_MOVE_H
 #include "../bench/plain_attach.h"

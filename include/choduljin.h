@@ -41,7 +41,7 @@ enum {
     CHODULJIN_SHORT_BUFFER = 4,       /* something lent is too short */
     CHODULJIN_NEWER_HEADER = 5,       /* a header with magic and CRC right has a version above 1 */
     CHODULJIN_OTHER_STARTS = 6,       /* a good EC header names another VID start or data start than the geometry */
-    CHODULJIN_OTHER_IMAGE_SEQ = 7,    /* a good EC header is of another image than the first good one */
+    CHODULJIN_OTHER_IMAGE_SEQ = 7,    /* a good EC header is of another image than the first that names one */
     CHODULJIN_UNKNOWN_INTERNAL = 8,   /* a block of an unknown internal volume that forbids any use of the chip */
     CHODULJIN_REPEATED_SEQUENCE = 9,  /* two good VID headers of one user or layout LEB share a sequence */
     CHODULJIN_EMPTY_IMAGE = 10,       /* every PEB is free or blank */
@@ -97,7 +97,7 @@ enum {
     CHODULJIN_REPORT_ENTRIES,     /* entries of the map */
     CHODULJIN_REPORT_MEAN,        /* mean of the erase counters that are not lost, rounded down; 0 if all are */
     CHODULJIN_REPORT_HIGHEST,     /* highest sequence number */
-    CHODULJIN_REPORT_IMAGE_SEQ,   /* image sequence of the first good EC header; 0 if there is none */
+    CHODULJIN_REPORT_IMAGE_SEQ,   /* first image sequence other than 0 of a good EC header; 0 if there is none */
     CHODULJIN_REPORT_READ_ONLY,   /* 1 if a block asks that nothing be written to the chip, else 0 */
     CHODULJIN_REPORT_TABLE,       /* which copy of the volume table was taken, 0 or 1 */
     CHODULJIN_REPORT_COPIES_MARK, /* 0: both copies are good and equal; 1: one is missing or bad; 2: they differ */
@@ -293,7 +293,7 @@ uint32_t choduljin_next_write(const uint64_t *plan, size_t plan_length, const ui
  *   1 byte    flags: 0, 1 autoresize (one volume at most), 2 skip the CRC of a static volume, or 3
  *   the rest  name: 1 to 127 bytes, none of them 0, and no two volumes have the same
  * There are at most as many fields as the table has records: LEB size / 172, at most 128. There may be none.
- * image_seq: the image sequence of every EC header, any number.
+ * image_seq: the image sequence of every EC header, any number; 0 says nothing of which image a block is.
  * lengths: one for each volume, the number of bytes of its content, 0 for none. content: the contents, one after
  * another. A LEB of a volume holds LEB size - pad bytes, the room, with pad = LEB size mod alignment; a volume holds
  * reserved times its room.
@@ -312,8 +312,8 @@ uint32_t choduljin_build(const uint8_t *slip, size_t slip_length, uint32_t image
     const uint32_t *lengths, size_t lengths_length, const uint8_t *content, size_t content_length,
     uint8_t *image, size_t image_length);
 
-/* The library's version, a byte for each number: 0x000B00 for 0.11.0. */
-#define CHODULJIN_VERSION 0x000B00u
+/* The library's version, a byte for each number: 0x000C00 for 0.12.0. */
+#define CHODULJIN_VERSION 0x000C00u
 
 uint32_t choduljin_version(void);
 

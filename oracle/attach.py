@@ -1,9 +1,10 @@
 """Attaching: from slip and image to the report, a second reading of 01.
 
-Like `ubi.py` it is written from 01 alone. `attach` is the whole call, with
-what it leaves in the lent tables; the steps behind it stand in 01's order of
-checking. The headings in quotes are 01's own; "decided" marks a reading of a
-point that 01 leaves open.
+Like `ubi.py` it is written from the documents alone: 01, and of 02 the
+request 2026-02. `attach` is the whole call, with what it leaves in the lent
+tables; the steps behind it stand in 01's order of checking. The headings in
+quotes are 01's own; "decided" marks a reading of a point that both leave
+open.
 """
 
 from collections import namedtuple
@@ -121,7 +122,6 @@ def report_of(image, geometry):
 def read_pebs(image, geometry):
     """Both headers of every PEB, judged in the order 01 gives."""
     pebs = []
-    lowest_good_ec = None
     for number in range(len(image) // geometry.peb_size):
         at = number * geometry.peb_size
         block = image[at:at + geometry.peb_size]
@@ -136,9 +136,10 @@ def read_pebs(image, geometry):
             if (ec.vid_start != geometry.vid_start
                     or ec.data_start != geometry.data_start):
                 raise Refused(OTHER_STARTS, number)
-            if lowest_good_ec is None:
-                lowest_good_ec = ec
-            if ec.image_sequence != lowest_good_ec.image_sequence:
+            # Compared with the lower PEBs; if none of them has one, this is
+            # the lowest.
+            named = image_sequence_of(pebs) if ec.image_sequence else 0
+            if named and ec.image_sequence != named:
                 raise Refused(OTHER_IMAGE_SEQUENCE, number)
 
         # Decided: the VID header is judged whatever the EC header is.
@@ -152,6 +153,18 @@ def read_pebs(image, geometry):
             raise Refused(UNKNOWN_VOLUME, number)
         pebs.append(peb)
     return pebs
+
+
+def image_sequence_of(pebs):
+    """2026-02: "that of the lowest PEB that has one", or zero.
+
+    "A zero says nothing". Decided: nor does a lost EC header; and there may
+    be none though EC headers are good.
+    """
+    for peb in pebs:
+        if peb.ec is not None and peb.ec.image_sequence != 0:
+            return peb.ec.image_sequence
+    return 0
 
 
 def is_erased(data):
@@ -399,6 +412,25 @@ def self_test():
                                  (copy(7, 0, True), copy(8, 1, True), 8)):
         assert choose_copy([older, newer]).vid.sequence == wanted
         assert choose_copy([newer, older]).vid.sequence == wanted
+
+    # The bench image has no image sequence; one that differs from none is
+    # no refusal, the next one may be.
+    geometry = ubi.geometry_from_slip(slip)
+    assert image_sequence_of(read_pebs(image, geometry)) == 0
+    for numbers, named, place in (
+            ((0, 0, 0, 0), 0, None), ((0, 0, 0, 9), 9, None),
+            ((0, 7, 0, 7), 7, None), ((0, 7, 0, 9), 7, 3),
+            ((9, 7, 0, 9), 9, 1), ((9, 0, 9, 0), 9, None)):
+        other = image
+        for number, sequence in enumerate(numbers):
+            ec = ubi.EcHeader(1, 5, 64, 128, sequence)
+            other = (other[:1024 * number] + ubi.ec_header_bytes(ec)
+                     + other[1024 * number + 64:])
+        try:
+            pebs = read_pebs(other, geometry)
+            assert place is None and image_sequence_of(pebs) == named
+        except Refused as refused:
+            assert (refused.number, refused.place) == (7, place)
 
     counters = [ubi.EcHeader(1, counter, 64, 128, 0) for counter in (3, 5, 9)]
     assert mean_counter([Peb(0, ec, False, None, True, b"")

@@ -24,6 +24,10 @@ class Chance:
         self.state = x
         return x * 0x2545F4914F6CDD1D & self.MASK
 
+    def apart(self):
+        """Another generator; what it gives leaves what comes next here."""
+        return Chance(self.state)
+
     def below(self, limit):
         return (self.next() >> 16) % limit
 

@@ -5,9 +5,13 @@ Nothing is expected of them by hand; they look for what nobody thought of.
 
 import ubi
 from cases import Chance, changed
-from images import BLANK, LAYOUT, Block, Flash, ec_with, vid_with, ways_to_lose
+from images import (BLANK, IMAGE_SEQUENCE, LAYOUT, Block, Flash, ec_with,
+                    vid_with, ways_to_lose, with_image_seqs)
 
 U64 = 2 ** 64 - 1
+
+# Image sequences unlike the one that blocks are made with.
+OTHER_SEQUENCES = (1, 0x80000000, 0xFFFFFFFF, IMAGE_SEQUENCE ^ 1)
 
 # Mostly short tables, to keep the cases short.
 GEOMETRIES = ((1024, 512, 64),) * 12 + (
@@ -54,12 +58,36 @@ def random_blocks(flash, chance, count=None, sequences=None):
         # Two blocks of one LEB and sequence, perhaps.
         number = chance.below(count)
         blocks[number] = chance.pick(blocks)
+    apart = chance.apart()
+    blocks = with_zeroes(apart, blocks)
+    if apart.below(12) == 0:
+        # Refusal 7, if there are two that have one.
+        at = apart.below(count)
+        blocks[at:at + 1] = with_image_seqs(
+            blocks[at:at + 1], [apart.pick(OTHER_SEQUENCES)])
     for number in range(count):
         if chance.below(25) == 0 and blocks[number] != BLANK:
-            ways = ways_to_lose(flash.ec())
+            ways = ways_to_lose(flash.ec(
+                image_sequence=apart.pick((0, IMAGE_SEQUENCE, 1))))
             blocks[number] = blocks[number]._replace(
                 ec=ways[chance.pick(sorted(ways))])
     return chance.shuffled(blocks)
+
+
+def with_zeroes(chance, blocks):
+    """Image sequence zero in no EC header, some, all but one, or all."""
+    lot = chance.below(8)
+    kept = [True] * len(blocks)
+    if lot < 3:
+        share = chance.pick((2, 2, 4))
+        kept = [chance.below(share) == 0 for _ in blocks]
+    elif lot == 3:
+        only = chance.below(len(blocks))
+        kept = [number == only for number in range(len(blocks))]
+    elif lot == 4:
+        kept = [False] * len(blocks)
+    return with_image_seqs(
+        blocks, [IMAGE_SEQUENCE if one else 0 for one in kept])
 
 
 def random_sequences(chance):
@@ -213,7 +241,8 @@ def other_field(flash, chance, block):
         "used_lebs": [0, 1, 2, 3, 4], "data_pad": [0, 1, flash.leb_size // 2],
         "data_crc": [0, 1], "sequence": [0, 1, 2, 3, 2 ** 32, U64],
         "counter": [0, 0x7FFFFFFF, 0x80000000], "vid_start": [0, 64],
-        "data_start": [128, 512], "image_sequence": [0],
+        "data_start": [128, 512],
+        "image_sequence": (0, IMAGE_SEQUENCE) + OTHER_SEQUENCES,
     }
     if isinstance(block.vid, ubi.VidHeader) and chance.below(5):
         field = chance.pick(ubi.VidHeader._fields)

@@ -1,12 +1,12 @@
 """Cases for attaching: the refusals, their order and their places."""
 
-from itertools import permutations
+from itertools import permutations, product
 
 import ubi
 from cases import changed, cycle
 from cases_slip import slip
 from images import (BLANK, IMAGE_SEQUENCE, LAYOUT, Block, Flash, ec_with,
-                    vid_with)
+                    vid_with, ways_to_lose, with_image_seqs)
 
 U32 = 0xFFFFFFFF
 U64 = 2 ** 64 - 1
@@ -116,7 +116,7 @@ def add_lent_lengths(probes):
             probes.add(small, blocks, long, **want)
     for refusal, blocks in (
             (6, [small.free(vid_start=0)] + good),
-            (7, [small.free(image_sequence=0)] + good),
+            (7, [small.free(image_sequence=1)] + good),
             (8, [small.internal(5)] + good),
             (9, [small.dynamic(0, 0, 3)] + good),
             (11, [small.dynamic(0, 0, 4)] + good[2:]),
@@ -131,6 +131,10 @@ def add_lent_lengths(probes):
             short = list(needed)
             short[number] -= 1
             probes.add(small, blocks, tuple(short), refused=(4, 0))
+    # No image sequence in the first PEB: not refused.
+    blocks = [small.free(image_sequence=0)] + good
+    probes.add(small, blocks, (10, 15, 128), classes="01110", entries=3)
+    probes.add(small, blocks, (11, 17, 131), classes="01110", entries=3)
     # What is enough for fewer PEBs is not enough for more.
     for count in (2, 3, 4, 5, 9, 64, 200):
         blocks = small.with_tables([]) + [BLANK] * (count - 2)
@@ -329,7 +333,7 @@ def add_starts(probes):
 
 
 def add_image_sequences(probes):
-    """7: compared with the lowest PEB that has a good EC header."""
+    """7: nonzero ones compared with that of the lowest PEB that has one."""
     small = probes.small
     table = small.table()
 
@@ -350,8 +354,7 @@ def add_image_sequences(probes):
 
     for sequence in (0, 1, 7, 0x7FFFFFFF, 0x80000000, U32):
         judge([sequence] * 3, classes="100", copies=1)
-    for one, other in ((0, 1), (1, 0), (0, U32), (U32, 0), (1, 0x10001),
-                       (5, 0x05000000)):
+    for one, other in ((1, 2), (U32, 1), (1, 0x10001), (5, 0x05000000)):
         judge([one, other, other], refused=(7, 1))
         judge([one, one, other], refused=(7, 2))
         judge([one, other, one], refused=(7, 1))
@@ -360,29 +363,123 @@ def add_image_sequences(probes):
         judge([None, None, one, other], refused=(7, 3))
         judge([None, one, None, other], refused=(7, 3))
         # A lost header's sequence counts on neither side.
-        if other:
-            judge([-other, one, one], classes="100")
-            judge([one, -other, one], classes="140")
-            judge([one, one, -other], classes="104")
-            judge([one, one, -other, None], classes="1043")
-            judge([-other, one, other], refused=(7, 2))
-            judge([one, -other, other], refused=(7, 2))
+        judge([-other, one, one], classes="100")
+        judge([one, -other, one], classes="140")
+        judge([one, one, -other], classes="104")
+        judge([one, one, -other, None], classes="1043")
+        judge([-other, one, other], refused=(7, 2))
+        judge([one, -other, other], refused=(7, 2))
     judge([None, None, 5], classes="130")
     judge([5, None, None], classes="133")
     judge([None, None, None], classes="133", mean=0)
     judge([-1, -2, -3], classes="144", mean=0)
+    add_zeroes(judge)
+    add_lost_among_zeroes(probes)
+    add_zeroes_in_order(probes)
     # Of PEBs of any class.
-    other = small.ec(image_sequence=2)
+    other, zero = small.ec(image_sequence=2), small.ec(image_sequence=0)
     blocks = small.with_table([small.volume()]) + [BLANK]
-    for block in (small.dynamic(0, 0, 4), Block(b"", b"torn", b""),
-                  small.internal(1), small.internal(4),
-                  small.dynamic(9, 0, 4), small.layout(0, b"", 0)):
+    silent = with_image_seqs(blocks, [0, 0])
+    for block, klass in (
+            (small.dynamic(0, 0, 4), "1"), (Block(b"", b"torn", b""), "4"),
+            (small.internal(1), "5"), (small.internal(4), "6"),
+            (small.dynamic(9, 0, 4), "5"), (small.layout(0, b"", 0), "2")):
         block = block._replace(ec=other)
         probes.add(small, blocks + [block], refused=(7, 2))
         probes.add(small, [block] + blocks, refused=(7, 1))
+        # Zero in it, or in all but it.
+        probes.add(small, blocks + [block._replace(ec=zero)],
+                   classes="13" + klass)
+        probes.add(small, [block._replace(ec=zero)] + blocks,
+                   classes=klass + "13")
+        probes.add(small, silent + [block], classes="13" + klass)
+        probes.add(small, silent + [block, small.free()], refused=(7, 3))
     block = small.internal(5)._replace(ec=other)
     probes.add(small, blocks + [block], refused=(7, 2))
     probes.add(small, [block] + blocks, refused=(8, 0))
+    probes.add(small, silent + [block], refused=(8, 2))
+
+
+def add_zeroes(judge):
+    """A zero says nothing, at any place and beside any number."""
+    for one in (1, 0x80000000, U32):
+        for sequences in product((0, one), repeat=3):
+            judge(list(sequences), classes="100", copies=1)
+    for sequences in product((0, 7), repeat=4):
+        judge(list(sequences), classes="1000")
+    # Two that differ, with zeroes before, between and behind them.
+    pairs = cycle([(1, 2), (U32, 1), (0x80000000, U32), (7, 0x07000000),
+                   (1, 0x80000001)])
+    for places in product((0, 1, 2), repeat=4):
+        met = [number for number in places if number]
+        if 2 in met and met[0] == 1:
+            numbers = (0,) + next(pairs)
+            judge([numbers[number] for number in places],
+                  refused=(7, places.index(2)))
+    # Erased and lost ones among them.
+    judge([0, None, 5], classes="130")
+    judge([None, 0, 5, 0], classes="1000")
+    judge([0, -9, 0], classes="140")
+    judge([-9, 0, 5, 0], classes="1000")
+    judge([0, None, 5, 0, None, 6], refused=(7, 5))
+    judge([0, -6, 5, -6, 0, 6], refused=(7, 5))
+
+
+def add_lost_among_zeroes(probes):
+    """Whatever lost the EC header: its sequence says nothing."""
+    small = probes.small
+    ways = ways_to_lose(small.ec(image_sequence=9))
+    for way in ("CRC", "version 0", "counter 0x80000000", "torn at 60",
+                "magic of a VID header", "erased"):
+        lost = Block(ways[way], b"", b"")
+        klass = "3" if way == "erased" else "4"
+        first, second = small.with_table([]) + [small.free()]
+        # In front, where it would be the lowest.
+        for numbers in ((0, 0), (0, 5), (5, 0), (0, 9)):
+            blocks = with_image_seqs([first, second], numbers)
+            probes.add(small, [lost] + blocks, classes=klass + "10")
+        blocks = with_image_seqs([first, second, second], (0, 5, 9))
+        probes.add(small, [lost] + blocks, refused=(7, 3))
+        # Between and behind.
+        probes.add(small, [blocks[0], lost, blocks[1]],
+                   classes="1" + klass + "0")
+        probes.add(small, blocks[:2] + [lost], classes="10" + klass)
+
+
+def add_zeroes_in_order(probes):
+    """What else is judged does not look at the image sequence."""
+    small = probes.small
+    at = 4
+    for number, spoil in EC_FAULTS[:3] + VID_FAULTS:
+        # A zero among others, the first of all that has one, or none at all.
+        for own, others in ((0, IMAGE_SEQUENCE), (IMAGE_SEQUENCE, 0), (0, 0)):
+            blocks = with_image_seqs(
+                six_blocks(small), [others] * at + [own, others])
+            blocks[at] = spoil(small, blocks[at])
+            probes.add(small, blocks, refused=(number, at))
+    # All faults of an EC header at once, but that its sequence is zero.
+    blocks = six_blocks(small)
+    blocks[at] = ec_with(blocks[at], version=2, vid_start=9, image_sequence=0)
+    probes.add(small, blocks, refused=(5, at))
+    blocks[at] = ec_with(blocks[at], version=1)
+    probes.add(small, blocks, refused=(6, at))
+    # 7 behind zeroes comes before 8 of its own and of the next PEB.
+    for first in (3, 4):
+        blocks = with_image_seqs(six_blocks(small), [0, 1, 0, 2, 2, 0])
+        blocks[first] = blocks[first]._replace(vid=internal_vid(small))
+        probes.add(small, blocks, refused=(7, 3))
+    # Before it, 8 of a lower one.
+    blocks[2] = blocks[2]._replace(vid=internal_vid(small))
+    probes.add(small, blocks, refused=(8, 2))
+    # What is refused behind 7 still is.
+    for number, place, spoil in IMAGE_FAULTS:
+        blocks = with_image_seqs(six_blocks(small), [0, 1, 0, 1, 0, 0])
+        spoil(small, blocks)
+        probes.add(small, blocks, refused=(number, place))
+    free = [small.free() for _ in range(4)]
+    probes.add(small, with_image_seqs(free, [0, 1, 0, 1]), refused=(10, 0))
+    probes.add(small, with_image_seqs(free, [0, 1, 0, 2]), refused=(7, 3))
+    probes.add(small, with_image_seqs(free, [0] * 4), refused=(10, 0))
 
 
 def add_shared_sequences(probes):
@@ -661,6 +758,14 @@ def add_far_places(probes):
             spoilt = list(blocks)
             spoilt[last] = spoil(small, spoilt[last])
             probes.add(small, spoilt, refused=(number, last))
+        # The first PEB that has an image sequence is far away, too.
+        sparse = list(blocks)
+        for at in (0, last - 1, last):
+            sparse[at] = ec_with(sparse[at], image_sequence=0)
+        if count > 60:
+            probes.add(small, sparse, entries=3)
+        sparse[last] = ec_with(sparse[last], image_sequence=1)
+        probes.add(small, sparse, refused=(7, last))
         spoilt = list(blocks)
         spoilt[last - 2] = small.dynamic(0, 100, 6)
         probes.add(small, spoilt, refused=(9, last - 2))

@@ -12,7 +12,8 @@ from cases import Cases, Chance, changed, cycle
 from cases_attach_refused import IMAGE_FAULTS, PEB_FAULTS, six_blocks
 from cases_listing_random import random_dump
 from cases_slip import slip
-from images import BLANK, LAYOUT, Block, Flash, ec_with, ways_to_lose
+from images import (BLANK, LAYOUT, Block, Flash, ec_with, ways_to_lose,
+                    with_image_seqs)
 from listing import BENCH_LISTING, MOST_INPUT, SLIP_SIZE, listing
 
 U64 = 2 ** 64 - 1
@@ -443,6 +444,17 @@ def add_refusals(probes):
             # Another sequence in PEB 0 is the one that 1 differs from.
             place = 1 if number == 7 and at == 0 else at
             probes.refused(small.slip + small.image(blocks), number, place)
+    # An image sequence of zero says nothing.
+    for sequences, place in (
+            ((0, 0, 0, 0, 0, 0), None), ((0, 0, 5, 0, 5, 0), None),
+            ((5, 0, 0, 0, 0, 5), None), ((0, 0, 5, 0, 6, 6), 4),
+            ((0, 6, 5, 0, 6, 6), 2), ((5, 0, 0, 0, 0, 6), 5)):
+        blocks = with_image_seqs(six_blocks(small), sequences)
+        if place is None:
+            probes.add(small, blocks, "peb 5 0 %d" % blocks[5].ec.counter,
+                       "vol 0 1", "vol 1 1", entries=5)
+        else:
+            probes.refused(small.slip + small.image(blocks), 7, place)
     # 9 to 12; blank PEBs in front move the places.
     for front in (0, 1, 4, 8, 9, 53):
         for number, place, spoil in IMAGE_FAULTS:

@@ -6,7 +6,7 @@ import ubi
 from cases import changed
 from cases_slip import slip
 from images import (BLANK, LAYOUT, Block, Flash, ec_with, vid_with,
-                    ways_to_lose)
+                    ways_to_lose, with_image_seqs)
 
 U32 = 0xFFFFFFFF
 U64 = 2 ** 64 - 1
@@ -67,6 +67,7 @@ def faults_of_attaching(flash):
         (5, 1): put(1, lambda block: vid_with(block, version=9)),
         (6, 3): put(3, lambda block: ec_with(block, vid_start=128)),
         (7, 4): put(4, lambda block: ec_with(block, image_sequence=1)),
+        (7, 3): lambda blocks: with_image_seqs(blocks, [0, 0, 1, 2, 0]),
         (8, 3): put(3, lambda _: flash.internal(ubi.REJECT)),
         (9, 4): put(4, lambda _: flash.dynamic(0, 0, 3, b"twice")),
         (10, 0): lambda blocks: [BLANK] + [flash.free()] * 4,

@@ -7,8 +7,9 @@ import attach
 import mover
 import ubi
 from cases import changed
-from cases_attach_random import random_blocks, random_records
-from images import BLANK, Block, Flash, ec_with, ways_to_lose, with_header_crc
+from cases_attach_random import random_blocks, random_records, with_zeroes
+from images import (BLANK, IMAGE_SEQUENCE, Block, Flash, ec_with,
+                    ways_to_lose, with_header_crc, with_image_seqs)
 
 U32 = 0xFFFFFFFF
 U64 = 2 ** 64 - 1
@@ -53,6 +54,12 @@ def random_chip(chance):
                                      records[number], next(sequences)))
     while len(blocks) < count:
         blocks.append(other_block(flash, chance, sequences))
+    apart = chance.apart()
+    blocks = with_zeroes(apart, blocks)
+    if apart.below(16) == 0:
+        # Refusal 7, if there are two that have one.
+        at = apart.below(count)
+        blocks[at:at + 1] = with_image_seqs(blocks[at:at + 1], [1])
     blocks = [with_odd_header(flash, chance, block) for block in blocks]
     return flash, flash.image(chance.shuffled(blocks))
 
@@ -132,8 +139,9 @@ def with_odd_header(flash, chance, block):
     if block == BLANK:
         return block
     lot = chance.below(40)
-    ways = ways_to_lose(block.ec)
     if lot < 3:
+        ways = ways_to_lose(block.ec._replace(
+            image_sequence=chance.apart().pick((0, IMAGE_SEQUENCE, 1))))
         return block._replace(ec=ways[chance.pick(sorted(ways))])
     if lot < 6:
         return block._replace(ec=sleeping_ec(block.ec))

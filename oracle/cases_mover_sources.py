@@ -1,9 +1,11 @@
 """Cases for what a move copies: all sorts of blocks, gone on to the end."""
 
+from itertools import product
+
 import ubi
 from cases import changed, cycle
-from images import (BLANK, LAYOUT, Flash, ec_with, vid_with, ways_to_lose,
-                    with_header_crc)
+from images import (BLANK, LAYOUT, Block, Flash, ec_with, vid_with,
+                    ways_to_lose, with_header_crc, with_image_seqs)
 
 U32 = 0xFFFFFFFF
 
@@ -168,16 +170,36 @@ def add_odd_headers(moves):
 
 
 def add_image_sequences(moves):
-    """That of the lowest PEB with a good EC header."""
+    """That of the lowest PEB that has one, or zero if none has."""
     flash = moves.small
-    for number in (0, 1, 0x80000000, U32):
-        blocks = [ec_with(block, image_sequence=number)
-                  for block in one(flash, flash.dynamic(0, 0, 3))]
-        moves.moved(flash, blocks, (0, 0, 2), image_sequence=number)
-        # A lost one's does not count.
-        lost = ec_with(blocks[0], counter=0x80000000, image_sequence=77)
-        moves.moved(flash, [lost] + blocks[1:], (0, 0, 2),
-                    image_sequence=number)
+    blocks = one(flash, flash.dynamic(0, 0, 3))
+
+    def judge(blocks, sequences, move):
+        """Zeroes aside, they are one number."""
+        moves.moved(flash, with_image_seqs(blocks, sequences), move,
+                    image_sequence=max(sequences))
+
+    # In PEB 0, the old block and the target: zero, or a number.
+    for number in (1, 0x80000000, U32):
+        for sequences in product((0, number), repeat=3):
+            judge(blocks, sequences, (0, 0, 2))
+    # A lost one's does not count, of the old block neither.
+    ways = ways_to_lose(flash.ec(image_sequence=77))
+    for way in ("CRC", "version 0", "counter 0x80000000", "erased"):
+        for at, sequences in ((0, (0, 0, 0)), (0, (0, 0, 5)), (0, (0, 5, 0)),
+                              (1, (0, 0, 0)), (1, (0, 0, 5)), (1, (5, 0, 0))):
+            spoilt = list(blocks)
+            spoilt[at] = spoilt[at]._replace(ec=ways[way])
+            judge(spoilt, sequences, (0, 0, 2))
+    # Behind all that the move touches; of blocks of other classes.
+    for block in (flash.free(), Block(flash.ec(), b"torn", b""),
+                  flash.internal(ubi.PRESERVE), flash.dynamic(9, 0, 2),
+                  flash.dynamic(0, 0, 2, b"older")):
+        judge(blocks + [block], (0, 0, 0, 6), (0, 0, 2))
+    # A layout LEB; and PEBs in another order.
+    judge(blocks, (6, 0, 0), (LAYOUT, 0, 2))
+    for sequences in ((0, 0, 6), (0, 6, 0), (6, 0, 0)):
+        judge(blocks[::-1], sequences, (0, 0, 0))
     numbered = [vid_with(block, sequence=sequence) for block, sequence in zip(
         flash.with_tables([flash.volume()], flash.dynamic(0, 0, 3)),
         (9, 2, 5))]

@@ -140,7 +140,7 @@ def add_ec_headers(moves, flash):
                          for change in (
         {"counter": 0}, {"counter": U32 >> 1}, {"vid_start": 0},
         {"vid_start": U32, "data_start": U32}, {"data_start": 0},
-        {"image_sequence": U32})], False)
+        {"image_sequence": U32}, {"image_sequence": 0})], False)
 
 
 def add_other_sizes(moves):

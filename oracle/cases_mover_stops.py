@@ -2,7 +2,7 @@
 
 import mover
 import ubi
-from images import LAYOUT, ec_with, vid_with
+from images import LAYOUT, ec_with, vid_with, with_image_seqs
 
 HEADER_CUTS = (0, 1, 4, 5, 31, 60, 63, 64)
 
@@ -14,6 +14,7 @@ def add_stop_cases(moves):
     add_stops_byte_by_byte(moves)
     add_stops_in_a_row(moves)
     add_bytes_that_are_there(moves)
+    add_lost_sequences(moves)
 
 
 def chip(flash, source, kind=ubi.DYNAMIC):
@@ -186,3 +187,57 @@ def add_ends_of_0xff(moves):
     script.attach()
     assert script.bench.lent.map[:3] == [0, 0, 2]
     moves.add(script)
+
+
+def add_lost_sequences(moves):
+    """The old block has the only image sequence, and a stop may lose it.
+
+    Then later headers carry zero.
+    """
+    flash = moves.small
+    size, vid = flash.peb_size, flash.geometry.vid_start
+    data = (b"reading" * 90)[:flash.leb_size]
+    # Step, cut, and the image sequence that is left.
+    every = ((1, 63, 7), (2, 300, 7), (3, (), 7), (3, range(64), 0),
+             (3, range(size), 0), (3, range(64, size), 7), (3, (24,), 0),
+             (3, range(24, 28), 0), (3, range(vid, vid + 64), 7),
+             (4, 0, 0), (4, 27, 0), (4, 28, 0), (4, 63, 0), (4, 64, 7))
+    for leb, sequences, some in (
+            ((0, 0), (0, 7, 0, 0, 0), every),
+            ((LAYOUT, 0), (7, 0, 0, 0, 0), every[1::3])):
+        blocks = with_image_seqs(
+            chip(flash, flash.dynamic(0, 0, 3, data)), sequences)
+        for step, cut, left in some:
+            script = moves.script(flash, blocks)
+            stop_at(script, leb + (2,), mover.Stop(step, cut))
+            assert script.plan.ec.image_sequence == 7
+            goes_on_with(script, leb + (3,), left)
+            # Of a later move too, once the header that it stored counts.
+            goes_on_with(script, leb + (4,), left)
+            moves.add(script)
+    # Stopped again, in the EC header that carries zero.
+    blocks = chip(flash, flash.dynamic(0, 0, 3))
+    old_alone = with_image_seqs(blocks, (0, 7, 0, 0, 0))
+    for cut in (0, 28, 64):
+        script = moves.script(flash, old_alone)
+        stop_at(script, (0, 0, 2), mover.Stop(3, range(size)))
+        stop_at(script, (0, 0, 3), mover.Stop(4, cut))
+        assert script.plan.ec.image_sequence == 0
+        goes_on_with(script, (0, 0, 4), 0)
+        moves.add(script)
+    # The target has it: whatever stops the move, it stays.
+    target_alone = with_image_seqs(blocks, (0, 0, 7, 0, 0))
+    for step, cut in ((1, 0), (2, 5), (3, range(size)), (4, 28)):
+        script = moves.script(flash, target_alone)
+        stop_at(script, (0, 0, 2), mover.Stop(step, cut))
+        assert script.plan.ec.image_sequence == 7
+        goes_on_with(script, (0, 0, 3), 7)
+        moves.add(script)
+
+
+def goes_on_with(script, move, image_sequence):
+    """Attached, and moved on with this image sequence to the end."""
+    assert script.attach().startswith("attached ")
+    assert script.begin(*move).startswith("planned ")
+    assert script.plan.ec.image_sequence == image_sequence
+    script.run(0xFFFF)

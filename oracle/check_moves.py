@@ -123,6 +123,8 @@ class Walk:
         lent = mover.enough_tables(began, self.geometry.peb_size)
         attach.attach(self.slip, began, lent)
         assert self.script.bench.lent == lent
+        if answer[0] == "planned":
+            self.judge_image_sequence(began)
         if answer[0] == "refused":
             self.counts.add("refused " + answer[1])
         elif chance.below(2):
@@ -134,6 +136,17 @@ class Walk:
             self.go_on(chance)
         self.book.feed(mover.Call(*(move + (stop,))))
         self.judge(answer, began, stop)
+
+    def judge_image_sequence(self, began):
+        """2026-02: nonzero ones agree, so there is one to carry, or none."""
+        sequences = {peb.ec.image_sequence for peb in attach.read_pebs(
+            began, self.geometry) if peb.ec}
+        nonzero = sequences - {0}
+        assert {self.script.plan.ec.image_sequence} == (nonzero or {0})
+        if not nonzero:
+            self.counts.add("begun where no image sequence is left")
+        elif 0 in sequences:
+            self.counts.add("begun where some image sequences are zero")
 
     def go_on(self, chance):
         """To the last step and some further ones."""

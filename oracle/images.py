@@ -145,6 +145,14 @@ def vid_with(block, **change):
     return block._replace(vid=block.vid._replace(**change))
 
 
+def with_image_seqs(blocks, sequences):
+    """The blocks with these image sequences; bytes stay what they are."""
+    assert len(blocks) == len(sequences)
+    return [block if isinstance(block.ec, bytes)
+            else ec_with(block, image_sequence=sequence)
+            for block, sequence in zip(blocks, sequences)]
+
+
 def ways_to_lose(ec):
     """An EC header that is lost, by what is wrong with it."""
     raw = ubi.ec_header_bytes(ec)

@@ -1,9 +1,9 @@
 """Moving one logical block: plan, steps, stops and the place book.
 
-Like `ubi.py` and `attach.py` it is written from 01 alone. Images are bytes:
-a call gives the image after it and never changes the one it was given. The
-headings in quotes are 01's own; "decided" marks a reading of a point that 01
-leaves open.
+Like `ubi.py` and `attach.py` it is written from the documents alone: 01, and
+of 02 the request 2026-02. Images are bytes: a call gives the image after it
+and never changes the one it was given. The headings in quotes are 01's own;
+"decided" marks a reading of a point that both leave open.
 """
 
 from collections import namedtuple
@@ -119,11 +119,11 @@ def used_length(content):
 def new_ec_header(pebs, geometry, counter):
     """With the image sequence that refusal 7 compares with.
 
-    A target is class 0, so there is a good EC header.
+    2026-02: "carries that value, or zero if there is none". The target's EC
+    header is good, yet it may say nothing.
     """
-    lowest = [peb.ec for peb in pebs if peb.ec is not None][0]
     return ubi.EcHeader(1, counter, geometry.vid_start, geometry.data_start,
-                        lowest.image_sequence)
+                        attach.image_sequence_of(pebs))
 
 
 # ----------------------------------------------------------------- the steps
@@ -345,6 +345,7 @@ def self_test():
     slip, image = attach.bench_input()
     plan = begin(slip, image, enough_tables(image, 1024), 0, 0, 3)
     assert step_count(plan) == 6 and plan.vid.data_size == 3
+    assert plan.ec.image_sequence == 0
     first, answers = image, []
     for _ in range(8):
         answer, plan, image = step(plan, image)

@@ -10,7 +10,7 @@ from cases_attach_random import GEOMETRIES, half_erased, random_blocks, torn
 from cases_listing_random import (nothing_written, random_counters, random_count, random_flash, random_sequences,
                                   wild_geometry, wrong_length, wrong_slip)
 from cases_mover_random import random_chip
-from images import BLANK, Block, Flash
+from images import BLANK, IMAGE_SEQUENCE, Block, Flash
 from listing import SLIP_SIZE
 
 # Chips as they are sold, a few blocks of each.
@@ -68,7 +68,8 @@ def long_chip(chance):
 
 
 def with_image_sequence(block, sequence):
-    if isinstance(block.ec, bytes):
+    """In place of the usual one: zeroes stay, and numbers that differ."""
+    if isinstance(block.ec, bytes) or block.ec.image_sequence != IMAGE_SEQUENCE:
         return block
     return block._replace(ec=block.ec._replace(image_sequence=sequence))
 

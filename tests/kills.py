@@ -45,7 +45,7 @@ import attach
 import mover
 import ubi
 from check_moves import Shown
-from images import Flash
+from images import IMAGE_SEQUENCE, Flash, with_image_seqs
 from programs import keep
 
 from benchtool.cli import main as tool_main
@@ -90,7 +90,8 @@ def contents(flash, dice):
 
 
 def chip_blocks(flash, dice):
-    """Two dynamic LEBs, one with a pad, a static volume and free blocks, in any order."""
+    """Two dynamic LEBs, one with a pad, a static volume and free blocks, in any order; few or all with their image
+    sequence, the others with 0."""
     align = 3 * flash.unit if flash.unit > 1 else 3
     records = [flash.volume(b"log", reserved=3), flash.volume(b"boot", reserved=2, type=ubi.STATIC),
                flash.volume(b"padded", reserved=2, alignment=align)]
@@ -107,7 +108,8 @@ def chip_blocks(flash, dice):
         blocks.append(flash.static(1, 0, 1, 5, dice.randbytes(NOR_BYTES)))
     blocks += [flash.free() for _ in range(FREE_BLOCKS)]
     dice.shuffle(blocks)
-    return blocks
+    named = dice.choice([1, 2, len(blocks)])
+    return with_image_seqs(blocks, dice.sample([IMAGE_SEQUENCE] * named + [0] * (len(blocks) - named), len(blocks)))
 
 
 class Chip:
@@ -365,7 +367,9 @@ class Judge:
         answer = self.functions.call("attach", chip.flash.slip, Held(image), *lent, words)
         demand(answer == 0, "the library answers %d" % answer)
         demand([one.words() for one in lent] == list(wanted), "the library's tables are not the oracle's")
-        demand(words.words()[8:12] == [count, report.entry_count, report.mean, report.highest], "the report's words")
+        named = attach.image_sequence_of(attach.read_pebs(image, chip.geometry))
+        demand(words.words()[8:13] == [count, report.entry_count, report.mean, report.highest, named],
+               "the report's words")
 
     def refused(self, chip, refused, ended):
         demand((ended.status, ended.stdout) == (2, b"refused %d at %d\n" % (refused.number, refused.place)),

@@ -149,9 +149,9 @@ class Case:
         """A refusal stores two words only."""
         if report is None:
             return [number, place] + [self.fill] * (length - 2)
-        sequences = [peb.ec.image_sequence for peb in attach.read_pebs(self.image, self.geometry) if peb.ec]
+        sequence = attach.image_sequence_of(attach.read_pebs(self.image, self.geometry))
         return ([0, 0] + list(self.geometry) + [report.peb_count, report.entry_count, report.mean, report.highest,
-                (sequences + [0])[0], report.read_only, report.table_taken, report.copies_mark, report.grade]
+                sequence, report.read_only, report.table_taken, report.copies_mark, report.grade]
                 + [self.fill] * (length - REPORT_WORDS))
 
     @staticmethod

@@ -231,6 +231,20 @@ class Image(Building):
         self.assertEqual(self.content("one"), self.content("two"))
         self.assertEqual(self.content("one")[24:28], bytes(4))
 
+    def test_blocks_of_two_images_mixed(self):
+        """Of one configuration: 0, as without --image-seq, goes with any number; two numbers do not."""
+        built = {}
+        for number, given in ((0, ()), (7, ("--image-seq", 7)), (9, ("--image-seq", 9))):
+            self.assertEqual(self.build(LOG, *given)[0], 0)
+            image = self.content("out")
+            built[number] = [image[at:at + 1024] for at in range(0, len(image), 1024)]
+            self.assertEqual({block[24:28] for block in built[number]}, {number.to_bytes(4, "big")})
+        for even, odd, status in ((0, 7, 0), (7, 0, 0), (7, 9, 2)):
+            mixed = b"".join(built[odd if at % 2 else even][at] for at in range(12))
+            wanted = oracle_listing(SMALL.slip, mixed)
+            self.assertEqual(wanted == b"refused 7 at 1\n", status == 2)
+            self.ends(run("list", self.file("mixed", mixed), *OPTIONS), status, wanted)
+
     def test_the_size_of_the_image_file(self):
         """Without vol_size; a byte more is a LEB more."""
         for length, lebs in ((1, 1), (896, 1), (897, 2), (8 * 896, 8)):

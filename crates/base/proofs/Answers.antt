@@ -97,10 +97,6 @@ module _ {A B : Type 0} (f : A → B) where
   mapO-some (some a) b e = (a, refl, cc)
 
 module _ {A : Type 0} where
-  pub orElse-nothing : (a : Option A) → orElse a none ≡ a
-  orElse-nothing none = refl
-  orElse-nothing (some x) = refl
-
   pub orElse-none : (a b : Option A) → orElse a b ≡ none → (a ≡ none) × (b ≡ none)
   orElse-none none b e = (refl, e)
   orElse-none (some x) b e = (e, let z : some x ≡ none = e in cc)

@@ -6,9 +6,9 @@ use mathlib.Core.Option.{Option, none, some}
 use Prim.Native.Nat.{ℕ, zero, suc, _+_, _≤_, _<_}
 use native.Mathlib.Numerals.{add-one}
 use native.Mathlib.Omega.{arith}
-use borrow.Author.Tests.{ltb-true, ltb-false, eqb-true, eqb-false, lt-ltb, le-ltb}
+use borrow.Author.Tests.{ltb-true, ltb-false, eqb-true, eqb-false, eq-eqb, ne-eqb, lt-ltb, le-ltb}
 use lib.Dec.{ltb, eqb}
-use Rattle.base.specs.Below.{allBelow, anyBelow, sumBelow, numbered, firstBelow}
+use Rattle.base.specs.Below.{allBelow, anyBelow, sumBelow, unlessZero, firstNonzero, numbered, firstBelow}
 use Rattle.base.proofs.Answers.{clash, by-test, by-option, not-so, and-left, and-right, and-intro, or-left}
 use Rattle.base.proofs.Answers.{or-right, or-intro, or-true-cases, none-some, orElse-none, orElse-some}
 
@@ -85,6 +85,59 @@ any-more p i e h = rw (add-one, e, h)
 pub any-cong : (n : ℕ) (p q : ℕ → Bool) → ((i : ℕ) → i < n → p i ≡ q i) → anyBelow n p ≡ anyBelow n q
 any-cong zero p q h = refl
 any-cong (suc n) p q h = rw (any-cong n p q (λ i k. h i (omega arith)), h n (omega arith))
+
+-- ---- the first that is not zero
+
+pub zero-next : (x y : ℕ) → x ≡ 0 → unlessZero x y ≡ y
+zero-next x y e = rw (eq-eqb x 0 e)
+
+pub nonzero-stays : (x y : ℕ) → x ≢ 0 → unlessZero x y ≡ x
+nonzero-stays x y ne = rw (ne-eqb x 0 ne)
+
+module _ (f : ℕ → ℕ) where
+  -- it is one of them
+  pub nonzero-hit : (n : ℕ) → firstNonzero n f ≢ 0 → (i : ℕ) × (i < n) × (f i ≡ firstNonzero n f)
+  nonzero-hit zero ne = absurd (ne refl)
+  nonzero-hit (suc n) ne =
+      by-test (eqb (firstNonzero n f) 0) (λ q. rw q (n, omega arith, refl))
+      (λ q. rw q (let r = nonzero-hit n (eqb-false _ 0 q) in (r.0, omega (arith, r.1), r.2)))
+
+  -- where there is none, all are zero
+  pub zero-at : (n : ℕ) → firstNonzero n f ≡ 0 → (i : ℕ) → i < n → f i ≡ 0
+  zero-at zero e i h = absurd (omega arith)
+  zero-at (suc n) e i h =
+      by-test (eqb (firstNonzero n f) 0)
+      (λ q. step-below (λ i. f i ≡ 0) n (zero-at n (eqb-true _ 0 q)) (rw q at e) i h)
+      (λ q. absurd (eqb-false _ 0 q (rw q at e)))
+
+  -- what is found stays found
+  pub nonzero-keeps : (n k : ℕ) → firstNonzero k f ≢ 0 → k ≤ n → firstNonzero n f ≡ firstNonzero k f
+  nonzero-keeps zero k ne h = let z : k ≡ 0 = omega arith in rw z
+  nonzero-keeps (suc n) k ne h =
+      ⊎-elim
+      (λ (l : k < suc n). rw (nonzero-keeps n k ne (omega arith)) (nonzero-stays _ (f n) ne))
+      (λ (q : k ≡ suc n). rw q)
+      (below-suc (suc n) k (omega arith))
+
+  -- what holds of zero and of all of them holds of it
+  pub nonzero-all : (P : ℕ → Type 0) (n : ℕ) → P 0 → ((i : ℕ) → i < n → P (f i)) → P (firstNonzero n f)
+  nonzero-all P zero z all = z
+  nonzero-all P (suc n) z all =
+      by-test (eqb (firstNonzero n f) 0) (λ q. rw q (all n (omega arith)))
+      (λ q. rw q (nonzero-all P n z (λ i k. all i (omega arith))))
+
+  -- it is the one at the lowest number where it is not zero
+  pub nonzero-first : (n i : ℕ) → i < n → f i ≢ 0 → ((j : ℕ) → j < i → f j ≡ 0) → firstNonzero n f ≡ f i
+  nonzero-first n i h ne below =
+      let e : firstNonzero (suc i) f ≡ f i = zero-next _ (f i) (nonzero-all (λ x. x ≡ 0) i refl below) in
+      nonzero-keeps n (suc i) (λ z. ne (sym e ∙ z)) h ∙ e
+
+  -- where all are one number, it is that
+  pub nonzero-same : (n s : ℕ) → 0 < n → ((i : ℕ) → i < n → f i ≡ s) → firstNonzero n f ≡ s
+  nonzero-same n s h all =
+      ⊎-elim (λ (z : firstNonzero n f ≡ 0). z ∙ sym (zero-at n z 0 h) ∙ all 0 h)
+      (λ (ne : firstNonzero n f ≢ 0). let r = nonzero-hit n ne in sym r.2 ∙ all r.0 r.1)
+      (eq-or-ne (firstNonzero n f) 0)
 
 module _ {A : Type 0} where
   un-numbered : (n : ℕ) (o : Option A) → numbered n o ≡ none → o ≡ none

@@ -3,6 +3,7 @@ use Prim.Native.Nat.{ℕ, zero, suc, _+_, max}
 use mathlib.Core.Bool.{Bool, true, false, _&&_, _||_, cond}
 use mathlib.Core.Option.{Option, none, some}
 use mathlib.Core.List.{List, [], _++_}
+use lib.Dec.{eqb}
 use Rattle.base.specs.Answers.{orElse}
 
 abbrev pub allBelow : ℕ → (ℕ → Bool) → Bool
@@ -25,6 +26,15 @@ sumBelow (suc n) f = sumBelow n f + f n
 abbrev pub maxBelow : ℕ → (ℕ → ℕ) → ℕ
 maxBelow zero f = 0
 maxBelow (suc n) f = max (maxBelow n f) (f n)
+
+-- x, or y if x is zero
+abbrev pub unlessZero : ℕ → ℕ → ℕ
+unlessZero x y = cond (eqb x 0) y x
+
+-- f at the lowest number below n where it is not zero; zero if there is no such number
+abbrev pub firstNonzero : ℕ → (ℕ → ℕ) → ℕ
+firstNonzero zero f = 0
+firstNonzero (suc n) f = unlessZero (firstNonzero n f) (f n)
 
 module _ {A : Type 0} where
   -- an answer with its number

@@ -19,10 +19,9 @@ use Rattle.base.proofs.Stores.{part-padded}
 use Rattle.header.specs.Vid.{layoutVolume}
 use Rattle.volume_table.specs.Table.{recordsPart, tableGood, takenLeb, takenRecords, copiesMark}
 use Rattle.report.specs.View.{copyOf}
-use Rattle.report.specs.Scan.{differs}
 use Rattle.report.specs.Volumes.{Face, Faces, faceOf, facesOf, layoutContent, tableLeb, tableRecords, tableMark}
 use Rattle.report.specs.Volumes.{recordFor, reservedOf, usedOf, misfit, misfitIn, misfitAt, faulty, asksCrc, isMissing}
-use Rattle.report.specs.Volumes.{lacks, stateOf}
+use Rattle.report.specs.Volumes.{differs, lacks, stateOf}
 use Rattle.report.specs.Report.{faces, records, mark}
 use Rattle.builder_rules.specs.Blocks.{BuildPlan, layoutVid, userVid, volumeOf, isStatic, room, lebsOf, lebData, planEc}
 use Rattle.builder_rules.specs.Filling.{Accepted}

@@ -28,8 +28,8 @@ use Rattle.builder_rules.proofs.Planned.{accepted, record-given}
 use Rattle.builder_attaches.specs.Claim.{plainSlip, Holds, builtMedium, Claim}
 use Rattle.builder_attaches.proofs.Chosen.{highest-is}
 use Rattle.builder_attaches.proofs.Faces.{records-are, mark-zero}
-use Rattle.builder_attaches.proofs.Whole.{sequence-given, attaches, counters-zero, mean-zero, map-built}
-use Rattle.builder_attaches.proofs.Whole.{states-good, grade-zero}
+use Rattle.builder_attaches.proofs.Whole.{sequence-given, sequences-given, attaches, counters-zero, mean-zero}
+use Rattle.builder_attaches.proofs.Whole.{map-built, states-good, grade-zero}
 use Rattle.builder_attaches.proofs.Contents.{content-given}
 
 -- ---- the slip with the volume fields left out
@@ -109,6 +109,7 @@ module _ (slip : List ℕ) (seq : ℕ) (lengths contents image : List ℕ) (bs :
     copies-zero = mark-zero b n fine;
     states-good = states-good b n fine;
     sequence-given = sequence-given b n fine;
+    sequences-given = sequences-given b n fine;
     counters-zero = counters-zero b n fine;
     mean-zero = mean-zero b n fine;
     highest-is = highest-is b n fine;

@@ -1,6 +1,6 @@
 -- A filled image attaches with grade 0; image sequence and map are those of the plan, and the counters 0. Assumes
 -- nothing.
-use mathlib.Core.Path.{_≡_, refl, ap, ap₂, _∙_}
+use mathlib.Core.Path.{_≡_, refl, ap₂, _∙_}
 use mathlib.Core.Logic.{⊎-elim}
 use mathlib.Core.Bool.{true, not, _||_}
 use mathlib.Core.Option.{none, some}
@@ -8,18 +8,19 @@ use mathlib.Core.List.{List, [], _∷_, _++_}
 use Prim.Native.Nat.{ℕ, _≤_, _<_}
 use native.Mathlib.Nat.{zero-div}
 use native.Mathlib.Omega.{arith}
-use borrow.Author.Tests.{eq-eqb}
 use lib.Dec.{eqb}
+use Rattle.base.specs.Answers.{mapO}
 use Rattle.base.specs.Below.{concatBelow}
 use Rattle.base.proofs.Answers.{by-test, by-option, or-true-right}
-use Rattle.base.proofs.Below.{lt-or-le, all-intro, sum-zero}
+use Rattle.base.proofs.Below.{lt-or-le, all-intro, sum-zero, nonzero-same}
 use Rattle.base.proofs.Rows.{concat-short, concat-cong}
-use Rattle.report.specs.View.{Copy, ecGood, goodEc, ecs, VidView, vidGood, vidBlank, isMappable}
-use Rattle.report.specs.Scan.{imageSeq, ecRefusal, vidRefusal, refusal5678}
+use Rattle.header.specs.declared.EcHeader.{EcHeader}
+use Rattle.report.specs.View.{Copy, ecGood, ecs, VidView, vidGood, vidBlank, isMappable}
+use Rattle.report.specs.Scan.{imageSeqOr0, imageSeq, ecRefusal, vidRefusal}
 use Rattle.report.specs.Volumes.{Places, placesOf, entryAt, recordFor, reservedOf, mapUpTo, mapOf}
 use Rattle.report.specs.Report.{isPlace, staysIn, classOf, counterOr, hasCounter, meanOf, places, records, classAt}
 use Rattle.report.specs.Report.{counterAt, entries, stateAt, gradeOf, refusal}
-use Rattle.report.proofs.Facts.{of-parts, no-5678, no-10}
+use Rattle.report.proofs.Facts.{of-parts, ec-unrefused, no-5678, no-10}
 use Rattle.builder_rules.specs.Blocks.{BuildPlan, builtEc, lebsOf, planEc}
 use Rattle.builder_rules.specs.Filling.{Accepted}
 use Rattle.builder_rules.proofs.Accepted.{volumes-few, lebs-within}
@@ -36,15 +37,9 @@ module _ (b : BuildPlan) (n : ℕ) (a : Accepted b n) where
   ec-is : (i : ℕ) → i < n → filled b n .views i .ec ≡ ecGood (planEc b)
   ec-is i h = peb-shows b n a i h .ec
 
-  ec-passes : (i : ℕ) → i < n → ecRefusal b.geometry (some b.image-seq) (filled b n .views i .ec) ≡ none
+  ec-passes : (i : ℕ) → i < n → ecRefusal b.geometry b.image-seq (filled b n .views i .ec) ≡ none
   unfolding builtEc
-  ec-passes i h =
-      rw (
-        ec-is i h,
-        eq-eqb b.geometry.«vid_start» b.geometry.«vid_start» refl,
-        eq-eqb b.geometry.«data_start» b.geometry.«data_start» refl,
-        eq-eqb b.image-seq b.image-seq refl,
-      )
+  ec-passes i h = rw (ec-is i h) (ec-unrefused b.geometry (planEc b) refl refl)
 
   -- what holds where there is no copy, and of copies of user and layout LEBs
   vid-either : (P : VidView → Type 0) (i : ℕ) → i < n → P vidBlank
@@ -59,18 +54,20 @@ module _ (b : BuildPlan) (n : ℕ) (a : Accepted b n) where
   first : 0 < n
   first = omega (arith, a.pebs-least)
 
-  scanned : (imageSeq n (filled b n .views) ≡ some b.image-seq) × (refusal5678 (filled b n) ≡ none)
-  scanned =
-      no-5678 (filled b n) b.image-seq 0 (planEc b) first (ap goodEc (ec-is 0 first))
-      (λ i h. (ec-passes i h, vid-passes i h))
+  pub sequence-given : imageSeq n (filled b n .views) ≡ b.image-seq
+  unfolding imageSeq builtEc
+  sequence-given =
+      nonzero-same (λ i. imageSeqOr0 (ecs (filled b n .views) i)) n b.image-seq first (λ i h. rw (ec-is i h))
 
-  pub sequence-given : imageSeq n (filled b n .views) ≡ some b.image-seq
-  sequence-given = scanned .0
+  pub sequences-given : (i : ℕ) → i < n
+      → mapO (λ (h : EcHeader). h.«image_seq») (ecs (filled b n .views) i) ≡ some b.image-seq
+  unfolding builtEc
+  sequences-given i h = rw (ec-is i h)
 
   pub attaches : refusal (filled b n) ≡ none
   unfolding standing
   attaches = of-parts (filled b n) (record {
-    none5678 = scanned .1;
+    none5678 = no-5678 (filled b n) b.image-seq (λ i h. (ec-passes i h, vid-passes i h));
     none9 = none-9 b n a;
     none10 = no-10 (filled b n) 0 (layoutCopy b 0) first (copy-is b n a 0 first);
     none1112 = rw (taken-first b n a, records-are b n a, no-misfit-at b n a);

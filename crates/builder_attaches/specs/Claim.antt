@@ -7,17 +7,18 @@ use mathlib.Core.Option.{Option, none, some}
 use mathlib.Core.List.{List, [], _∷_, _++_}
 use lib.Dec.{eqb}
 use lib.ListN.{length, take, replicate}
-use Rattle.base.specs.Answers.{given}
+use Rattle.base.specs.Answers.{given, mapO}
 use Rattle.base.specs.Below.{sumBelow, concatBelow}
 use Rattle.base.specs.Lists.{Bytes}
 use Rattle.field.specs.Be.{toBe}
 use Rattle.geometry.specs.Image.{pebCount}
 use Rattle.geometry.specs.declared.Geometry.{Geometry}
 use Rattle.header.specs.Vid.{layoutVolume}
+use Rattle.header.specs.declared.EcHeader.{EcHeader}
 use Rattle.volume_record.specs.Record.{recordOf}
 use Rattle.volume_record.specs.declared.VolumeRecord.{VolumeRecord}
 use Rattle.volume_table.specs.Table.{recordAt}
-use Rattle.report.specs.View.{Medium, mediumOf, copies}
+use Rattle.report.specs.View.{Medium, mediumOf, ecs, copies}
 use Rattle.report.specs.Scan.{imageSeq}
 use Rattle.report.specs.Volumes.{Face, Entry}
 use Rattle.report.specs.Report.{faces, records, entries, mark, stateAt, counterAt, meanOf, highestOf, gradeOf}
@@ -74,7 +75,10 @@ pub record Holds (slip : List ℕ) (b : BuildPlan) (m : Medium) : Type 0 where
   pub grade-zero : gradeOf m ≡ 0
   pub copies-zero : mark m ≡ 0
   pub states-good : (v : ℕ) → v < b.volumes → stateAt m v ≡ 1
-  pub sequence-given : imageSeq m.count m.views ≡ some b.image-seq
+  -- the image sequence, as the report has it and in every EC header
+  pub sequence-given : imageSeq m.count m.views ≡ b.image-seq
+  pub sequences-given : (i : ℕ) → i < m.count
+      → mapO (λ (h : EcHeader). h.«image_seq») (ecs m.views i) ≡ some b.image-seq
   -- "counter 0 everywhere"
   pub counters-zero : (i : ℕ) → i < m.count → counterAt m i ≡ 0
   pub mean-zero : meanOf m ≡ 0

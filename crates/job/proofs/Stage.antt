@@ -8,11 +8,11 @@ use native.Mathlib.Omega.{arith}
 use lib.Dec.{eqb}
 use borrow.Author.Tests.{eqb-true, eq-eqb, ne-eqb}
 use Rattle.base.proofs.Answers.{by-test}
-use Rattle.base.proofs.Below.{eq-or-ne, first-some}
+use Rattle.base.proofs.Below.{eq-or-ne}
 use Rattle.header.specs.declared.EcHeader.{EcHeader}
 use Rattle.header.specs.declared.VidHeader.{VidHeader}
-use Rattle.report.specs.View.{Copy, ecGood, vidGood, vidBlank, vidBad, Views, Medium, ecs, copies, isMappable}
-use Rattle.report.specs.Scan.{imageSeq, ecRefusal, vidRefusal, refusal5678}
+use Rattle.report.specs.View.{Copy, ecGood, vidGood, vidBlank, vidBad, Views, Medium, copies, isMappable}
+use Rattle.report.specs.Scan.{ecRefusal, vidRefusal, refusal5678}
 use Rattle.report.specs.Choice.{sound, repeats, refusal9, chosen}
 use Rattle.report.specs.Volumes.{faceOf, facesOf, placesOf, tableLeb, tableRecords}
 use Rattle.report.specs.Report.{faces, places, records, refusal}
@@ -130,25 +130,19 @@ module _ (m : Medium) (vs′ : Views) (v l o t : ℕ) (old : Copy) (h : VidHeade
   at-o : (o < n) × (copies vs o ≡ some old) × (old.header.volume ≡ v) × (old.header.lnum ≡ l)
   at-o = chosen-at n (copies vs) v l o old b.is-chosen
 
-  -- the image sequence that refusal 7 compares with
-  seq : (s : ℕ) × (seqIn m ≡ some s)
-  unfolding imageSeq
-  seq = let r = first-some n (ecs vs) t b.spare (b.t<n) (rw b.free-ec) in (r.0.1.«image_seq», rw r.1)
-
   -- refusals 5 to 8, from the two PEBs that changed
   after58 : ecRefusal m.geometry (seqIn m) (vs′ o .ec) ≡ none → vidRefusal (vs′ o .vid) ≡ none
       → vidRefusal (vs′ t .vid) ≡ none
       → refusal5678 m′ ≡ none
-  after58 eo vo vt = no-5678 m′ seq.0 t b.spare (b.t<n) (rw (t-ec, b.free-ec))
-      (λ i k. go i k (eq-or-ne i t) (eq-or-ne i o)) .1
+  after58 eo vo vt = no-5678 m′ (seqIn m) (λ i k. go i k (eq-or-ne i t) (eq-or-ne i o))
     where
-      before : (i : ℕ) → i < n → (ecRefusal m.geometry (some seq.0) (vs i .ec) ≡ none) × (vidRefusal (vs i .vid) ≡ none)
-      before i k = rw seq.1 at (none5678-at m P.none5678 i k)
+      before : (i : ℕ) → i < n → (ecRefusal m.geometry (seqIn m) (vs i .ec) ≡ none) × (vidRefusal (vs i .vid) ≡ none)
+      before = none5678-at m P.none5678
 
       go : (i : ℕ) → i < n → (i ≡ t) ⊎ (i ≢ t) → (i ≡ o) ⊎ (i ≢ o)
-          → (ecRefusal m.geometry (some seq.0) (vs′ i .ec) ≡ none) × (vidRefusal (vs′ i .vid) ≡ none)
+          → (ecRefusal m.geometry (seqIn m) (vs′ i .ec) ≡ none) × (vidRefusal (vs′ i .vid) ≡ none)
       go i k (inl e) d = (rw (e, t-ec) (before t (b.t<n) .0), rw e vt)
-      go i k (inr ni) (inl e) = (rw (e, ← seq.1) eo, rw e vo)
+      go i k (inr ni) (inl e) = (rw e eo, rw e vo)
       go i k (inr ni) (inr nq) = rw (rest i k ni nq) (before i k)
 
   -- what is left: no refusal 9, the same faces, the places

@@ -17,7 +17,6 @@ use Rattle.header.specs.Vid.{vidFields, vidRules}
 use Rattle.header.specs.declared.VidHeader.{VidHeader}
 use Rattle.report.specs.View.{Copy, Medium, pebAt, copyOf, viewsOf, copies}
 use Rattle.report.specs.Scan.{imageSeq}
-use Rattle.report.specs.Volumes.{orZero}
 use Rattle.report.specs.Report.{highestOf, readOnlyOf, meanOf, isInternal, entries}
 use Rattle.report.specs.Attach.{reportOf}
 use Rattle.report.specs.declared.Report.{Report}
@@ -88,7 +87,7 @@ module _ {image : List ℕ} {r : Report} {pebs : List ℕ} (k : Told image r peb
   unfolding reportOf
   mean-is = ap (λ (x : Report). x.mean) k.report-is
 
-  seq-is : r .«image_seq» ≡ orZero (imageSeq m.count m.views)
+  seq-is : r .«image_seq» ≡ imageSeq m.count m.views
   unfolding reportOf
   seq-is = ap (λ (x : Report). x.«image_seq») k.report-is
 

@@ -11,10 +11,9 @@ use lib.Dec.{eqb, leb, lit<}
 use borrow.Author.Tests.{eqb-true, eq-eqb, leb-true}
 use lib.ListN.{length, take, drop, getD, length-take, length-drop}
 use Rattle.base.specs.Answers.{allOf}
-use Rattle.base.specs.Below.{firstBelow}
 use Rattle.base.specs.Lists.{Bytes}
 use Rattle.base.proofs.Answers.{by-option, and-left, and-right, each-holds}
-use Rattle.base.proofs.Below.{first-hit}
+use Rattle.base.proofs.Below.{nonzero-all}
 use Rattle.base.proofs.Highest.{max-most}
 use Rattle.base.proofs.Lists.{length-part, bytes-take, bytes-drop, bytes-part}
 use Rattle.crc32.specs.Crc.{crcOf}
@@ -30,9 +29,9 @@ use Rattle.volume_table.specs.Table.{recordAt}
 use Rattle.volume_record.specs.declared.VolumeRecord.{VolumeRecord}
 use Rattle.volume_table.proofs.Good.{good-pads}
 use Rattle.report.specs.View.{Copy, copyOf, vidPart, pebAt, Views, Medium, mediumOf, ecs, copies}
-use Rattle.report.specs.Scan.{imageSeq}
+use Rattle.report.specs.Scan.{imageSeqOr0, imageSeq}
 use Rattle.report.specs.Choice.{chosen}
-use Rattle.report.specs.Volumes.{faceOf, facesOf, tableLeb, recordFor, reservedOf, orZero}
+use Rattle.report.specs.Volumes.{faceOf, facesOf, tableLeb, recordFor, reservedOf}
 use Rattle.report.specs.Report.{meanOf, highestOf, sequenceOr0, faces, places, records, refusal}
 use Rattle.report.proofs.Choice.{chosen-at}
 use Rattle.report.proofs.Facts.{parts}
@@ -134,11 +133,11 @@ module _ (g : Geometry) (P : Placed g) (n : ℕ) (image : List ℕ) (bytes : Byt
     unfolding oldCounter
     old-counter-most o h = by-option (ecs vs o) (λ e. rw e mean-most) (λ x e. rw e (counter-most o h x e))
 
-  image-small : orZero (imageSeq n vs) < 256 ^ 4
+  image-small : imageSeq n vs < 256 ^ 4
   unfolding imageSeq
   image-small =
-      by-option (firstBelow n (ecs vs)) (λ q. rw q (lit< tt))
-      (λ x q. let h = first-hit n (ecs vs) x.0 x.1 q in rw q (ec-widths x.0 h.0 x.1 h.1 .image-seq))
+      nonzero-all (λ i. imageSeqOr0 (ecs vs i)) (λ x. x < 256 ^ 4) n (lit< tt)
+      (λ i h. by-option (ecs vs i) (λ q. rw q (lit< tt)) (λ x q. rw q (ec-widths i h x q .image-seq)))
 
   -- ---- the rounded data size fits the LEB: by the table's rule on pads and refusal 12
 

@@ -3,16 +3,16 @@
 use mathlib.Core.Path.{_≡_, refl, sym, _∙_}
 use mathlib.Core.Logic.{_≢_, _⊎_, inl, inr, ⊎-elim}
 use mathlib.Core.Bool.{Bool, true, false, not, _&&_, _||_, cond}
-use mathlib.Core.Option.{Option, none}
+use mathlib.Core.Option.{none}
 use mathlib.Core.List.{List}
 use Prim.Native.Nat.{ℕ, _+_, _-_, _^_, _≤_, _<_}
 use native.Mathlib.Omega.{arith}
 use lib.Dec.{eqb, ltb, lit<}
-use borrow.Author.Tests.{eqb-true, eqb-false, eq-eqb, lt-ltb, le-leb}
+use borrow.Author.Tests.{eqb-true, eqb-false, lt-ltb, le-leb}
 use lib.ListN.{length, take, drop, getD, replicate}
 use Rattle.base.specs.Answers.{allOf}
 use Rattle.base.specs.Lists.{Bytes}
-use Rattle.base.proofs.Answers.{by-test, by-option, and-left, each-holds}
+use Rattle.base.proofs.Answers.{by-test, and-left, each-holds}
 use Rattle.base.proofs.Lists.{bytes-take}
 use Rattle.crc32.specs.Crc.{crcOf}
 use Rattle.crc32.proofs.Laws.{crcOf-lt}
@@ -28,12 +28,13 @@ use Rattle.header.specs.declared.VidHeader.{VidHeader}
 use Rattle.report.specs.View.{Copy, ecGood, Views, Medium}
 use Rattle.report.specs.Scan.{imageSeq, ecRefusal}
 use Rattle.report.specs.Choice.{sound}
-use Rattle.report.specs.Volumes.{contentOf, orZero}
+use Rattle.report.specs.Volumes.{contentOf}
+use Rattle.report.proofs.Facts.{ec-unrefused}
 use Rattle.mover_rules.specs.Headers.{isStatic, dataEnd, newSize, newFlag, newCrc, newVid, oldCounter, newEc}
 use Rattle.mover_rules.proofs.Data.{same-content}
 
 -- h is the new VID header, e the new EC header; ref is the image sequence that refusal 7 compares with
-pub record Good (g : Geometry) (ref : Option ℕ) (old : Copy) (h : VidHeader) (e : EcHeader) : Type 0 where
+pub record Good (g : Geometry) (ref : ℕ) (old : Copy) (h : VidHeader) (e : EcHeader) : Type 0 where
   pub vid-good : judgeVid g.«leb_size» h ≡ good h
   pub vid-fits : VidFits h
   pub ec-good : judgeEc e ≡ good e
@@ -207,7 +208,7 @@ module _ (g : Geometry) (P : Placed g) (c : Copy) (m : Moves g c) (highest : ℕ
   medium n vs = record { geometry = g; count = n; views = vs }
 
   module _ (n : ℕ) (vs : Views) (o : ℕ) (counts : oldCounter (medium n vs) o + 1 ≤ 0x7FFFFFFF)
-      (image : orZero (imageSeq n vs) < 256 ^ 4) where
+      (image : imageSeq n vs < 256 ^ 4) where
     abbrev e : EcHeader
     e = newEc (medium n vs) o
 
@@ -227,9 +228,7 @@ module _ (g : Geometry) (P : Placed g) (c : Copy) (m : Moves g c) (highest : ℕ
 
     ec-stands : ecRefusal g (imageSeq n vs) (ecGood e) ≡ none
     unfolding newEc
-    ec-stands =
-        rw (eq-eqb g.«vid_start» g.«vid_start» refl, eq-eqb g.«data_start» g.«data_start» refl)
-        (by-option (imageSeq n vs) (λ q. rw q) (λ s q. rw (q, eq-eqb s s refl)))
+    ec-stands = ec-unrefused g e refl refl
 
     pub good-headers : Good g (imageSeq n vs) c h e
     unfolding newVid

@@ -6,3 +6,4 @@ pub mod Bounds
 pub mod Rules
 pub mod Steps
 pub mod Numbers
+pub mod Bench

@@ -11,7 +11,7 @@ use Rattle.header.specs.declared.EcHeader.{EcHeader}
 use Rattle.header.specs.declared.VidHeader.{VidHeader}
 use Rattle.report.specs.View.{Copy, Medium, ecs, allFF}
 use Rattle.report.specs.Scan.{imageSeq}
-use Rattle.report.specs.Volumes.{contentOf, orZero}
+use Rattle.report.specs.Volumes.{contentOf}
 use Rattle.report.specs.Report.{counterOr, meanOf}
 
 -- a copy of a static volume
@@ -57,13 +57,13 @@ newVid g highest c = record {
 unfoldable pub oldCounter : Medium → ℕ → ℕ
 oldCounter m old = counterOr (meanOf m) (ecs m.views old)
 
--- "the EC header has the geometry's starts and the image sequence that refusal 7 compares with"; "with counter (mean if
--- lost) plus 1". Where a move is accepted there is such a sequence: the target has a good EC header
+-- "the EC header has the geometry's starts and the image sequence that refusal 7 compares with", "or zero if there is
+-- none" (02 2026-02); "with counter (mean if lost) plus 1"
 unfoldable pub newEc : Medium → ℕ → EcHeader
 newEc m old = record {
   version = 1;
   counter = oldCounter m old + 1;
   «vid_start» = m.geometry.«vid_start»;
   «data_start» = m.geometry.«data_start»;
-  «image_seq» = orZero (imageSeq m.count m.views);
+  «image_seq» = imageSeq m.count m.views;
 }

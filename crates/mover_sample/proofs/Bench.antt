@@ -19,7 +19,7 @@ use Rattle.header.specs.declared.EcHeader.{EcHeader}
 use Rattle.header.specs.declared.VidHeader.{VidHeader}
 use Rattle.volume_record.specs.Record.{recordOf, recordCrcMatches, emptyRecord, isEmpty, nameEnds, recordRules, recordGood}
 use Rattle.volume_table.specs.Table.{recordCount, recordsPart, emptyOrGood, nameOf, sameNames, autoresizes, tableRules, tableTests, tableGood, takenLeb, takenRecords}
-use Rattle.report.specs.View.{Copy, Views, Medium, ecGood, vidBlank, allFF, copyOf, viewOf}
+use Rattle.report.specs.View.{Copy, allFF, copyOf, viewOf}
 use Rattle.report.specs.Scan.{imageSeq, viewRefusal, refusal5678, refusal10}
 use Rattle.report.specs.Choice.{refusal9, pick, chosen}
 use Rattle.report.specs.Volumes.{faceOf, facesOf, placesOf, tableLeb, tableRecords, recordFor, mapUpTo, mapOf, usedOf, misfitIn, misfitAt}
@@ -147,41 +147,23 @@ peb run = replicate 128 0xFF ++ (run ++ replicate 893 0xFF)
 copy : Geometry → List ℕ → Copy
 copy g run = copyOf g (peb run) (vid 0 0 0 3)
 
--- four PEBs "with counters 3, 5, 9, 4"
-views : Views
-views i = record {
-  ec = ecGood (record {
-    version = 1;
-    counter = getD (3 ∷ 5 ∷ 9 ∷ 4 ∷ []) i 0;
-    «vid_start» = 64;
-    «data_start» = 128;
-    «image_seq» = 7;
-  });
-  vid = vidBlank;
-  clean = true;
-}
-
-medium : Medium
-medium = record { geometry = chip; count = 4; views = views }
-
 -- kind, place and number of bytes of a write
 shown : Write → List ℕ
 shown (store at bs) = 1 ∷ at ∷ length bs ∷ []
 shown (erase at n) = 2 ∷ at ∷ n ∷ []
 shown nothing = []
 
--- the new headers: data size, flag, CRC and sequence; with unit 128; with no data; "free with 10", image sequence; "6
--- steps"
+-- the new VID header: data size, flag, CRC and sequence; with unit 128; with no data; "6 steps"
 bench-headers :
     _≡_ {A = List ℕ}
     (newSize chip (copy chip abc) ∷ newFlag chip (copy chip abc) ∷ newCrc chip (copy chip abc) ∷ newVid chip 3
     (copy chip abc) .sequence
     ∷ newSize chip128 (copy chip128 abc) ∷ newFlag chip128 (copy chip128 abc)
     ∷ newSize chip (copy chip []) ∷ newFlag chip (copy chip []) ∷ newCrc chip (copy chip [])
-    ∷ newEc medium 2 .counter ∷ newEc medium 2 .«image_seq» ∷ stepCount plan ∷ [])
-    (3 ∷ 1 ∷ crcOf abc ∷ 4 ∷ 128 ∷ 1 ∷ 0 ∷ 0 ∷ 0 ∷ 10 ∷ 7 ∷ 6 ∷ [])
-unfolding copy peb abc vid chip chip128 views medium plan tap crcBit crcBits crcByte crcFrom roundUp vidStart dataStart lebSize makeGeometry
-    copyOf allFF dataEnd newSize newFlag newCrc newVid oldCounter newEc imageSeq dataSteps stepCount
+    ∷ stepCount plan ∷ [])
+    (3 ∷ 1 ∷ crcOf abc ∷ 4 ∷ 128 ∷ 1 ∷ 0 ∷ 0 ∷ 0 ∷ 6 ∷ [])
+unfolding copy peb abc vid chip chip128 plan tap crcBit crcBits crcByte crcFrom roundUp vidStart dataStart lebSize
+    makeGeometry copyOf allFF dataEnd newSize newFlag newCrc newVid dataSteps stepCount
 bench-headers = refl
 
 -- the writes of the six steps, and of a further one; the data that are stored

@@ -1,4 +1,4 @@
--- 01 'Bench values': the cases marked P, in one table and one statement. Assumes nothing.
+-- 01 'Bench values': the cases marked P, in one table and one statement; image sequences of 02. Assumes nothing.
 use mathlib.Core.Path.{_≡_, refl}
 use mathlib.Core.Bool.{true}
 use mathlib.Core.Option.{Option, none, some}
@@ -11,7 +11,8 @@ use Rattle.geometry.specs.declared.Geometry.{Geometry}
 use Rattle.geometry.specs.Geometry.{roundUp, vidStart, dataStart, lebSize, makeGeometry}
 use Rattle.volume_record.specs.Record.{recordOf}
 use Rattle.volume_table.specs.Table.{recordCount}
-use Rattle.report.specs.View.{Copy, ecGood, vidBlank, View, copyOf}
+use Rattle.report.specs.View.{Copy, ecGood, vidBlank, View, Medium, copyOf}
+use Rattle.report.specs.Scan.{Refusal, imageSeq, viewRefusal, refusal5678}
 use Rattle.report.specs.Choice.{pick, chosen}
 use Rattle.report.specs.Volumes.{faceOf, facesOf, recordFor, usedOf, stateOf}
 use Rattle.report.specs.Report.{meanOf}
@@ -20,10 +21,10 @@ use Rattle.report.specs.Report.{meanOf}
 chip : Geometry
 chip = makeGeometry 1024 1 1
 
--- a free PEB with this counter
-freePeb : ℕ → View
-freePeb c = record {
-  ec = ecGood (record { version = 1; counter = c; «vid_start» = 64; «data_start» = 128; «image_seq» = 0 });
+-- a free PEB with this counter and image sequence
+freePeb : ℕ → ℕ → View
+freePeb c seq = record {
+  ec = ecGood (record { version = 1; counter = c; «vid_start» = 64; «data_start» = 128; «image_seq» = seq });
   vid = vidBlank;
   clean = true;
 }
@@ -93,7 +94,7 @@ benchTable =
     -- "LEB 896 holds 5 records; 172 holds 1; 129,024 holds 128."
     ∷ (recordCount 896, 5) ∷ (recordCount 172, 1) ∷ (recordCount 129024, 128)
     -- "Counters 3, 5, 9: mean 5."
-    ∷ (meanOf (record { geometry = chip; count = 3; views = λ i. freePeb (getD (3 ∷ 5 ∷ 9 ∷ []) i 0) }), 5)
+    ∷ (meanOf (record { geometry = chip; count = 3; views = λ i. freePeb (getD (3 ∷ 5 ∷ 9 ∷ []) i 0) 0 }), 5)
     -- "sequences 7 (flag 0) and 8 (flag 1, CRC wrong): 7. Both unsound: 7. 8 sound: 8."
     ∷ (chosenOf (plain 7 ∷ wrong 8 ∷ []), 7) ∷ (chosenOf (wrong 7 ∷ wrong 8 ∷ []), 7) ∷
     (chosenOf (plain 7 ∷ right 8 ∷ []), 8)
@@ -105,3 +106,19 @@ unfolding benchTable tap crcBit crcBits crcByte crcFrom roundUp vidStart dataSta
     freePeb chosenOf chosen pick among plain right wrong copy copyOf peb abc chip records recordHead
     stateOf recordFor recordOf usedOf facesOf faceOf beFrom toBeOn
 bench-values = refl
+
+-- three free PEBs with these image sequences: the one compared with, and the refusal
+sequences : List ℕ → ℕ × Option Refusal
+sequences l = let m = three in (imageSeq m.count m.views, refusal5678 m)
+  where
+    three : Medium
+    three = record { geometry = chip; count = 3; views = λ i. freePeb 0 (getD l i 0) }
+
+-- 02 2026-02: a zero first, between, last and everywhere; "only nonzero values must agree"
+bench-sequences :
+    _≡_ {A = List (ℕ × Option Refusal)}
+    (map sequences
+    ((0 ∷ 7 ∷ 7 ∷ []) ∷ (7 ∷ 0 ∷ 7 ∷ []) ∷ (7 ∷ 7 ∷ 0 ∷ []) ∷ (0 ∷ 0 ∷ 0 ∷ []) ∷ (0 ∷ 7 ∷ 8 ∷ []) ∷ []))
+    ((7, none) ∷ (7, none) ∷ (7, none) ∷ (0, none) ∷ (7, some (record { number = 7; place = 2 })) ∷ [])
+unfolding sequences imageSeq viewRefusal refusal5678 freePeb chip makeGeometry vidStart dataStart lebSize roundUp
+bench-sequences = refl

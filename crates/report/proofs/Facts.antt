@@ -1,38 +1,22 @@
 -- What is known of an image that attaches, refusal by refusal, and what is enough for it to attach. Assumes nothing.
 use mathlib.Core.Path.{_≡_, refl, sym, _∙_, ap}
 use mathlib.Core.Logic.{_≢_, ⊎-elim}
-use mathlib.Core.Bool.{Bool, true, false, not, _&&_, false≢true}
+use mathlib.Core.Bool.{Bool, true, false, false≢true}
 use mathlib.Core.Option.{Option, none, some}
 use Prim.Native.Nat.{ℕ, _≤_, _<_}
 use native.Mathlib.Omega.{arith}
 use lib.Dec.{eqb}
-use borrow.Author.Tests.{eqb-true, eq-eqb, not-false}
-use Rattle.base.specs.Below.{allBelow, anyBelow}
+use borrow.Author.Tests.{eqb-true, eqb-false, eq-eqb, ne-eqb, not-false}
+use Rattle.base.specs.Below.{allBelow, anyBelow, firstNonzero}
 use Rattle.base.proofs.Answers.{clash, by-test, none-some, and-left, and-right, orElse-none, mapO-none}
-use Rattle.base.proofs.Below.{first-some, eq-or-ne, lt-or-le, all-at, none-at, none-intro, first-none-at, first-none, first-hit}
+use Rattle.base.proofs.Below.{eq-or-ne, lt-or-le, all-at, none-at, none-intro, first-none-at, first-none}
+use Rattle.base.proofs.Below.{nonzero-hit, zero-at, nonzero-all, nonzero-first}
 use Rattle.geometry.specs.declared.Geometry.{Geometry}
 use Rattle.header.specs.declared.EcHeader.{EcHeader}
-use Rattle.report.specs.View.{
-  Copy,
-  EcView,
-  ecGood,
-  ecNewer,
-  ecBlank,
-  ecLost,
-  VidView,
-  vidGood,
-  vidNewer,
-  vidBlank,
-  vidBad,
-  Views,
-  Medium,
-  goodEc,
-  ecs,
-  goodVid,
-  copies,
-  isMappable,
-}
-use Rattle.report.specs.Scan.{when, differs, imageSeq, ecRefusal, vidRefusal, viewRefusal, atPeb, refusal5678, refusal10}
+use Rattle.report.specs.View.{Copy, EcView, ecGood, ecNewer, ecBlank, ecLost, VidView, vidGood, vidNewer}
+use Rattle.report.specs.View.{vidBlank, vidBad, Views, Medium, goodEc, ecs, goodVid, copies, isMappable}
+use Rattle.report.specs.Scan.{when, imageSeqOr0, imageSeq, otherStarts, seqDisagrees, ecRefusal, vidRefusal}
+use Rattle.report.specs.Scan.{viewRefusal, atPeb, refusal5678, refusal10}
 use Rattle.report.specs.Class.{isUnused}
 use Rattle.report.specs.Choice.{ofKey, repeats, refusal9, pick, chosen}
 use Rattle.report.specs.Volumes.{tableLeb, refusal1112}
@@ -44,9 +28,6 @@ use Rattle.report.proofs.Choice.{IsChoice, choice-sequence, pick-some, 
 pub when-none : (b : Bool) (k : ℕ) → when b k ≡ none → b ≡ false
 when-none true k e = none-some (sym e)
 when-none false k e = refl
-
-pub differs-false : (s x : ℕ) → differs (some s) x ≡ false → x ≡ s
-differs-false s x e = eqb-true x s (not-false (eqb x s) e)
 
 pub place-is : (x : Option ℕ) (i : ℕ) → isPlace x i ≡ true → x ≡ some i
 place-is none i e = absurd (false≢true e)
@@ -76,7 +57,7 @@ of-parts m p = rw (p.none5678, p.none9, p.none10) p.none1112
 
 module _ (m : Medium) where
   -- the image sequence that refusal 7 compares with
-  abbrev pub seqIn : Option ℕ
+  abbrev pub seqIn : ℕ
   seqIn = imageSeq m.count m.views
 
   pub none5678-at : refusal5678 m ≡ none → (i : ℕ) → i < m.count
@@ -86,56 +67,102 @@ module _ (m : Medium) where
       orElse-none (ecRefusal m.geometry seqIn (m.views i .ec)) (vidRefusal (m.views i .vid))
       (first-none-at m.count (λ i. viewRefusal m.geometry seqIn (m.views i)) (mapO-none atPeb _ e) i h)
 
--- a good EC that is not refused names the geometry's starts and the sequence compared with
-pub ec-agrees : (g : Geometry) (s : ℕ) (v : EcView) (h : EcHeader) → ecRefusal g (some s) v ≡ none → goodEc v ≡ some h
-    → (h.«vid_start» ≡ g.«vid_start») × (h.«data_start» ≡ g.«data_start») × (h.«image_seq» ≡ s)
-ec-agrees g s (ecGood x) h r q =
-    let p : x ≡ h = cc in
-    let d = orElse-none (when (not (eqb x.«vid_start» g.«vid_start» && eqb x.«data_start» g.«data_start»)) 6) _ r in
-    let t = not-false _ (when-none _ 6 d.0) in
-    rw (← p) (
-      eqb-true x.«vid_start» _ (and-left _ (eqb x.«data_start» g.«data_start») t),
-      eqb-true x.«data_start» _ (and-right (eqb x.«vid_start» g.«vid_start») _ t),
-      differs-false s x.«image_seq» (when-none _ 7 d.1),
-    )
-ec-agrees g s ecNewer h r q = none-some q
-ec-agrees g s ecBlank h r q = none-some q
-ec-agrees g s ecLost h r q = none-some q
+-- 02 2026-02, the image sequence in its words: "that of the lowest PEB that has one", "or zero if there is none"
+module _ (n : ℕ) (vs : Views) where
+  pub seq-of-lowest : (i : ℕ) (h : EcHeader) → i < n → ecs vs i ≡ some h → h.«image_seq» ≢ 0
+      → ((j : ℕ) → j < i → imageSeqOr0 (ecs vs j) ≡ 0) → imageSeq n vs ≡ h.«image_seq»
+  unfolding imageSeq
+  seq-of-lowest i h k e ne below =
+      nonzero-first (λ j. imageSeqOr0 (ecs vs j)) n i k (λ z. ne (rw e at z)) below ∙ rw e
 
--- where one EC is good, and every good one has the sequence s, s is what refusal 7 compares with
-pub imageSeq-is : (n : ℕ) (vs : Views) (s t : ℕ) (h : EcHeader) → t < n → ecs vs t ≡ some h
-    → ((i : ℕ) → i < n → (x : EcHeader) → ecs vs i ≡ some x → x.«image_seq» ≡ s) → imageSeq n vs ≡ some s
-unfolding imageSeq
-imageSeq-is n vs s t h k q all =
-    let r = first-some n (ecs vs) t h k q in
-    let f = first-hit n (ecs vs) r.0.0 r.0.1 r.1 in
-    rw (r.1, all r.0.0 f.0 r.0.1 f.1)
+  pub seq-of-none : ((i : ℕ) → i < n → imageSeqOr0 (ecs vs i) ≡ 0) → imageSeq n vs ≡ 0
+  unfolding imageSeq
+  seq-of-none all = nonzero-all (λ i. imageSeqOr0 (ecs vs i)) (λ x. x ≡ 0) n refl all
+
+-- what is not refused is zero, or the one compared with
+not-disagrees : (s x : ℕ) → seqDisagrees s x ≡ false → x ≢ 0 → x ≡ s
+not-disagrees s x e ne = eqb-true x s (not-false (eqb x s) (rw (ne-eqb x 0 ne) at e))
+
+-- zero agrees, and so does the one compared with
+pub zero-agrees : (s x : ℕ) → x ≡ 0 → seqDisagrees s x ≡ false
+zero-agrees s x e = rw (eq-eqb x 0 e)
+
+agrees : (s : ℕ) → seqDisagrees s s ≡ false
+agrees s = by-test (eqb s 0) (λ q. rw q) (λ q. rw (q, eq-eqb s s refl))
+
+-- a good EC with the geometry's starts and the one compared with is not refused
+pub ec-unrefused : (g : Geometry) (h : EcHeader) → h.«vid_start» ≡ g.«vid_start» → h.«data_start» ≡ g.«data_start»
+    → ecRefusal g h.«image_seq» (ecGood h) ≡ none
+ec-unrefused g h v d = rw (eq-eqb _ _ v, eq-eqb _ _ d, agrees h.«image_seq»)
+
+-- where all agree with a number, zeroes aside, they agree with the first of them
+agree-first : (n s : ℕ) (f : ℕ → ℕ) → ((i : ℕ) → i < n → seqDisagrees s (f i) ≡ false)
+    → (i : ℕ) → i < n → seqDisagrees (firstNonzero n f) (f i) ≡ false
+agree-first n s f all i h = by-test (eqb (f i) 0) (λ q. rw q) (λ q. go (eqb-false (f i) 0 q))
+  where
+    go : f i ≢ 0 → seqDisagrees (firstNonzero n f) (f i) ≡ false
+    go ne =
+        let top : firstNonzero n f ≢ 0 = λ z. ne (zero-at f n z i h) in
+        let r = nonzero-hit f n top in
+        let t : f r.0 ≡ s = not-disagrees s (f r.0) (all r.0 r.1) (λ z. top (sym r.2 ∙ z)) in
+        rw (← r.2, t, not-disagrees s (f i) (all i h) ne) (agrees s)
+
+-- a good EC that is not refused names the geometry's starts, and agrees; one that agrees with another number as well is
+-- not refused under that either
+module _ (g : Geometry) (s : ℕ) where
+  ec-starts : (v : EcView) (h : EcHeader) → ecRefusal g s v ≡ none → goodEc v ≡ some h
+      → (h.«vid_start» ≡ g.«vid_start») × (h.«data_start» ≡ g.«data_start»)
+  ec-starts (ecGood x) h r q =
+      let p : x ≡ h = cc in
+      let t = not-false _ (when-none _ 6 (orElse-none (when (otherStarts g x) 6) _ r .0)) in
+      rw (← p) (
+        eqb-true x.«vid_start» _ (and-left _ (eqb x.«data_start» g.«data_start») t),
+        eqb-true x.«data_start» _ (and-right (eqb x.«vid_start» g.«vid_start») _ t),
+      )
+  ec-starts ecNewer h r q = none-some q
+  ec-starts ecBlank h r q = none-some q
+  ec-starts ecLost h r q = none-some q
+
+  ec-agrees : (v : EcView) → ecRefusal g s v ≡ none → seqDisagrees s (imageSeqOr0 (goodEc v)) ≡ false
+  ec-agrees (ecGood h) r = when-none _ 7 (orElse-none (when (otherStarts g h) 6) _ r .1)
+  ec-agrees ecNewer r = refl
+  ec-agrees ecBlank r = refl
+  ec-agrees ecLost r = refl
+
+  ec-passes : (q : ℕ) (v : EcView) → ecRefusal g s v ≡ none → seqDisagrees q (imageSeqOr0 (goodEc v)) ≡ false
+      → ecRefusal g q v ≡ none
+  ec-passes q (ecGood h) r e = rw (orElse-none (when (otherStarts g h) 6) _ r .0, e)
+  ec-passes q ecNewer r e = r
+  ec-passes q ecBlank r e = refl
+  ec-passes q ecLost r e = refl
 
 module _ (m : Medium) where
-  -- enough for no refusal 5 to 8
-  pub no-5678 : (s t : ℕ) (h : EcHeader) → t < m.count → ecs m.views t ≡ some h
-      → ((i : ℕ) → i < m.count → (ecRefusal m.geometry (some s) (m.views i .ec) ≡ none) ×
-      (vidRefusal (m.views i .vid) ≡ none))
-      → (seqIn m ≡ some s) × (refusal5678 m ≡ none)
-  unfolding refusal5678 viewRefusal
-  no-5678 s t h k q all =
-      let r : seqIn m ≡ some s =
-      imageSeq-is m.count m.views s t h k q (λ i k x p. ec-agrees m.geometry s (m.views i .ec) x (all i k .0) p .2) in (
-        r,
-        rw (first-none m.count (λ i. viewRefusal m.geometry (seqIn m) (m.views i))
-            (λ i k. rw (r, all i k .0, all i k .1))),
+  -- enough for no refusal 5 to 8: one number that every good EC agrees with
+  pub no-5678 : (s : ℕ)
+      → ((i : ℕ) → i < m.count → (ecRefusal m.geometry s (m.views i .ec) ≡ none) × (vidRefusal (m.views i .vid) ≡ none))
+      → refusal5678 m ≡ none
+  unfolding imageSeq refusal5678 viewRefusal
+  no-5678 s all = rw (first-none m.count (λ i. viewRefusal m.geometry (seqIn m) (m.views i)) passes)
+    where
+      agree : (i : ℕ) → i < m.count → seqDisagrees (seqIn m) (imageSeqOr0 (ecs m.views i)) ≡ false
+      agree = agree-first m.count s (λ i. imageSeqOr0 (ecs m.views i))
+          (λ i k. ec-agrees m.geometry s (m.views i .ec) (all i k .0))
+
+      passes : (i : ℕ) → i < m.count → viewRefusal m.geometry (seqIn m) (m.views i) ≡ none
+      passes i k = rw (
+        ec-passes m.geometry s (seqIn m) (m.views i .ec) (all i k .0) (agree i k),
+        all i k .1,
       )
 
-  -- every good EC of an image that attaches
+  -- every good EC of an image that attaches; 02 2026-02: "only nonzero values must agree"
   pub good-ec : refusal5678 m ≡ none → (i : ℕ) (h : EcHeader) → i < m.count → ecs m.views i ≡ some h
-      → (h.«vid_start» ≡ m.geometry.«vid_start») × (h.«data_start» ≡ m.geometry.«data_start») ×
-      (seqIn m ≡ some h.«image_seq»)
-  unfolding imageSeq
+      → (h.«vid_start» ≡ m.geometry.«vid_start») × (h.«data_start» ≡ m.geometry.«data_start»)
+      × (h.«image_seq» ≢ 0 → h.«image_seq» ≡ seqIn m)
   good-ec e i h k q =
-      let r = first-some m.count (ecs m.views) i h k q in
-      let s : seqIn m ≡ some r.0.1.«image_seq» = rw r.1 in
-      let a = ec-agrees m.geometry r.0.1.«image_seq» (m.views i .ec) h (rw s at (none5678-at m e i k .0)) q in
-      (a.0, a.1, s ∙ ap some (sym a.2))
+      let r = none5678-at m e i k .0 in
+      let a = ec-starts m.geometry (seqIn m) (m.views i .ec) h r q in
+      let d = rw q at (ec-agrees m.geometry (seqIn m) (m.views i .ec) r) in
+      (a.0, a.1, not-disagrees (seqIn m) h.«image_seq» d)
 
 -- ---- 9
 

@@ -16,8 +16,8 @@ use Rattle.volume_table.specs.Table.{tableGood, takenLeb}
 use Rattle.report.specs.View.{EcView, ecGood, ecNewer, ecBlank, ecLost, VidView, vidGood, vidNewer, vidBlank, vidBad}
 use Rattle.report.specs.View.{View, Medium, copies, mediumOf, isMappable}
 use Rattle.report.specs.Class.{isUnused}
-use Rattle.report.specs.Scan.{Refusal, when, differs, imageSeq, ecRefusal, vidRefusal, viewRefusal, atPeb}
-use Rattle.report.specs.Scan.{refusal5678, refusal10}
+use Rattle.report.specs.Scan.{Refusal, when, imageSeq, otherStarts, seqDisagrees, ecRefusal, vidRefusal}
+use Rattle.report.specs.Scan.{viewRefusal, atPeb, refusal5678, refusal10}
 use Rattle.report.specs.Choice.{repeats, refusal9}
 use Rattle.report.specs.Volumes.{orZero, layoutContent, tableLeb, misfitAt, refusal1112}
 use Rattle.report.specs.Report.{refusal, taken, records, faces, places}
@@ -65,12 +65,12 @@ each-when false k h = tt
 
 -- ---- refusals 5 to 12
 
-ec-told : (g : Geometry) (seq : Option ℕ) (v : EcView) → Each Above (ecRefusal g seq v)
+ec-told : (g : Geometry) (seq : ℕ) (v : EcView) → Each Above (ecRefusal g seq v)
 ec-told g seq ecNewer = lit< tt
 ec-told g seq (ecGood h) =
-    let other = not (eqb (h.«vid_start») (g.«vid_start») && eqb (h.«data_start») (g.«data_start»)) in
-    each-or Above (when other 6) (when (differs seq (h.«image_seq»)) 7) (each-when other 6 (lit< tt))
-    (each-when (differs seq (h.«image_seq»)) 7 (lit< tt))
+    each-or Above (when (otherStarts g h) 6) (when (seqDisagrees seq (h.«image_seq»)) 7)
+    (each-when (otherStarts g h) 6 (lit< tt))
+    (each-when (seqDisagrees seq (h.«image_seq»)) 7 (lit< tt))
 ec-told g seq ecBlank = tt
 ec-told g seq ecLost = tt
 
@@ -80,7 +80,7 @@ vid-told (vidGood c) = each-when (not (isMappable (c.header .volume)) && eqb (c.
 vid-told vidBlank = tt
 vid-told vidBad = tt
 
-view-told : (g : Geometry) (seq : Option ℕ) (v : View) → Each Above (viewRefusal g seq v)
+view-told : (g : Geometry) (seq : ℕ) (v : View) → Each Above (viewRefusal g seq v)
 unfolding viewRefusal
 view-told g seq v =
     each-or Above (ecRefusal g seq (v.ec)) (vidRefusal (v.vid)) (ec-told g seq (v.ec)) (vid-told (v.vid))

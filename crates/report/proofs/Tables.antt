@@ -21,7 +21,6 @@ use Rattle.volume_table.specs.Table.{recordCount, recordsPart, recordAt, tableG
 use Rattle.volume_record.specs.declared.VolumeRecord.{VolumeRecord}
 use Rattle.volume_table.proofs.Good.{records-fine, reserved-within, empty-or-good, empty-reserves-none}
 use Rattle.report.specs.View.{Medium}
-use Rattle.report.specs.Scan.{differs}
 use Rattle.report.specs.Volumes.{
   Face,
   Faces,
@@ -34,6 +33,7 @@ use Rattle.report.specs.Volumes.{
   mapUpTo,
   mapOf,
   usedOf,
+  differs,
   misfit,
   misfitIn,
   misfitAt,
@@ -41,7 +41,7 @@ use Rattle.report.specs.Volumes.{
 }
 use Rattle.report.specs.Report.{faces, places, records, entries, refusal}
 use Rattle.report.proofs.Map.{map-length}
-use Rattle.report.proofs.Facts.{when-none, differs-false, parts}
+use Rattle.report.proofs.Facts.{when-none, parts}
 
 -- ---- 11 and 12
 
@@ -102,7 +102,7 @@ module _ (t : List ℕ) (fs : Faces) (e : misfitAt t fs ≡ none) (v l : ℕ) (r
         same-type = eqb-true _ _ (and-left (eqb f.vol-type r.«vol_type») (eqb f.pad r.«data_pad») a);
         same-pad = eqb-true _ _ (and-right (eqb f.vol-type r.«vol_type») (eqb f.pad r.«data_pad») a);
         same-used = λ s. u ∙ ap some (sym
-            (differs-false _ f.used (rw u at (or-left (differs (usedOf t fs v) f.used) _ (good-used s)))));
+            (eqb-true f.used _ (not-false _ (rw u at (or-left (differs (usedOf t fs v) f.used) _ (good-used s))))));
         used-within = λ s. ltb-false r.reserved f.used (or-right (differs (usedOf t fs v) f.used) _ (good-used s));
       }
 

@@ -15,7 +15,7 @@ use Rattle.geometry.specs.Slip.{slipGeometry}
 use Rattle.geometry.specs.declared.Geometry.{Geometry}
 use Rattle.report.specs.View.{Medium, mediumOf, copies}
 use Rattle.report.specs.Scan.{Refusal, imageSeq}
-use Rattle.report.specs.Volumes.{Entry, orZero}
+use Rattle.report.specs.Volumes.{Entry}
 use Rattle.report.specs.Report.{classAt, counterAt, entries, stateAt, meanOf, highestOf, readOnlyOf, gradeOf, taken, mark, refusal}
 use Rattle.report.specs.declared.Report.{Report}
 use Rattle.report.specs.declared.Attached.{Attached}
@@ -77,8 +77,8 @@ abbrev pub answerOr : ℕ → Answer ℕ → ℕ
 answerOr x (given k) = k
 answerOr x (refused k p) = x
 
--- the report's numbers; beside them, ours: the geometry, and "the image sequence that refusal 7 compares with", 0 if
--- there is none
+-- the report's numbers; beside them, ours: the geometry, and "the image sequence that refusal 7 compares with", "or
+-- zero if there is none" (02 2026-02)
 unfoldable pub reportOf : Medium → Report
 reportOf m = record {
   geometry = m.geometry;
@@ -86,7 +86,7 @@ reportOf m = record {
   entries = length (entries m);
   mean = meanOf m;
   highest = highestOf m.count (copies m.views);
-  «image_seq» = orZero (imageSeq m.count m.views);
+  «image_seq» = imageSeq m.count m.views;
   «read_only» = readOnlyOf m.count (copies m.views);
   table = answerOr 0 (taken m);
   «copies_mark» = mark m;

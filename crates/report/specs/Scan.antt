@@ -1,10 +1,10 @@
--- 01 'Refusal numbers': 5 to 8, which go PEB by PEB, and 10. Assumes nothing.
+-- 01 'Refusal numbers': 5 to 8, which go PEB by PEB, 7 as in 02 2026-02, and 10. Assumes nothing.
 use Prim.Native.Nat.{ℕ}
 use mathlib.Core.Bool.{Bool, true, false, not, _&&_}
 use mathlib.Core.Option.{Option, none, some}
 use lib.Dec.{eqb}
 use Rattle.base.specs.Answers.{orElse, mapO}
-use Rattle.base.specs.Below.{allBelow, firstBelow}
+use Rattle.base.specs.Below.{allBelow, firstBelow, firstNonzero}
 use Rattle.geometry.specs.declared.Geometry.{Geometry}
 use Rattle.header.specs.declared.EcHeader.{EcHeader}
 use Rattle.report.specs.View.{EcView, ecGood, ecNewer, ecBlank, ecLost, VidView, vidGood, vidNewer, vidBlank, vidBad, View, Views, Medium, ecs, isMappable}
@@ -20,21 +20,29 @@ abbrev pub when : Bool → ℕ → Option ℕ
 when true k = some k
 when false k = none
 
--- does a number differ from the one compared with, if there is one?
-abbrev pub differs : Option ℕ → ℕ → Bool
-differs none x = false
-differs (some y) x = not (eqb x y)
+-- the image sequence of a good EC header, 0 without one; 02 2026-02: "A zero says nothing"
+abbrev pub imageSeqOr0 : Option EcHeader → ℕ
+imageSeqOr0 none = 0
+imageSeqOr0 (some h) = h.«image_seq»
 
--- the image sequence that refusal 7 compares with: "that of the lowest PEB with a good EC"
-unfoldable pub imageSeq : ℕ → Views → Option ℕ
-imageSeq n vs = mapO (λ (x : ℕ × EcHeader). x.1.«image_seq») (firstBelow n (ecs vs))
+-- the image sequence that refusal 7 compares with; 02 2026-02: "that of the lowest PEB that has one", "or zero if there
+-- is none"
+unfoldable pub imageSeq : ℕ → Views → ℕ
+imageSeq n vs = firstNonzero n (λ i. imageSeqOr0 (ecs vs i))
 
--- 5 "header version above 1"; 6 "good EC names other VID or data starts"; 7 "image sequence differs"
-abbrev pub ecRefusal : Geometry → Option ℕ → EcView → Option ℕ
+-- 6 "good EC names other VID or data starts"
+abbrev pub otherStarts : Geometry → EcHeader → Bool
+otherStarts g h = not (eqb h.«vid_start» g.«vid_start» && eqb h.«data_start» g.«data_start»)
+
+-- does an image sequence disagree? 02 2026-02: "only nonzero values must agree, each compared with that of the lowest
+-- PEB that has one"
+abbrev pub seqDisagrees : ℕ → ℕ → Bool
+seqDisagrees seq x = not (eqb x 0) && not (eqb x seq)
+
+-- 5 "header version above 1"; 6; 7 "image sequence differs", if it is not zero
+abbrev pub ecRefusal : Geometry → ℕ → EcView → Option ℕ
 ecRefusal g seq ecNewer = some 5
-ecRefusal g seq (ecGood h) =
-    orElse (when (not (eqb h.«vid_start» g.«vid_start» && eqb h.«data_start» g.«data_start»)) 6)
-    (when (differs seq h.«image_seq») 7)
+ecRefusal g seq (ecGood h) = orElse (when (otherStarts g h) 6) (when (seqDisagrees seq h.«image_seq») 7)
 ecRefusal g seq ecBlank = none
 ecRefusal g seq ecLost = none
 
@@ -46,7 +54,7 @@ vidRefusal vidBlank = none
 vidRefusal vidBad = none
 
 -- "within one: EC version, 6, 7, VID version, 8"
-unfoldable pub viewRefusal : Geometry → Option ℕ → View → Option ℕ
+unfoldable pub viewRefusal : Geometry → ℕ → View → Option ℕ
 viewRefusal g seq v = orElse (ecRefusal g seq v.ec) (vidRefusal v.vid)
 
 abbrev pub atPeb : ℕ × ℕ → Refusal

@@ -15,7 +15,7 @@ use Rattle.volume_record.specs.Record.{recordOf}
 use Rattle.volume_table.specs.Table.{recordAt, takenLeb, takenRecords, copiesMark}
 use Rattle.volume_record.specs.declared.VolumeRecord.{VolumeRecord}
 use Rattle.report.specs.View.{Copy, Medium}
-use Rattle.report.specs.Scan.{Refusal, when, differs}
+use Rattle.report.specs.Scan.{Refusal, when}
 use Rattle.report.specs.Choice.{sound, chosen}
 
 -- what the rest of attaching may see of a chosen copy. `right`: not static, or its data CRC matches (a move may change
@@ -113,6 +113,11 @@ placeWritten v l p =
 -- used LEBs of the "volume's first entry"
 unfoldable pub usedOf : List ℕ → Faces → ℕ → Option ℕ
 usedOf t fs v = mapO (λ (x : ℕ × Face). x.1.used) (firstBelow (reservedOf (recordFor t v)) (fs v))
+
+-- does a number differ from the one compared with, if there is one?
+abbrev pub differs : Option ℕ → ℕ → Bool
+differs none x = false
+differs (some y) x = not (eqb x y)
 
 -- 12: "a user map entry's type or pad differs from its record; or, static, its used LEBs differ from its volume's first
 -- entry or exceed reserved"

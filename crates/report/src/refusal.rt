@@ -18,7 +18,7 @@ pub const NEWER_HEADER: u32 = 5;
 // a good EC header names other VID or data starts
 pub const OTHER_STARTS: u32 = 6;
 
-// the image sequence differs from that of the lowest PEB with a good EC header
+// the image sequence is not 0 and differs from that of the lowest PEB that has one
 pub const OTHER_IMAGE_SEQ: u32 = 7;
 
 // an unknown internal volume has compatibility 5

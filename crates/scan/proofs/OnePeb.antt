@@ -19,13 +19,13 @@ use Rattle.header.specs.declared.EcHeader.{EcHeader}
 use Rattle.words.specs.Words.{noWord, pebStride, entryStride}
 use Rattle.report.specs.View.{allFF, EcView, ecGood, ecNewer, ecBlank, ecLost, VidView, vidGood, vidNewer, vidBlank, vidBad, View, ecOf, viewOf, goodEc, isMappable}
 use Rattle.report.specs.Class.{firstClass}
-use Rattle.report.specs.Scan.{when, differs, ecRefusal, vidRefusal, viewRefusal}
+use Rattle.report.specs.Scan.{when, otherStarts, seqDisagrees, ecRefusal, vidRefusal, viewRefusal}
 use Rattle.report.specs.Report.{counterOr}
 use Rattle.report.specs.Volumes.{orZero}
 use Rattle.report.specs.Scratch.{keyWords}
 use Rattle.peb_scan.specs.Seen.{ecSeen, vidSeen}
 use Rattle.peb_scan.specs.Seen.{smallCounter}
-use Rattle.scan.specs.Totals.{seqIn, withEc, withVid}
+use Rattle.scan.specs.Totals.{withEc, withVid}
 use Rattle.scan.specs.Pass.{PebPassed}
 use Rattle.scan.specs.declared.EcTotals.{EcTotals}
 use Rattle.scan.specs.declared.VidTotals.{VidTotals}
@@ -75,13 +75,13 @@ zero-both : (a b : Option ℕ) → (orZero a ≡ 0 → a ≡ none) → (orZero b
 zero-both none b f h e = h e
 zero-both (some x) b f h e = f e
 
-ec-zero : (g : Geometry) (seq : Option ℕ) (e : EcView) → orZero (ecRefusal g seq e) ≡ 0 → ecRefusal g seq e ≡ none
+ec-zero : (g : Geometry) (seq : ℕ) (e : EcView) → orZero (ecRefusal g seq e) ≡ 0 → ecRefusal g seq e ≡ none
 ec-zero g seq ecNewer q = absurd (omega arith)
 ec-zero g seq ecBlank q = refl
 ec-zero g seq ecLost q = refl
 ec-zero g seq (ecGood h) q =
-    let starts = not (eqb h.«vid_start» g.«vid_start» && eqb h.«data_start» g.«data_start») in
-    let other = differs seq h.«image_seq» in
+    let starts = otherStarts g h in
+    let other = seqDisagrees seq h.«image_seq» in
     zero-both (when starts 6) (when other 7) (when-zero 5 starts) (when-zero 6 other) q
 
 vid-zero : (v : VidView) → orZero (vidRefusal v) ≡ 0 → vidRefusal v ≡ none
@@ -90,7 +90,7 @@ vid-zero vidNewer q = absurd (omega arith)
 vid-zero vidBlank q = refl
 vid-zero vidBad q = refl
 
-pub view-zero : (g : Geometry) (seq : Option ℕ) (v : View) → orZero (viewRefusal g seq v) ≡ 0
+pub view-zero : (g : Geometry) (seq : ℕ) (v : View) → orZero (viewRefusal g seq v) ≡ 0
     → viewRefusal g seq v ≡ none
 unfolding viewRefusal
 view-zero g seq v e =
@@ -102,7 +102,7 @@ view-zero g seq v e =
 pub record EcPassed (g : Geometry) (v : View) (s : ScanTotals) (e : EcSeen) (ec : EcTotals) (a : ℕ) : Type 0 where
   pub seen : ecSeen e ≡ v.ec
   pub totals : ec ≡ withEc s.ec (ecSeen e)
-  pub number : a ≡ orZero (ecRefusal g (seqIn ec) (ecSeen e))
+  pub number : a ≡ orZero (ecRefusal g ec.«image_seq» (ecSeen e))
 
 -- the VID header w was seen in a view of the bytes p, and b is its refusal
 pub record VidPassed (g : Geometry) (p : List ℕ) (v : View) (w : VidSeen) (b : ℕ) : Type 0 where
@@ -114,7 +114,7 @@ module _ {g : Geometry} {v : View} {s : ScanTotals} {e : EcSeen} {ec : EcTotals}
   totals-are : ec ≡ withEc s.ec v.ec
   totals-are = x.totals ∙ rw x.seen
 
-  number-is : a ≡ orZero (ecRefusal g (seqIn (withEc s.ec v.ec)) v.ec)
+  number-is : a ≡ orZero (ecRefusal g (withEc s.ec v.ec .«image_seq») v.ec)
   number-is = x.number ∙ rw (totals-are, x.seen)
 
   -- the EC header refuses
@@ -123,7 +123,7 @@ module _ {g : Geometry} {v : View} {s : ScanTotals} {e : EcSeen} {ec : EcTotals}
   unfolding viewRefusal
   ec-refused n = record {
     refusal = number-is
-        ∙ or-zero-first (ecRefusal g (seqIn (withEc s.ec v.ec)) v.ec) _ (λ z. n (number-is ∙ z));
+        ∙ or-zero-first (ecRefusal g (withEc s.ec v.ec .«image_seq») v.ec) _ (λ z. n (number-is ∙ z));
     ec = λ z. absurd (n z);
     vid = λ z. absurd (n z);
     pebs-are = rw (ne-eqb a 0 n);
@@ -131,7 +131,7 @@ module _ {g : Geometry} {v : View} {s : ScanTotals} {e : EcSeen} {ec : EcTotals}
   }
 
   module _ {p : List ℕ} {w : VidSeen} {b : ℕ} (z : a ≡ 0) (y : VidPassed g p v w b) where
-    both-numbers : b ≡ orZero (viewRefusal g (seqIn (withEc s.ec v.ec)) v)
+    both-numbers : b ≡ orZero (viewRefusal g (withEc s.ec v.ec .«image_seq») v)
     unfolding viewRefusal
     both-numbers = y.number ∙ rw (ec-zero g _ v.ec (sym number-is ∙ z), y.seen)
 

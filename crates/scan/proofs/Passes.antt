@@ -1,17 +1,17 @@
 -- Laws of the whole pass: totals, words and refusals grow PEB by PEB. Assumes nothing.
 use mathlib.Core.Path.{_≡_, refl, sym, ap, _∙_}
-use mathlib.Core.Bool.{Bool, true, false, cond}
+use mathlib.Core.Bool.{true, false, cond}
 use mathlib.Core.Option.{Option, none, some}
 use mathlib.Core.List.{List, _++_}
 use Prim.Native.Nat.{ℕ, zero, suc, _+_, _*_, _-_, _≤_, _<_}
 use native.Mathlib.Numerals.{add-one}
 use native.Mathlib.Omega.{arith}
-use borrow.Author.Tests.{eq-eqb, ne-eqb}
+use borrow.Author.Tests.{eqb-true, eqb-false, eq-eqb, ne-eqb}
+use lib.Dec.{eqb}
 use lib.ListN.{take, drop}
-use Rattle.base.specs.Answers.{orElse, mapO}
-use Rattle.base.specs.Below.{firstBelow, numbered}
-use Rattle.base.proofs.Answers.{orElse-nothing, none-some, by-option}
-use Rattle.base.proofs.Below.{first-keeps, first-is}
+use Rattle.base.specs.Below.{unlessZero, firstBelow}
+use Rattle.base.proofs.Answers.{by-test}
+use Rattle.base.proofs.Below.{zero-at, nonzero-keeps, first-is}
 use Rattle.base.proofs.Lists.{lent-part}
 use Rattle.base.proofs.Rows.{rows-step, rows-tail}
 use Rattle.geometry.specs.declared.Geometry.{Geometry}
@@ -19,13 +19,13 @@ use Rattle.header.specs.declared.EcHeader.{EcHeader}
 use Rattle.words.specs.Words.{pebStride, entryStride, pebWordsNeeded, mapWordsNeeded}
 use Rattle.report.specs.View.{EcView, ecGood, ecNewer, ecBlank, ecLost, Views, Medium, ecs, goodEc, viewOf, pebAt, mediumOf}
 use Rattle.report.specs.Class.{isUnused}
-use Rattle.report.specs.Scan.{imageSeq, ecRefusal, viewRefusal, refusal5678}
+use Rattle.report.specs.Scan.{imageSeqOr0, imageSeq, seqDisagrees, ecRefusal, viewRefusal, refusal5678}
 use Rattle.report.specs.Report.{counterOr, hasCounter, highestOf, readOnlyOf}
 use Rattle.report.specs.Volumes.{orZero}
 use Rattle.report.specs.Scratch.{keyWords, keysOf}
 use Rattle.report.proofs.Words.{key-length}
 use Rattle.peb_scan.specs.Seen.{smallCounter}
-use Rattle.scan.specs.Totals.{seqIn, withEc, withVid}
+use Rattle.scan.specs.Totals.{withEc, withVid}
 use Rattle.scan.specs.Pass.{TotalsOf, firstRow, firstWords, PebPassed, refusedAt, Passed}
 use Rattle.scan.specs.declared.EcTotals.{EcTotals}
 use Rattle.scan.specs.declared.ScanTotals.{ScanTotals}
@@ -34,27 +34,19 @@ use Rattle.scan.proofs.OnePeb.{small-view, view-zero}
 
 -- ---- the image sequence
 
-abbrev seqOf : ℕ × EcHeader → ℕ
-seqOf x = x.1.«image_seq»
-
-seq-good : (b : Bool) (q i : ℕ) (h : EcHeader) (x : Option (ℕ × EcHeader)) → cond b (some q) none ≡ mapO seqOf x
-    → some (cond b q h.«image_seq») ≡ mapO seqOf (orElse x (some (i, h)))
-seq-good true q i h none e = none-some (sym e)
-seq-good true q i h (some y) e = e
-seq-good false q i h none e = refl
-seq-good false q i h (some y) e = none-some e
-
--- the sequence that a good EC header is compared with is known once it is met
+-- the sequence that a nonzero one is compared with is known once it is met
 module _ (g : Geometry) (n i : ℕ) (vs : Views) (h : i < n) where
-  seq-known : (e : EcHeader) → ecs vs i ≡ some e → imageSeq (suc i) vs ≡ imageSeq n vs
+  seq-known :
+      seqDisagrees (imageSeq (suc i) vs) (imageSeqOr0 (ecs vs i))
+      ≡ seqDisagrees (imageSeq n vs) (imageSeqOr0 (ecs vs i))
   unfolding imageSeq
-  seq-known e q =
-      by-option (firstBelow i (ecs vs))
-      (λ p. rw (first-is (ecs vs) n i e h p q, p, q))
-      (λ y p. rw (first-keeps (ecs vs) n i y p (omega arith), p))
+  seq-known =
+      let f : ℕ → ℕ = λ j. imageSeqOr0 (ecs vs j) in
+      by-test (eqb (f i) 0) (λ q. rw q)
+      (λ q. rw (nonzero-keeps f n (suc i) (λ z. eqb-false (f i) 0 q (zero-at f (suc i) z i (omega arith))) h))
 
   ec-known : (x : EcView) → goodEc x ≡ ecs vs i → ecRefusal g (imageSeq (suc i) vs) x ≡ ecRefusal g (imageSeq n vs) x
-  ec-known (ecGood e) p = rw (seq-known e (sym p))
+  ec-known (ecGood e) p = rw (rw (← p) at seq-known)
   ec-known ecNewer p = refl
   ec-known ecBlank p = refl
   ec-known ecLost p = refl
@@ -66,45 +58,38 @@ module _ (g : Geometry) (n i : ℕ) (vs : Views) (h : i < n) where
 -- ---- the totals
 
 -- what an EC header adds, where o is the good one, if there is one
-record EcAdded (i : ℕ) (vs : Views) (s s′ : EcTotals) (o : Option EcHeader) : Type 0 where
-  seq : seqIn s′ ≡ mapO seqOf (orElse (firstBelow i (ecs vs)) (numbered i o))
-  image-seq : s′ .«image_seq» ≡ orZero (mapO seqOf (orElse (firstBelow i (ecs vs)) (numbered i o)))
+record EcAdded (s s′ : EcTotals) (o : Option EcHeader) : Type 0 where
+  image-seq : s′ .«image_seq» ≡ unlessZero s.«image_seq» (imageSeqOr0 o)
   counters : s′ .counters ≡ s.counters + counterOr 0 o
   good : s′ .good ≡ s.good + cond (hasCounter o) 1 0
   counters-small : s′ .counters ≤ s′.good * 0x7FFFFFFF
   good-few : s′ .good ≤ s.good + 1
 
 module _ (i : ℕ) (vs : Views) (s : ScanTotals) (o : TotalsOf i vs s) where
-  none-added : EcAdded i vs s.ec s.ec none
-  unfolding imageSeq
+  none-added : EcAdded s.ec s.ec none
   none-added = record {
-    seq = rw orElse-nothing o.seq;
-    image-seq = rw orElse-nothing o.image-seq;
+    image-seq = by-test (eqb s.ec.«image_seq» 0) (λ q. rw q (eqb-true _ 0 q)) (λ q. rw q);
     counters = omega arith;
     good = omega arith;
     counters-small = o.counters-small;
     good-few = omega arith;
   }
 
-  ec-added : (x : EcView) → smallCounter x → EcAdded i vs s.ec (withEc s.ec x) (goodEc x)
-  unfolding imageSeq
-  ec-added (ecGood h) l =
-      let q = seq-good s.ec.«has_seq» s.ec.«image_seq» i h (firstBelow i (ecs vs)) o.seq in
-      record {
-        seq = q;
-        image-seq = ap orZero q;
-        counters = refl;
-        good = refl;
-        counters-small = omega (arith, o.counters-small);
-        good-few = omega arith;
-      }
+  ec-added : (x : EcView) → smallCounter x → EcAdded s.ec (withEc s.ec x) (goodEc x)
+  ec-added (ecGood h) l = record {
+    image-seq = refl;
+    counters = refl;
+    good = refl;
+    counters-small = omega (arith, o.counters-small);
+    good-few = omega arith;
+  }
   ec-added ecNewer l = none-added
   ec-added ecBlank l = none-added
   ec-added ecLost l = none-added
 
-  seq-step : smallCounter (vs i .ec) → seqIn (withEc s.ec (vs i .ec)) ≡ imageSeq (suc i) vs
+  seq-step : smallCounter (vs i .ec) → withEc s.ec (vs i .ec) .«image_seq» ≡ imageSeq (suc i) vs
   unfolding imageSeq
-  seq-step small = ec-added (vs i .ec) small .seq
+  seq-step small = rw (← o.image-seq) (ec-added (vs i .ec) small .image-seq)
 
   totals-step : smallCounter (vs i .ec) → {s′ : ScanTotals} → s′.ec ≡ withEc s.ec (vs i .ec)
       → s′.vid ≡ withVid s.vid (isUnused (vs i .ec) (vs i .vid)) (vs i .vid) → TotalsOf (suc i) vs s′
@@ -112,8 +97,7 @@ module _ (i : ℕ) (vs : Views) (s : ScanTotals) (o : TotalsOf i vs s) where
   totals-step small e f =
       let a = ec-added (vs i .ec) small in
       record {
-        seq = rw e a.seq;
-        image-seq = rw e a.image-seq;
+        image-seq = rw e (seq-step small);
         counters = rw (e, ← o.counters) a.counters;
         good = rw (e, ← o.good) a.good;
         highest = rw (f, o.highest);
@@ -123,18 +107,16 @@ module _ (i : ℕ) (vs : Views) (s : ScanTotals) (o : TotalsOf i vs s) where
         good-few = rw e (omega (arith, a.good-few, o.good-few));
       }
 
-pub totals-none : (vs : Views) (s : ScanTotals) → s.ec.«has_seq» ≡ false → s.ec.«image_seq» ≡ 0
-    → s.ec.counters ≡ 0 → s.ec.good ≡ 0
+pub totals-none : (vs : Views) (s : ScanTotals) → s.ec.«image_seq» ≡ 0 → s.ec.counters ≡ 0 → s.ec.good ≡ 0
     → s.vid.highest ≡ 0 → s.vid.«read_only» ≡ false → s.vid.unused ≡ true → TotalsOf 0 vs s
 unfolding imageSeq highestOf readOnlyOf
-totals-none vs s a b c d e f h = record {
-  seq = rw a;
-  image-seq = b;
-  counters = c;
-  good = d;
-  highest = e;
-  read-only = f;
-  unused = h;
+totals-none vs s a b c d e f = record {
+  image-seq = a;
+  counters = b;
+  good = c;
+  highest = d;
+  read-only = e;
+  unused = f;
   counters-small = omega arith;
   good-few = omega arith;
 }

@@ -1,8 +1,8 @@
 -- What the contracts here cite: the totals over the PEBs passed so far, PEB by PEB. No public promise names them.
 -- Assumes nothing.
 use mathlib.Core.Path.{_≡_}
-use Prim.Native.Nat.{ℕ, zero, suc, _+_, _*_, _≤_, _<_, max}
-use mathlib.Core.Bool.{Bool, true, _&&_, _||_, cond}
+use Prim.Native.Nat.{ℕ, zero, suc, _+_, _*_, _≤_, _<_}
+use mathlib.Core.Bool.{cond}
 use mathlib.Core.Option.{Option, none, some}
 use mathlib.Core.List.{List, [], _∷_, _++_}
 use lib.Dec.{eqb}
@@ -12,21 +12,20 @@ use Rattle.base.specs.Lists.{put}
 use Rattle.geometry.specs.Placed.{Placed}
 use Rattle.geometry.specs.declared.Geometry.{Geometry}
 use Rattle.words.specs.Words.{noWord, pebStride, entryStride, mostPebs, pebWordsNeeded, mapWordsNeeded, HasPeb, HasEntry}
-use Rattle.report.specs.View.{EcView, ecGood, ecNewer, ecBlank, ecLost, VidView, View, Views, Medium, ecs, copies, goodEc, goodVid}
+use Rattle.report.specs.View.{View, Views, Medium, ecs, copies, goodEc}
 use Rattle.report.specs.Class.{firstClass, isUnused}
 use Rattle.report.specs.Scan.{Refusal, imageSeq, viewRefusal, refusal5678}
 use Rattle.report.specs.Volumes.{orZero}
-use Rattle.report.specs.Report.{counterOr, hasCounter, isInternal, sequenceOr0, highestOf, readOnlyOf}
+use Rattle.report.specs.Report.{counterOr, hasCounter, highestOf, readOnlyOf}
 use Rattle.report.specs.Scratch.{keyWords, keysOf}
-use Rattle.scan.specs.Totals.{seqIn, withEc, withVid, SmallTotals}
+use Rattle.scan.specs.Totals.{withEc, withVid, SmallTotals}
 use Rattle.scan.specs.declared.ScanTotals.{ScanTotals}
 use Rattle.scan.specs.declared.PebPass.{PebPass}
 use Rattle.scan.specs.declared.ImagePass.{ImagePass}
 
 -- the totals of the first n PEBs
 pub record TotalsOf (n : ℕ) (vs : Views) (s : ScanTotals) : Type 0 where
-  pub seq : seqIn s.ec ≡ imageSeq n vs
-  pub image-seq : s .ec .«image_seq» ≡ orZero (imageSeq n vs)
+  pub image-seq : s .ec .«image_seq» ≡ imageSeq n vs
   pub counters : s .ec .counters ≡ sumBelow n (λ i. counterOr 0 (ecs vs i))
   pub good : s .ec .good ≡ countBelow n (λ i. hasCounter (ecs vs i))
   pub highest : s .vid .highest ≡ highestOf n (copies vs)
@@ -55,7 +54,7 @@ firstWords n vs = concatBelow n (λ i. firstRow (vs i))
 -- and its words stored
 pub record PebPassed (g : Geometry) (i : ℕ) (v : View) (s : ScanTotals) (t : PebPass)
     (pebs pebs′ map map′ : List ℕ) : Type 0 where
-  pub refusal : t .refusal ≡ orZero (viewRefusal g (seqIn (withEc s.ec v.ec)) v)
+  pub refusal : t .refusal ≡ orZero (viewRefusal g (withEc s.ec v.ec .«image_seq») v)
   pub ec : t .refusal ≡ 0 → t.totals.ec ≡ withEc s.ec v.ec
   pub vid : t .refusal ≡ 0 → t.totals.vid ≡ withVid s.vid (isUnused v.ec v.vid) v.vid
   pub pebs-are : pebs′ ≡ cond (eqb t.refusal 0) (put (i * pebStride) (firstRow v) pebs) pebs

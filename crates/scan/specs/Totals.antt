@@ -1,22 +1,17 @@
 -- What the contracts here cite: totals with a PEB more. No public promise names them. Assumes nothing.
 use Prim.Native.Nat.{ℕ, _+_, _*_, _≤_, max}
-use mathlib.Core.Bool.{Bool, true, _&&_, _||_, cond}
-use mathlib.Core.Option.{Option, none, some}
+use mathlib.Core.Bool.{Bool, _&&_, _||_}
+use Rattle.base.specs.Below.{unlessZero}
 use Rattle.words.specs.Words.{mostPebs}
 use Rattle.report.specs.View.{EcView, ecGood, ecNewer, ecBlank, ecLost, VidView, goodVid}
 use Rattle.report.specs.Report.{isInternal, sequenceOr0}
 use Rattle.scan.specs.declared.EcTotals.{EcTotals}
 use Rattle.scan.specs.declared.VidTotals.{VidTotals}
 
--- the image sequence compared with, if there is one yet
-abbrev pub seqIn : EcTotals → Option ℕ
-seqIn s = cond s.«has_seq» (some s.«image_seq») none
-
 -- the totals with an EC header more
 abbrev pub withEc : EcTotals → EcView → EcTotals
 withEc s (ecGood h) = record {
-  «has_seq» = true;
-  «image_seq» = cond s.«has_seq» s.«image_seq» h.«image_seq»;
+  «image_seq» = unlessZero s.«image_seq» h.«image_seq»;
   counters = s.counters + h.counter;
   good = s.good + 1;
 }

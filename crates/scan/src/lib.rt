@@ -6,8 +6,7 @@ pub use run::pass;
 
 // What the EC headers passed so far add up to.
 pub struct EcTotals {
-    // the image sequence of the lowest PEB with a good EC header; 0 if there is none
-    pub has_seq: bool,
+    // the image sequence of the lowest PEB that has one; 0 if there is none
     pub image_seq: u32,
     // the good counters' sum and number
     pub counters: u64,

@@ -64,7 +64,6 @@ fn no_totals() -> ScanTotals
     ensures { λ s. ⌜ ((vs : Views) → TotalsOf 0 vs s) ⌝ }
 {
     let ec = EcTotals {
-        has_seq: false,
         image_seq: 0,
         counters: 0,
         good: 0,

@@ -1,15 +1,16 @@
 // The totals of the report, and the refusals 5 to 8 of one PEB.
 ghost use mathlib.Core.Path.{_≡_};
-ghost use mathlib.Core.Bool.{not, _&&_, _||_, cond};
+ghost use mathlib.Core.Bool.{not, _&&_, _||_};
 ghost use mathlib.Core.List.{List};
 ghost use Prim.Native.Nat.{ℕ, max};
 ghost use lib.Dec.{eqb};
+ghost use Rattle.base.specs.Below.{unlessZero};
 ghost use Rattle.geometry.specs.declared.Geometry.{Geometry};
 ghost use Rattle.report.specs.View.{isMappable, ecGood};
-ghost use Rattle.report.specs.Scan.{when, differs, ecRefusal, vidRefusal};
+ghost use Rattle.report.specs.Scan.{when, seqDisagrees, ecRefusal, vidRefusal};
 ghost use Rattle.report.specs.Volumes.{orZero};
 ghost use Rattle.peb_scan.specs.Seen.{ecSeen, vidSeen, smallCounter};
-ghost use Rattle.scan.specs.Totals.{seqIn, withEc, withVid, withSequence, SmallTotals};
+ghost use Rattle.scan.specs.Totals.{withEc, withVid, withSequence, SmallTotals};
 use crate::EcTotals;
 use crate::VidTotals;
 use geometry::Geometry;
@@ -42,35 +43,34 @@ fn with_good_ec(s: EcTotals, h: EcHeader) -> EcTotals
 {
     let mut r = s;
     r.image_seq = first_seq(s, h.image_seq);
-    r.has_seq = true;
     r.counters += h.counter;
     r.good += 1;
     r
 }
 
-// The image sequence that was met first.
+// The first image sequence met that is not 0.
 fn first_seq(s: EcTotals, seq: u32) -> u32
-    ensures { λ r. ⌜ r ≡ cond (s .«has_seq») (s .«image_seq») seq ⌝ }
+    ensures { λ r. ⌜ r ≡ unlessZero (s .«image_seq») seq ⌝ }
 {
-    if s.has_seq {
-        return s.image_seq;
+    if s.image_seq == 0 {
+        return seq;
     }
-    seq
+    s.image_seq
 }
 
-// Does an image sequence differ from the one compared with?
-fn other_seq(s: EcTotals, seq: u32) -> bool
-    ensures { λ r. ⌜ r ≡ differs (seqIn s) seq ⌝ }
+// Does an image sequence disagree with the one compared with?
+fn seq_disagrees(s: EcTotals, seq: u32) -> bool
+    ensures { λ r. ⌜ r ≡ seqDisagrees (s .«image_seq») seq ⌝ }
 {
-    if s.has_seq {
-        return seq != s.image_seq;
+    if seq == 0 {
+        return false;
     }
-    false
+    seq != s.image_seq
 }
 
 // The refusal 5, 6 or 7 of an EC header, 0 if there is none; the totals have the header in.
 pub fn ec_refusal(e: EcSeen, g: Geometry, s: EcTotals) -> u32
-    ensures { λ r. ⌜ r ≡ orZero (ecRefusal g (seqIn s) (ecSeen e)) ⌝ }
+    ensures { λ r. ⌜ r ≡ orZero (ecRefusal g (s .«image_seq») (ecSeen e)) ⌝ }
 {
     match e {
         EcSeen::Newer => return refusal::NEWER_HEADER,
@@ -81,7 +81,7 @@ pub fn ec_refusal(e: EcSeen, g: Geometry, s: EcTotals) -> u32
 }
 
 fn good_ec_refusal(h: EcHeader, g: Geometry, s: EcTotals) -> u32
-    ensures { λ r. ⌜ r ≡ orZero (ecRefusal g (seqIn s) (ecGood h)) ⌝ }
+    ensures { λ r. ⌜ r ≡ orZero (ecRefusal g (s .«image_seq») (ecGood h)) ⌝ }
 {
     if h.vid_start != g.vid_start {
         return refusal::OTHER_STARTS;
@@ -89,7 +89,7 @@ fn good_ec_refusal(h: EcHeader, g: Geometry, s: EcTotals) -> u32
     if h.data_start != g.data_start {
         return refusal::OTHER_STARTS;
     }
-    if other_seq(s, h.image_seq) {
+    if seq_disagrees(s, h.image_seq) {
         return refusal::OTHER_IMAGE_SEQ;
     }
     0

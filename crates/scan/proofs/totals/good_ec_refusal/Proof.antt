@@ -5,7 +5,6 @@ use borrow.Author.Tests.{eq-eqb, ne-eqb}
 use Rattle.report.specs.View.{ecGood}
 use Rattle.report.specs.Scan.{when, ecRefusal}
 use Rattle.report.specs.Volumes.{orZero}
-use Rattle.scan.specs.Totals.{seqIn}
 use Rattle.scan.proofs.totals.good_ec_refusal.Statement.{statement}
 use Rattle.scan.proofs.totals.good_ec_refusal.Tie as tie
 
@@ -16,11 +15,11 @@ returns-2 : tie.Need-returns-2
 returns-2 c = rw (eq-eqb _ _ c.before.before.before.if1.left, ne-eqb _ _ c.if2.taken)
 
 -- the starts are the geometry's, and the image sequence decides
-by-seq : (c : tie.After-other-seq) → let a = c.before.before.before.before.before.before.before.args in
-    orZero (ecRefusal a.g (seqIn a.s) (ecGood a.h)) ≡ orZero (when c.other-seq.result 7)
+by-seq : (c : tie.After-seq-disagrees) → let a = c.before.before.before.before.before.before.before.args in
+    orZero (ecRefusal a.g a.s.«image_seq» (ecGood a.h)) ≡ orZero (when c.seq-disagrees.result 7)
 by-seq c =
     let d = c.before.before.before.before in
-    rw (eq-eqb _ _ d.if1.left, eq-eqb _ _ c.before.if2.left, c.other-seq.ensures)
+    rw (eq-eqb _ _ d.if1.left, eq-eqb _ _ c.before.if2.left, c.seq-disagrees.ensures)
 
 returns-3 : tie.Need-returns-3
 returns-3 c = sym (by-seq c.before ∙ rw c.if3.taken)
