@@ -1,15 +1,16 @@
 // Production images: what building one answers, and what it leaves in the lent image. The definitions and laws that the
 // builder and its theorem cite stand in specs/ and proofs/.
+#![tactic(auto)]
 
 // The whole image is filled, or a refusal's number and place.
-#[derive(Drop)]
+#[derive(Clone, Copy)]
 pub enum Built {
     Done,
     Refused { number: u32, place: u32 },
 }
 
 // What the VID headers of all LEBs of a volume share.
-#[derive(Drop)]
+#[derive(Clone, Copy)]
 pub struct VolumeShape {
     pub volume: u32,
     pub vol_type: u8,

@@ -1,4 +1,5 @@
 // The builder's slip: the head of an image's slip, a field for each volume, and the tail.
+#![tactic(auto)]
 ghost use Rattle.std.specs.Prelude.{◌≡◌, cond, ◌+◌, ◌≤◌, length};
 ghost use Rattle.geometry.specs.Geometry.{geometry_read};
 ghost use Rattle.builder_rules.specs.Slip.{length_at, volume_field_at, field_start, volume_count, builder_geometry};
@@ -9,7 +10,7 @@ use geometry::{GeometryRead, HEAD_SIZE};
 pub const FIELD_HEAD_SIZE: usize = 3;
 
 // The volume fields of a slip: how many, and where the field after them starts.
-#[derive(Drop)]
+#[derive(Clone, Copy)]
 pub struct VolumeFields {
     pub count: usize,
     pub end: usize,

@@ -1,4 +1,5 @@
 // The volume table that the volume fields of a slip give; refusal 20.
+#![tactic(auto)]
 mod records;
 mod table;
 

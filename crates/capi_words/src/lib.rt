@@ -1,4 +1,5 @@
 // The structs of the library as words that C lends: 64 bits each, in the order of include/choduljin.h.
+#![tactic(auto)]
 mod read;
 mod store;
 mod write;

@@ -1,6 +1,7 @@
 // CRC-32/JAMCRC of a byte slice. Short slices go through a table, four bits at a look-up. In longer ones most words are
 // folded: left out, and added to later words, at the distances that a sparse multiple of the polynomial gives. The CRC
 // stays the same.
+#![tactic(auto)]
 ghost use Rattle.std.specs.Prelude.{◌≡◌};
 ghost use Rattle.crc32.specs.Crc.{crc_from, crc_of};
 

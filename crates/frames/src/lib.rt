@@ -1,4 +1,5 @@
 // Frames from standard input, and words to standard output: what the test programs share.
+#![tactic(auto)]
 ghost use Rattle.std.specs.Prelude.{◌<◌, ◌≤◌, length};
 
 mod headers;
@@ -88,7 +89,7 @@ pub fn rest<'a>(payload: &'a [u8], at: usize) -> &'a [u8] {
 }
 
 // Where a part of a payload stands.
-#[derive(Drop)]
+#[derive(Clone, Copy)]
 pub struct Part {
     pub start: usize,
     pub end: usize,

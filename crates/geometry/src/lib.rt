@@ -1,4 +1,5 @@
 // The slip before an image, the geometry of the flash chip that it gives, and the size of the image.
+#![tactic(auto)]
 mod image;
 mod rules;
 mod slip;
@@ -8,7 +9,7 @@ pub use rules::check_geometry;
 pub use slip::{HEAD_SIZE, ends_at, read_head, read_slip};
 
 // Where headers and data stand in a physical block (PEB), and how long a logical one (LEB) is.
-#[derive(Drop)]
+#[derive(Clone, Copy)]
 pub struct Geometry {
     pub peb_size: u32,
     // the minimal I/O unit: the page that is written at once
@@ -21,7 +22,7 @@ pub struct Geometry {
 }
 
 // A geometry, or refusal 1 (the slip is malformed) or 2 (the numbers are outside the rules).
-#[derive(Drop)]
+#[derive(Clone, Copy)]
 pub enum GeometryRead {
     Good(Geometry),
     Malformed,

@@ -1,5 +1,6 @@
 // The erase counter (EC) and volume identifier (VID) headers of a physical block, 64 bytes each: what they are, and
 // their fields one by one.
+#![tactic(auto)]
 mod fields;
 
 pub use fields::{
@@ -27,7 +28,7 @@ pub const COMPAT_PRESERVE: u8 = 4;
 
 pub const COMPAT_REJECT: u8 = 5;
 
-#[derive(Drop)]
+#[derive(Clone, Copy)]
 pub struct EcHeader {
     pub version: u8,
     pub counter: u64,
@@ -37,7 +38,7 @@ pub struct EcHeader {
 }
 
 // What a block's EC header is; Newer is refusal 5, Short refusal 4.
-#[derive(Drop)]
+#[derive(Clone, Copy)]
 pub enum EcRead {
     Good(EcHeader),
     Lost,
@@ -45,7 +46,7 @@ pub enum EcRead {
     Short,
 }
 
-#[derive(Drop)]
+#[derive(Clone, Copy)]
 pub struct VidHeader {
     pub version: u8,
     pub vol_type: u8,
@@ -61,7 +62,7 @@ pub struct VidHeader {
 }
 
 // What a block's VID header is; Newer is refusal 5, Short refusal 4.
-#[derive(Drop)]
+#[derive(Clone, Copy)]
 pub enum VidRead {
     Good(VidHeader),
     Bad,
@@ -70,7 +71,7 @@ pub enum VidRead {
 }
 
 // Whether a header was written; Short is refusal 4, NotGood is refusal 19.
-#[derive(Drop)]
+#[derive(Clone, Copy)]
 pub enum Written {
     Done,
     Short,

@@ -1,4 +1,5 @@
 // Reading a report's tables: what they say of one PEB, and where a LEB is.
+#![tactic(auto)]
 ghost use Rattle.std.specs.Prelude.{◌≡◌};
 ghost use Rattle.words.specs.Words.{HasEntry};
 ghost use Rattle.lookup.specs.Lookup.{peb_answer, peb_in, is_entry, place_answer, place_in};
@@ -6,14 +7,14 @@ ghost use Rattle.lookup.specs.Lookup.{peb_answer, peb_in, is_entry, place_answer
 use words::{ENTRY_WORDS, PEB_WORDS, class_word, counter_word, lnum_word, peb_word, volume_word};
 
 // A PEB's class and erase counter (0xFFFFFFFF if it is lost).
-#[derive(Drop)]
+#[derive(Clone, Copy)]
 pub enum PebReport {
     Given { class: u32, counter: u32 },
     Absent,
 }
 
 // The PEB that holds a LEB.
-#[derive(Drop)]
+#[derive(Clone, Copy)]
 pub enum LebPlace {
     At(u32),
     Absent,

@@ -1,4 +1,5 @@
 // The copy that is moved: whether its data are right, and the new VID header.
+#![tactic(auto)]
 ghost use Rattle.std.specs.Prelude.{◌≡◌, ◌+◌, ◌-◌, ◌^◌, ◌≤◌, ◌<◌, length, take, drop};
 ghost use Rattle.base.specs.Lists.{part};
 ghost use Rattle.crc32.specs.Crc.{crc_of};
@@ -12,7 +13,7 @@ use geometry::Geometry;
 use header::{STATIC, VidHeader};
 
 // What the data of a copy say.
-#[derive(Drop)]
+#[derive(Clone, Copy)]
 pub struct Examined {
     // is it unsound, or static with a wrong data CRC?
     pub damaged: bool,
@@ -23,7 +24,7 @@ pub struct Examined {
 }
 
 // The CRCs of the data at the old and at the new data size.
-#[derive(Drop)]
+#[derive(Clone, Copy)]
 struct Crcs {
     old: u32,
     new: u32,

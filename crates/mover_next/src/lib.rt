@@ -1,4 +1,5 @@
 // What the next step of a move will write: for callers that bring the image's bytes to where they are kept.
+#![tactic(auto)]
 ghost use Rattle.std.specs.Prelude.{◌≡◌, ◌+◌, ◌-◌, ◌*◌, ◌<◌, min};
 ghost use Rattle.job.specs.Write.{peb_start};
 ghost use Rattle.mover_rules.specs.Write.{data_steps};
@@ -12,7 +13,7 @@ use mover_steps::{data_steps, may_run, peb_start, unit_length};
 
 // The write of a plan's next step: from which byte of the image on, and how many; nothing when all steps are done;
 // refusal 18.
-#[derive(Drop)]
+#[derive(Clone, Copy)]
 pub enum NextWrite {
     Store { at: usize, length: usize },
     Erase { at: usize, length: usize },

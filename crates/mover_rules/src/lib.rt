@@ -1,9 +1,10 @@
 // A move of one logical block: what its beginning and its steps answer. The definitions and laws that the mover and the
 // power-cut theorem cite stand in specs/ and proofs/.
+#![tactic(auto)]
 use header::{EcHeader, VidHeader};
 
 // All that the steps of a move need beside the image.
-#[derive(Drop)]
+#[derive(Clone, Copy)]
 pub struct Plan {
     // the geometry's three numbers
     pub peb_size: u32,
@@ -20,14 +21,14 @@ pub struct Plan {
 }
 
 // A plan, or a refusal's number and place.
-#[derive(Drop)]
+#[derive(Clone, Copy)]
 pub enum Begun {
     Planned(Plan),
     Refused { number: u32, place: u32 },
 }
 
 // The plan as it goes on, done, or refusal 18.
-#[derive(Drop)]
+#[derive(Clone, Copy)]
 pub enum Stepped {
     On(Plan),
     Done,

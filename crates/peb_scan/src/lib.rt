@@ -1,4 +1,5 @@
 // What one PEB, judged alone, says: its headers, and its first words in the lent tables.
+#![tactic(auto)]
 mod first_words;
 mod headers;
 
@@ -7,7 +8,7 @@ use header::{EcHeader, VidHeader};
 pub use headers::{is_internal, is_mappable, see_ec, see_vid};
 
 // What an EC header is.
-#[derive(Drop)]
+#[derive(Clone, Copy)]
 pub enum EcSeen {
     Good(EcHeader),
     Newer,
@@ -16,7 +17,7 @@ pub enum EcSeen {
 }
 
 // What a VID header is.
-#[derive(Drop)]
+#[derive(Clone, Copy)]
 pub enum VidSeen {
     Good(VidHeader),
     Newer,

@@ -1,5 +1,6 @@
 // The report on an image: what attaching answers. The definitions and laws that attaching and moving cite stand in
 // specs/ and proofs/.
+#![tactic(auto)]
 pub mod class;
 pub mod refusal;
 pub mod state;
@@ -8,7 +9,7 @@ use geometry::Geometry;
 
 // The report's numbers; the classes, counters, map and volume states are in the lent tables. Geometry, PEB count and
 // image sequence are for callers that go on with the image.
-#[derive(Drop)]
+#[derive(Clone, Copy)]
 pub struct Report {
     pub geometry: Geometry,
     pub peb_count: u32,
@@ -25,7 +26,7 @@ pub struct Report {
 }
 
 // A report, or a refusal's number and place.
-#[derive(Drop)]
+#[derive(Clone, Copy)]
 pub enum Attached {
     Given(Report),
     Refused { number: u32, place: u32 },

@@ -1,11 +1,12 @@
 // One pass over an image's headers: what each PEB, judged alone, says; refusals 5 to 8; the totals of the report.
+#![tactic(auto)]
 mod run;
 mod totals;
 
 pub use run::pass;
 
 // What the EC headers passed so far add up to.
-#[derive(Drop)]
+#[derive(Clone, Copy)]
 pub struct EcTotals {
     // the image sequence of the lowest PEB that has one; 0 if there is none
     pub image_seq: u32,
@@ -15,7 +16,7 @@ pub struct EcTotals {
 }
 
 // What the PEBs passed so far add up to beside their EC headers.
-#[derive(Drop)]
+#[derive(Clone, Copy)]
 pub struct VidTotals {
     // the highest sequence, and whether an internal volume asks for read-only
     pub highest: u64,
@@ -24,21 +25,21 @@ pub struct VidTotals {
     pub unused: bool,
 }
 
-#[derive(Drop)]
+#[derive(Clone, Copy)]
 pub struct ScanTotals {
     pub ec: EcTotals,
     pub vid: VidTotals,
 }
 
 // What the pass over one PEB comes to: its refusal (0 if none), and the totals with it.
-#[derive(Drop)]
+#[derive(Clone, Copy)]
 pub struct PebPass {
     pub refusal: u32,
     pub totals: ScanTotals,
 }
 
 // What the pass over an image comes to: the first refusal (0 if none) with its PEB, and the totals.
-#[derive(Drop)]
+#[derive(Clone, Copy)]
 pub struct ImagePass {
     pub refusal: u32,
     pub place: u32,

@@ -154,7 +154,7 @@ module _ {g : Geometry} {n : ℕ} {image : List ℕ} {s : ScanTotals} {r : List 
         p.totals.good,
         p.totals.highest,
         p.totals.image_seq,
-        p.totals.read-only,
+        p.totals.read_only,
         p.taken_is,
         p.mark_is,
       )

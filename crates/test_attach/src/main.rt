@@ -1,4 +1,5 @@
 // Attaches the image of each frame, and prints the answer and all lent words after it.
+#![tactic(auto)]
 
 fn main() {
     for _ in 0..frames::count() {

@@ -1,4 +1,5 @@
 // Carries out the operations of each frame on its image, and prints what each answers and leaves.
+#![tactic(auto)]
 fn main() {
     for _ in 0..frames::count() {
         turn();

@@ -1,4 +1,5 @@
 // What a row of calls of C's `read` or `write` has come to, from their answers alone.
+#![tactic(auto)]
 ghost use Rattle.std.specs.Prelude.{◌≡◌};
 ghost use Rattle.transfer.specs.Transfer.{begun, after_bytes, after_interruption, after_error, after_call};
 
@@ -6,13 +7,13 @@ ghost use Rattle.transfer.specs.Transfer.{begun, after_bytes, after_interruption
 const INTERRUPTIONS: usize = 1000000;
 
 // A row of calls that goes on: the bytes moved so far, and the interruptions that it still bears.
-#[derive(Drop)]
+#[derive(Clone, Copy)]
 pub struct Progress {
     pub moved: usize,
     pub tries: usize,
 }
 
-#[derive(Drop)]
+#[derive(Clone, Copy)]
 pub enum Transfer {
     // Another call is due.
     On(Progress),

@@ -10,7 +10,7 @@ pub const HELD: usize = 61440;
 // One byte more, to tell whether there is more.
 const MOST: usize = 61441;
 
-#[derive(Drop)]
+#[derive(Clone, Copy)]
 pub enum Input {
     // All of it: so many bytes.
     Whole(usize),

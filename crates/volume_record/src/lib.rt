@@ -1,4 +1,5 @@
 // A volume record of 172 bytes: its fields, and its reader.
+#![tactic(auto)]
 mod fields;
 mod record;
 
@@ -15,7 +16,7 @@ pub const AUTORESIZE: u8 = 1;
 pub const SKIP_CRC: u8 = 2;
 
 // A volume record: its numbers beside the name's 128 bytes.
-#[derive(Drop)]
+#[derive(Clone, Copy)]
 pub struct VolumeRecord {
     pub reserved: u32,
     pub alignment: u32,
@@ -28,7 +29,7 @@ pub struct VolumeRecord {
 }
 
 // What the bytes of a record are; Short is refusal 4.
-#[derive(Drop)]
+#[derive(Clone, Copy)]
 pub enum RecordKind {
     Empty,
     Good,
@@ -37,14 +38,14 @@ pub enum RecordKind {
 }
 
 // What writing a record comes to.
-#[derive(Drop)]
+#[derive(Clone, Copy)]
 pub enum RecordWritten {
     Done,
     Short,
 }
 
 // The answer beside the record: an enum cannot hold an array.
-#[derive(Drop)]
+#[derive(Clone, Copy)]
 pub struct RecordRead {
     pub kind: RecordKind,
     pub record: VolumeRecord,
