@@ -35,6 +35,9 @@ same_test true b f g = sym (f refl)
 same_test false b f g = sym (not_so b (λ e. false≢true (g e)))
 
 -- what a callee answered, past a branch on `!answer`
+pub value_is : {r s b : Bool} → r ≡ s → r ≡ b → s ≡ b
+value_is p q = sym p ∙ q
+
 pub was_false : {r s : Bool} → r ≡ s → not r ≡ true → s ≡ false
 was_false {r} p q = sym p ∙ not-true r q
 

@@ -1,0 +1,10 @@
+-- `bench_attach::bench_attach` meets its contract. Assumes nothing.
+use mathlib.Core.Path.{ap, ◌∙◌}
+use borrow.Author.Rules.{rules}
+use Rattle.bench_attach.specs.Code.{code_of}
+use Rattle.bench_attach.proofs.bench_attach.Goals as goal
+
+pub returns : goal.returns
+returns c =
+    let e = (c.attach-a.ensures.answer, c.attach-a.ensures.tables) in
+    record { answer = c.code.ensures ∙ ap code_of e.0; tables = e.1 }

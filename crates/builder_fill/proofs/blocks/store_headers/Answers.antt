@@ -1,0 +1,53 @@
+-- `builder_fill::blocks::store_headers` meets its contract. Assumes nothing.
+use native.Mathlib.Omega.{arith}
+use borrow.Author.Rules.{rules}
+use Rattle.builder_rules.specs.Blocks.{built_ec}
+use Rattle.builder_rules.specs.Filling.{seq_in}
+use Rattle.builder_fill.proofs.Stores.{headers_stored, ec_lent}
+use Rattle.builder_fill.proofs.blocks.store_headers.Reads as reads
+use Rattle.builder_fill.proofs.blocks.store_headers.Lts as lts
+use Rattle.base.proofs.store.Reads as store-reads
+use Rattle.flash_writes.proofs.erase.Reads as erase-reads
+use Rattle.flash_writes.proofs.store_vid.Reads as store-vid-reads
+use Rattle.builder_fill.proofs.blocks.store_headers.Goals as goal
+
+pub overflow_cast-g : goal.overflow_cast-g
+overflow_cast-g c =
+    search rules
+
+pub erase-requires : goal.erase-requires
+erase-requires c =
+    search rules
+
+pub store-requires : goal.store-requires
+store-requires c =
+    omega (
+      arith,
+      ec_lent c.args.g c.requires.1.1.0,
+      c.requires.1.0.vid_after_ec,
+      c.requires.1.0.data_after_vid,
+      c.image-1.given,
+      c.requires.0,
+    )
+
+pub overflow_cast-g-2 : goal.overflow_cast-g-2
+overflow_cast-g-2 c =
+    search rules
+
+pub overflow_add-at : goal.overflow_add-at
+overflow_add-at c =
+    search rules
+
+pub store_vid-requires : goal.store_vid-requires
+store_vid-requires c =
+    search rules
+
+pub shape_of-image : goal.shape_of-image
+shape_of-image c =
+    search rules
+
+pub returns : goal.returns
+returns c =
+    let a = c.args in
+    headers_stored a.g c.requires.1.0 (built_ec a.g (seq_in a.ec.now)) a.at a.image.now a.vid c.requires.0 c.erase.ensures
+    c.requires.1.1.0 c.store.ensures c.store_vid.ensures

@@ -1,0 +1,28 @@
+-- `builder_fill::image::fill_volumes` meets its contract: the volumes before the v-th are stored. Assumes nothing.
+use mathlib.Core.Path.{◌≡◌, refl, ap}
+use Prim.Native.Nat.{ℕ, ◌+◌, ◌-◌, ◌*◌, ◌≤◌, ◌<◌}
+use native.Mathlib.Nat.{div-add-mod'}
+use native.Mathlib.Numerals.{add-one}
+use native.Mathlib.Omega.{arith}
+use borrow.Author.Rules.{rules}
+use lib.ListN.{length, take, drop}
+use Rattle.base.specs.Below.{sum_below}
+use Rattle.geometry.specs.Image.{peb_count_of}
+use Rattle.builder_rules.specs.Blocks.{BuildPlan, lebs_of, length_of, volume_of, volume_content, shape_of}
+use Rattle.builder_rules.specs.Filling.{Filled}
+use Rattle.builder_rules.proofs.Accepted.{volumes_few, pad_small, content_within}
+use Rattle.builder_fill.specs.Pebs.{plan_lent}
+use Rattle.builder_fill.proofs.Filled.{lent_content, last_within, volume_ready, volume_filled}
+use Rattle.builder_fill.proofs.image.fill_volumes.Reads as reads
+use Rattle.builder_fill.proofs.image.fill_volumes.Lts as lts
+use Rattle.builder_fill.proofs.volume.fill_volume.Reads as fill-volume-reads
+use Rattle.builder_fill.proofs.volume.shape_of.Reads as shape-of-reads
+use Rattle.builder_fill.proofs.image.fill_volumes.Given as goal
+
+abbrev pub invariant-loop-v : goal.invariant-loop-v
+invariant-loop-v l = let b = plan_lent l.g l.ec l.table l.lengths l.content in
+    ((l.v ≤ length l.lengths) × ((l.p ≡ 2 + sum_below l.v (lebs_of b)) × (l.from ≡ sum_below l.v (length_of b))))
+    × ((length l.image ≡ length l.initial.image) × Filled b l.p l.image)
+
+abbrev pub decreases-loop-v : goal.decreases-loop-v
+decreases-loop-v l = length l.lengths - l.v

@@ -1,0 +1,22 @@
+-- `builder_table::table::store_records` meets its contract: the records before the i-th are stored. Assumes nothing.
+use mathlib.Core.Path.{◌≡◌, refl, ap, ◌∙◌}
+use mathlib.Core.List.{◌++◌}
+use Prim.Native.Nat.{◌+◌, ◌-◌, ◌*◌, ◌≤◌}
+use native.Mathlib.Omega.{arith}
+use borrow.Author.Rules.{rules}
+use lib.ListN.{length, drop}
+use Rattle.base.specs.Below.{concat_below}
+use Rattle.volume_record.specs.Record.{record_bytes}
+use Rattle.builder_rules.specs.Slip.{field_start, volume_field}
+use Rattle.builder_rules.specs.Table.{record_of_field, record_from}
+use Rattle.builder_slip.proofs.Laws.{first_start, field_held}
+use Rattle.builder_rules.proofs.Fields.{field_sized, row_field}
+use Rattle.builder_table.proofs.Laws.{value_is, next_value, next_within, row_more}
+use Rattle.builder_table.proofs.table.store_records.Given as goal
+
+abbrev pub invariant-loop-i : goal.invariant-loop-i
+invariant-loop-i l = (l.i ≤ l.count) × ((l.at ≡ field_start l.slip l.i) × ((length l.table ≡ length l.initial.table)
+    × (l.table ≡ concat_below l.i (record_from l.leb_size l.slip) ++ drop (l.i * 172) l.initial.table)))
+
+abbrev pub decreases-loop-i : goal.decreases-loop-i
+decreases-loop-i l = l.count - l.i

@@ -1,0 +1,33 @@
+-- `capi::headers::choduljin_write_ec` meets its contract. Assumes nothing.
+use mathlib.Core.Path.{refl, ap, ◌∙◌}
+use borrow.Author.Tests.{lt-ltb, le-ltb}
+use borrow.Author.Rules.{rules}
+use Rattle.base.proofs.Answers.{value_is, was_false, was_true}
+use Rattle.header.specs.Ec.{ec_written, ec_out}
+use Rattle.header.specs.declared.EcHeader.{EcHeader}
+use Rattle.capi_words.specs.Structs.{ec_most}
+use Rattle.capi_words.proofs.Laws.{within}
+use Rattle.capi_answers.specs.Calls.{number_of}
+use Rattle.capi.proofs.Laws.{told}
+use Rattle.capi.proofs.headers.choduljin_write_ec.Goals as goal
+
+pub returns-then-ec-lt-EC_WORDS : goal.returns-then-ec-lt-EC_WORDS
+returns-then-ec-lt-EC_WORDS c =
+    let q = rw (lt-ltb _ _ c.if-ec-lt-EC_WORDS.true) (refl, refl) in record { answer = q.0; out = q.1 }
+
+pub returns-then-not-ec_fits : goal.returns-then-not-ec_fits
+returns-then-not-ec_fits c =
+    let q = rw (le-ltb _ _ c.if-ec-lt-EC_WORDS.false, value_is c.ec_fits.ensures c.if-not-ec_fits.true) (refl, refl) in record { answer = q.0; out = q.1 }
+
+pub ec_in-h-requires : goal.ec_in-h-requires
+ec_in-h-requires c =
+    within c.args.ec.now ec_most (value_is c.ec_fits.ensures c.if-not-ec_fits.false)
+
+pub returns : goal.returns
+returns c =
+    let a = c.args in
+    let t =
+    told (λ (h : EcHeader). ec_written h a.out.now) (λ (h : EcHeader). ec_out h a.out.now)
+    c.ec_in-h.ensures c.write_ec-w.ensures in
+    let q = rw (le-ltb _ _ c.if-ec-lt-EC_WORDS.false, value_is c.ec_fits.ensures c.if-not-ec_fits.false)
+    (c.written_number.ensures ∙ ap number_of t.0, t.1) in record { answer = q.0; out = q.1 }

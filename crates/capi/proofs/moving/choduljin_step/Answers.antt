@@ -1,0 +1,41 @@
+-- `capi::moving::choduljin_step` meets its contract. Assumes nothing.
+use mathlib.Core.Path.{refl}
+use borrow.Author.Tests.{lt-ltb, le-ltb}
+use borrow.Author.Rules.{rules}
+use Rattle.base.specs.Answers.{Answer}
+use Rattle.base.proofs.Answers.{value_is, was_false, was_true}
+use Rattle.job.specs.Job.{Progress, stepping}
+use Rattle.mover_rules.specs.Step.{mover_job}
+use Rattle.mover_rules.specs.declared.Plan.{Plan}
+use Rattle.capi_words.specs.Structs.{plan_most}
+use Rattle.capi_words.proofs.Laws.{within}
+use Rattle.capi_answers.specs.Calls.{progress_number, progress_words}
+use Rattle.capi.proofs.Laws.{told}
+use Rattle.report.specs.Attach.{over}
+use Rattle.capi.proofs.moving.choduljin_step.Goals as goal
+
+pub returns-then-plan-lt-PLAN_WORDS : goal.returns-then-plan-lt-PLAN_WORDS
+returns-then-plan-lt-PLAN_WORDS c =
+    let q = rw (lt-ltb _ _ c.if-plan-lt-PLAN_WORDS.true) (refl, (refl, refl)) in record { answer = q.0; plan = q.1.0; image = q.1.1 }
+
+pub returns-then-not-plan_fits : goal.returns-then-not-plan_fits
+returns-then-not-plan_fits c =
+    let q = rw (le-ltb _ _ c.if-plan-lt-PLAN_WORDS.false, value_is c.plan_fits.ensures c.if-not-plan_fits.true)
+    (refl, (refl, refl)) in record { answer = q.0; plan = q.1.0; image = q.1.1 }
+
+pub plan_in-p-requires : goal.plan_in-p-requires
+plan_in-p-requires c =
+    within c.args.plan.now plan_most
+    (value_is c.plan_fits.ensures c.if-not-plan_fits.false)
+
+pub returns : goal.returns
+returns c =
+    let a = c.args in
+    let t =
+    told (λ (x : Plan). (stepping mover_job x a.image.now).answer)
+    (λ (x : Plan). (stepping mover_job x a.image.now).image)
+    c.plan_in-p.ensures (c.step-s.ensures.answer, c.step-s.ensures.image) in
+    let u =
+    told progress_number (λ (x : Answer (Progress Plan)). over (progress_words x) a.plan.now) t.0
+    (c.store_stepped.ensures.answer, c.store_stepped.ensures.words) in
+    let q = rw (le-ltb _ _ c.if-plan-lt-PLAN_WORDS.false, value_is c.plan_fits.ensures c.if-not-plan_fits.false) (u.0, (u.1, t.1)) in record { answer = q.0; plan = q.1.0; image = q.1.1 }

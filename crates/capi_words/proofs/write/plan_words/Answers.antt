@@ -1,0 +1,14 @@
+-- `capi_words::write::plan_words` meets its contract. Assumes nothing.
+use borrow.Author.Rules.{rules}
+use mathlib.Core.Path.{refl}
+use Rattle.capi_words.specs.Structs.{plan_words}
+use Rattle.capi_words.proofs.write.plan_words.Goals as goal
+
+pub overflow_cast-result-15 : goal.overflow_cast-result-15
+overflow_cast-result-15 c =
+    search (rules, c.struct_known-15-1.given)
+
+pub returns : goal.returns
+unfolding plan_words
+returns c =
+    refl

@@ -1,0 +1,17 @@
+-- `capi_words::write::report_words` meets its contract. Assumes nothing.
+use borrow.Author.Rules.{rules}
+use Rattle.capi_words.specs.Structs.{report_words}
+use Rattle.capi_words.proofs.write.report_words.Goals as goal
+
+pub overflow_cast-result-12 : goal.overflow_cast-result-12
+overflow_cast-result-12 c =
+    search (rules, c.struct_known-12-1.given)
+
+pub overflow_cast-result-13 : goal.overflow_cast-result-13
+overflow_cast-result-13 c =
+    search (rules, c.struct_known-13-1.given.1.1.1.1.1.1.1)
+
+pub returns : goal.returns
+unfolding report_words
+returns c =
+    rw c.bit.ensures

@@ -1,0 +1,47 @@
+-- `choice::chain::has_lower_copy` meets its contract: no PEB from `above` on has the LEB. Assumes nothing.
+use mathlib.Core.Path.{◌≡◌, sym, ◌∙◌}
+use mathlib.Core.Bool.{false}
+use Prim.Native.Nat.{◌≤◌, ◌<◌, ℕ}
+use native.Mathlib.Omega.{arith}
+use borrow.Author.Rules.{rules}
+use Rattle.base.proofs.Below.{any_intro, none_intro}
+use Rattle.choice.specs.Keyed.{same_leb}
+use Rattle.choice.proofs.Chains.{Along, along_from, along_next, walk_on, walk_end, other_leb}
+use Rattle.choice.proofs.chain.has_lower_copy.Goals as goal
+
+abbrev Other : goal.Start → ℕ → Type 0
+Other d k = same_leb d.args.map.now d.args.i k ≡ false
+
+pub loop-j-init : goal.loop-j-init
+loop-j-init c =
+    (rw c.link-j.ensures (along_from c.requires.1.1.0 c.args.i c.requires.0), λ k h l. absurd (omega arith))
+
+pub same_leb-requires : goal.same_leb-requires
+same_leb-requires c =
+    let r = c.loop-j.invariant.0.range in search rules
+
+pub returns-then-same_leb : goal.returns-then-same_leb
+returns-then-same_leb c =
+    let a = c.args in
+    let r = c.loop-j.invariant.0.range in
+    let e = sym c.same_leb.ensures ∙ c.if-same_leb.true in
+    sym (any_intro a.i (same_leb a.map.now a.i) c.loop-j.j (omega arith) e)
+
+pub link-j-requires-in-loop-j : goal.link-j-requires-in-loop-j
+link-j-requires-in-loop-j c =
+    let r = c.loop-j.invariant.0.range in search rules
+
+pub loop-j-preserved : goal.loop-j-preserved
+loop-j-preserved c =
+    let v = c.loop-j.invariant in (
+      rw c.link-j-in-loop-j.ensures (along_next v.0 c.requires.1.1.0 (omega arith) (omega arith)),
+      walk_on v.0 (Other c) v.1 (λ x _ f. other_leb c.args.map.now c.args.i x f c.requires.1.1.1)
+          (sym c.same_leb.ensures ∙ c.if-same_leb.false),
+    )
+
+pub returns : goal.returns
+returns c =
+    let v = c.loop-j.invariant in
+    sym (none_intro c.args.i (same_leb c.args.map.now c.args.i)
+    (walk_end v.0 (Other c) v.1 (λ x _ f. other_leb c.args.map.now c.args.i x f c.requires.1.1.1)
+    (omega arith)))

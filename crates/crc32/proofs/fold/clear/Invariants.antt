@@ -1,0 +1,16 @@
+-- `crc32::fold::clear` meets its contract: zeros from the 137th word on. Assumes nothing.
+use Rattle.crc32.proofs.Pending.{clear_turn}
+use Rattle.crc32.specs.Fold.{zeros}
+use mathlib.Core.Path.{◌≡◌, sym}
+use Prim.Native.Nat.{◌+◌, ◌-◌, ◌≤◌}
+use native.Mathlib.Omega.{arith}
+use lib.ListN.{length, take, length-set}
+use mathlib.Core.List.{◌++◌, append-nil}
+use borrow.Author.Rules.{rules}
+use Rattle.crc32.proofs.fold.clear.Given as goal
+
+abbrev pub invariant-loop-j : goal.invariant-loop-j
+invariant-loop-j l = (l.j ≤ 85) × ((length l.kept ≡ 649) × (take (137 + l.j) l.kept ≡ take 137 l.initial.kept ++ zeros l.j))
+
+abbrev pub decreases-loop-j : goal.decreases-loop-j
+decreases-loop-j l = 85 - l.j

@@ -1,0 +1,15 @@
+-- `crc32::fold::slide` meets its contract. Assumes nothing.
+use Rattle.crc32.proofs.Pending.{slide_low, slide_rest}
+use mathlib.Core.Path.{◌≡◌, refl}
+use Prim.Native.Nat.{◌-◌, ◌≤◌}
+use native.Mathlib.Omega.{arith}
+use lib.ListN.{length, take, drop, length-set}
+use Rattle.base.specs.Lists.{part}
+use borrow.Author.Rules.{rules}
+use Rattle.crc32.proofs.fold.slide.Given as goal
+
+abbrev pub invariant-loop-j : goal.invariant-loop-j
+invariant-loop-j l = (l.j ≤ 137) × ((length l.kept ≡ 649) × ((take l.j l.kept ≡ part l.n l.j l.initial.kept) × (drop l.j l.kept ≡ drop l.j l.initial.kept)))
+
+abbrev pub decreases-loop-j : goal.decreases-loop-j
+decreases-loop-j l = 137 - l.j

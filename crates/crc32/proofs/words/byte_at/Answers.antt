@@ -1,0 +1,13 @@
+-- `crc32::words::byte_at` meets its contract. Assumes nothing.
+use mathlib.Core.Path.{refl}
+use native.Mathlib.Omega.{arith}
+use borrow.Author.Rules.{rules}
+use Rattle.crc32.proofs.words.byte_at.Goals as goal
+
+pub overflow_cast-result : goal.overflow_cast-result
+overflow_cast-result c =
+    omega (arith, c.type_inv.s c.args.i)
+
+pub returns : goal.returns
+returns c =
+    (refl, omega (arith, c.type_inv.s c.args.i))

@@ -1,0 +1,17 @@
+-- `flash_writes::copy_run` meets its contract. Assumes nothing.
+use mathlib.Core.Path.{◌≡◌, refl, ◌∙◌}
+use Prim.Native.Nat.{◌≤◌, ◌-◌}
+use native.Mathlib.Omega.{arith}
+use borrow.Author.Rules.{rules}
+use lib.ListN.{length, length-set}
+use lib.Seq.{paste, paste-zero}
+use Rattle.base.specs.Lists.{part}
+use Rattle.base.proofs.Lists.{paste_all, length_part}
+use Rattle.flash_writes.proofs.Writes.{copy_more}
+use Rattle.flash_writes.proofs.copy_run.Given as goal
+
+abbrev pub invariant-loop-i : goal.invariant-loop-i
+invariant-loop-i l = (l.i ≤ l.n) × ((length l.image ≡ length l.initial.image) × (l.image ≡ paste l.initial.image l.to (part l.from l.n l.initial.image) l.i))
+
+abbrev pub decreases-loop-i : goal.decreases-loop-i
+decreases-loop-i l = l.n - l.i

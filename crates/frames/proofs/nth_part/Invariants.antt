@@ -1,0 +1,9 @@
+-- `frames::nth_part` is safe and ends. Assumes nothing.
+use Rattle.std.proofs.Common.{◌-◌, ◌≤◌, length, rules}
+use Rattle.frames.proofs.nth_part.Given as goal
+
+abbrev pub invariant-loop : goal.invariant-loop
+invariant-loop l = l.at ≤ length l.payload
+
+abbrev pub decreases-loop : goal.decreases-loop
+decreases-loop l = l.i - l.counter

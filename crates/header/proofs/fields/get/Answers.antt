@@ -1,0 +1,7 @@
+-- `header::fields::get` meets its contract. Assumes nothing.
+use borrow.Author.Rules.{rules}
+use Rattle.header.proofs.fields.get.Goals as goal
+
+pub returns : goal.returns
+returns c =
+    (cc, rw (← c.field_of-f.ensures.0) c.read.ensures.1)

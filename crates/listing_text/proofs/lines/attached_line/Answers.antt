@@ -1,0 +1,9 @@
+-- `listing_text::lines::attached_line` meets its contract. Assumes nothing.
+use borrow.Author.Rules.{rules}
+use Rattle.listing_text.proofs.Laws.{both_written}
+use Rattle.listing_text.proofs.lines.attached_line.Goals as goal
+
+pub returns : goal.returns
+returns c =
+    let w = (c.marks_part.ensures.text, c.marks_part.ensures.end) in
+    record { text = both_written c.numbers_part-a.ensures.text w.0; end = w.1 }

@@ -1,0 +1,18 @@
+-- `listing_text::lines::marks_part` meets its contract. Assumes nothing.
+use native.Mathlib.Omega.{arith}
+use borrow.Author.Rules.{rules}
+use Rattle.listing_text.proofs.Laws.{both_written}
+use Rattle.listing_text.specs.Text.{marks_part, pair, labelled}
+use Rattle.listing_text.proofs.lines.marks_part.Goals as goal
+
+pub append-requires : goal.append-requires
+append-requires c =
+    omega (arith, c.pair-b.ensures.end, c.pair-a.ensures.end, c.requires)
+
+pub returns : goal.returns
+unfolding marks_part pair labelled
+returns c =
+    let p = (c.pair-a.ensures.text, c.pair-a.ensures.end) in
+    let q = (c.pair-b.ensures.text, c.pair-b.ensures.end) in
+    let e = c.append.ensures in
+    record { text = rw (← c.bit.ensures) (both_written p.0 (both_written q.0 e)); end = omega (arith, e.after, q.1, p.1, c.requires) }

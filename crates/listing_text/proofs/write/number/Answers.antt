@@ -1,0 +1,20 @@
+-- `listing_text::write::number` meets its contract. Assumes nothing.
+use native.Mathlib.Omega.{arith}
+use borrow.Author.Rules.{rules}
+use Rattle.listing_text.proofs.Laws.{number_written, decimal_short, twenty_digits}
+use Rattle.listing_text.proofs.write.number.Goals as goal
+
+pub append-requires : goal.append-requires
+append-requires c =
+    let n = c.args.n in
+    let d = c.decimal-count in
+    omega (arith, d.ensures.in_bounds.1, twenty_digits n d.result (omega arith) d.ensures.len)
+
+pub returns : goal.returns
+returns c =
+    let d = c.decimal-count in
+    let e = d.ensures.1 in
+    let n = c.args.n in
+    let few = twenty_digits n d.result (omega arith) e.0 in
+    let w = number_written d.new.out few e.0 e.1 c.append.ensures in
+    record { text = w; end = omega (arith, w.after, decimal_short n) }

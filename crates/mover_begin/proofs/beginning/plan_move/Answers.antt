@@ -1,0 +1,44 @@
+-- `mover_begin::beginning::plan_move` meets its contract. Assumes nothing.
+use mathlib.Core.Path.{sym, ap, ◌∙◌}
+use Rattle.lookup.specs.Lookup.{place_answer}
+use Rattle.mover_begin.proofs.Begins.{read_only_refused, standing_refused, unmapped_refused, found_planned, found_copy}
+use borrow.Author.Rules.{rules}
+use Rattle.mover_begin.proofs.beginning.plan_move.Goals as goal
+
+pub returns-then-report : goal.returns-then-report
+returns-then-report c =
+    let a = c.args in
+    c.refuse.ensures ∙ read_only_refused c.requires.told a.volume a.lnum a.target c.if-report.true
+
+pub returns-then-any_to_delete : goal.returns-then-any_to_delete
+returns-then-any_to_delete c =
+    let a = c.args in
+    c.refuse-then-any_to_delete.ensures
+    ∙ standing_refused c.requires.told a.volume a.lnum a.target c.if-report.false
+    (sym c.any_to_delete.ensures ∙ c.if-any_to_delete.true)
+
+pub plan_peb-requires : goal.plan_peb-requires
+plan_peb-requires c =
+    let a = c.args in let t = c.requires.told in (
+      t,
+      found_copy t a.volume a.lnum a.target c.place-1.given.0.0
+          (sym (c.requires.found a.volume a.lnum) ∙ sym c.find_leb-place.ensures
+          ∙ ap place_answer c.place-1.given.1),
+    )
+
+pub returns-in-At : goal.returns-in-At
+returns-in-At c =
+    let a = c.args in
+    found_planned c.requires.told a.volume a.lnum a.target c.if-report.false
+    (sym c.any_to_delete.ensures ∙ c.if-any_to_delete.false) c.place-1.given.0.0
+    (sym (c.requires.found a.volume a.lnum) ∙ sym c.find_leb-place.ensures ∙ ap place_answer
+    c.place-1.given.1) c.plan_peb.ensures
+
+pub returns-in-Absent : goal.returns-in-Absent
+returns-in-Absent c =
+    let a = c.args in
+    c.refuse-in-Absent.ensures
+    ∙ unmapped_refused c.requires.told a.volume a.lnum a.target c.if-report.false
+    (sym c.any_to_delete.ensures ∙ c.if-any_to_delete.false)
+    (sym (c.requires.found a.volume a.lnum) ∙ sym c.find_leb-place.ensures ∙ ap place_answer
+    c.enum_told-1.given.1)

@@ -1,0 +1,11 @@
+-- `peb_scan::headers::blank_or_lost` meets its contract. Assumes nothing.
+use borrow.Author.Rules.{rules}
+use Rattle.peb_scan.proofs.headers.blank_or_lost.Goals as goal
+
+pub returns-then-all_ff : goal.returns-then-all_ff
+returns-then-all_ff c =
+    rw (← c.all_ff.ensures, c.if-all_ff.true)
+
+pub returns : goal.returns
+returns c =
+    rw (← c.all_ff.ensures, c.if-all_ff.false)

@@ -1,0 +1,16 @@
+-- `summary::report_mapped` meets its contract. Assumes nothing.
+use native.Mathlib.Omega.{arith}
+use Rattle.volumes.proofs.Words.{within}
+use Rattle.summary.proofs.Reports.{graded, report_is}
+use borrow.Author.Rules.{rules}
+use Rattle.summary.proofs.report_mapped.Goals as goal
+
+pub overflow_cast-result-2 : goal.overflow_cast-result-2
+overflow_cast-result-2 c =
+    let p = c.requires in omega (arith, (within p.fitting.sorted).1, p.room.few)
+
+pub returns : goal.returns
+returns c =
+    let z = c.fill_states.ensures in
+    let g = graded c.requires z (search (rules, c.states-1.given)) in
+    record { answer = report_is c.requires c.mean.ensures (c.grade-grade.ensures c.args.g c.args.image.now g); states = z }

@@ -1,0 +1,12 @@
+-- `table_choice::taken_table` meets its contract. Assumes nothing.
+use borrow.Author.Rules.{rules}
+use borrow.Author.Tests.{ne_eqb}
+use Rattle.table_choice.proofs.taken_table.Goals as goal
+
+pub returns-then-leb-eq0 : goal.returns-then-leb-eq0
+returns-then-leb-eq0 c =
+    rw (c.taken-1.given.1, c.if-leb-eq0.true) c.records_part.ensures
+
+pub returns : goal.returns
+returns c =
+    rw (c.taken-1.given.1, ne_eqb _ _ c.if-leb-eq0.false) c.records_part-2.ensures

@@ -1,0 +1,50 @@
+-- `vid_header::vid_fields` meets its contract. Assumes nothing.
+use native.Mathlib.Omega.{arith}
+use borrow.Author.Rules.{rules}
+use Rattle.header.specs.Vid.{vid_fields}
+use Rattle.vid_header.proofs.vid_fields.Goals as goal
+
+pub overflow_cast-result : goal.overflow_cast-result
+overflow_cast-result c =
+    omega arith
+
+pub overflow_cast-result-2 : goal.overflow_cast-result-2
+overflow_cast-result-2 c =
+    omega arith
+
+pub overflow_cast-result-3 : goal.overflow_cast-result-3
+overflow_cast-result-3 c =
+    omega arith
+
+pub overflow_cast-result-4 : goal.overflow_cast-result-4
+overflow_cast-result-4 c =
+    omega arith
+
+pub overflow_cast-result-5 : goal.overflow_cast-result-5
+overflow_cast-result-5 c =
+    omega arith
+
+pub overflow_cast-result-6 : goal.overflow_cast-result-6
+overflow_cast-result-6 c =
+    omega arith
+
+pub overflow_cast-result-7 : goal.overflow_cast-result-7
+overflow_cast-result-7 c =
+    omega arith
+
+pub overflow_cast-result-8 : goal.overflow_cast-result-8
+overflow_cast-result-8 c =
+    omega arith
+
+pub overflow_cast-result-9 : goal.overflow_cast-result-9
+overflow_cast-result-9 c =
+    omega arith
+
+pub overflow_cast-result-10 : goal.overflow_cast-result-10
+overflow_cast-result-10 c =
+    omega arith
+
+pub returns : goal.returns
+unfolding vid_fields
+returns c =
+    cc

@@ -1,0 +1,8 @@
+-- `volume_record::record::empty_record` meets its contract. Assumes nothing.
+use borrow.Author.Rules.{rules}
+use Rattle.volume_record.proofs.Records.{zeroes_summed}
+use Rattle.volume_record.proofs.record.empty_record.Goals as goal
+
+pub returns : goal.returns
+returns c =
+    zeroes_summed c.crc32-sum.ensures c.store.ensures c.set_field.ensures

@@ -1,0 +1,16 @@
+-- `volume_table::table::names_differ` meets its contract: none of the first j records repeats a name. Assumes nothing.
+use mathlib.Core.Path.{◌≡◌, sym, ◌∙◌}
+use mathlib.Core.Bool.{false}
+use Prim.Native.Nat.{ℕ, ◌≤◌, ◌-◌}
+use native.Mathlib.Omega.{arith}
+use borrow.Author.Rules.{rules}
+use Rattle.base.specs.Below.{any_below}
+use Rattle.base.proofs.Below.{any_intro, any_more}
+use Rattle.volume_table.proofs.Tables.{repeats}
+use Rattle.volume_table.proofs.table.names_differ.Given as goal
+
+abbrev pub invariant-loop-j : goal.invariant-loop-j
+invariant-loop-j l = (l.j ≤ l.n) × (any_below l.j (λ (k : ℕ). any_below k (repeats l.t k)) ≡ false)
+
+abbrev pub decreases-loop-j : goal.decreases-loop-j
+decreases-loop-j l = l.n - l.j

@@ -1,0 +1,19 @@
+-- `volumes::misfit::first_misfit` meets its contract: refusal 12 names no entry of the volumes passed. Assumes nothing.
+use mathlib.Core.Path.{◌≡◌}
+use mathlib.Core.Option.{none}
+use Prim.Native.Nat.{◌≤◌, ◌<◌, ◌-◌, ℕ}
+use native.Mathlib.Omega.{arith}
+use borrow.Author.Rules.{rules}
+use Rattle.report.specs.View.{medium_of}
+use Rattle.report.specs.Volumes.{misfit_in}
+use Rattle.report.specs.Report.{faces, records}
+use Rattle.base.proofs.Below.{one_more}
+use Rattle.volumes.proofs.Words.{fs, rs}
+use Rattle.volumes.proofs.Misfits.{refused_here, not_refused}
+use Rattle.volumes.proofs.misfit.first_misfit.Given as goal
+
+abbrev pub invariant-loop-volume : goal.invariant-loop-volume
+invariant-loop-volume l = (l.volume ≤ 128) × ((w : ℕ) → w < l.volume → misfit_in (records (medium_of l.g l.n l.image)) (faces (medium_of l.g l.n l.image)) w ≡ none)
+
+abbrev pub decreases-loop-volume : goal.decreases-loop-volume
+decreases-loop-volume l = 128 - l.volume
