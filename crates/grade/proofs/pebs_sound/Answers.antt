@@ -19,14 +19,14 @@ returns-then-not-peb_sound c =
     let a = c.args in
     sym
     (all_fails a.n (sound_peb a.pebs.now) c.loop-i.i (omega arith)
-    (sym c.peb_sound.ensures ∙ not-true _ c.if-not-peb_sound.true))
+    (sym c.peb_sound.ensures ∙ c.if-not-peb_sound.true))
 
 pub loop-i-preserved : goal.loop-i-preserved
 loop-i-preserved c =
     let a = c.args in (
       omega arith,
       all_more (sound_peb a.pebs.now) c.loop-i.i c.loop-i.invariant.1
-          (sym c.peb_sound.ensures ∙ not-false _ c.if-not-peb_sound.false),
+          (sym c.peb_sound.ensures ∙ c.if-not-peb_sound.false),
     )
 
 pub returns : goal.returns

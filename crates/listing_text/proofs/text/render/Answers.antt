@@ -12,32 +12,32 @@ pub returns-then-not-tables_hold : goal.returns-then-not-tables_hold
 returns-then-not-tables_hold c =
     let a = c.args in
     let t = lent a.pebs.now a.map.now a.states.now in
-    let h = sym c.tables_hold.ensures ∙ not-true _ c.if-not-tables_hold.true in
+    let h = sym c.tables_hold.ensures ∙ c.if-not-tables_hold.true in
     let q = not_held (attached_answer a.a) t a.out.now h in
     record { answer = q.0; out = q.1; room = tt }
 
 pub write_text-len-requires : goal.write_text-len-requires
 write_text-len-requires c =
-    sym c.tables_hold.ensures ∙ not-false _ c.if-not-tables_hold.false
+    sym c.tables_hold.ensures ∙ c.if-not-tables_hold.false
 
 pub returns-then-out-len : goal.returns-then-out-len
 returns-then-out-len c =
     let a = c.args in
     let t = lent a.pebs.now a.map.now a.states.now in
-    let h = sym c.tables_hold.ensures ∙ not-false _ c.if-not-tables_hold.false in
+    let h = sym c.tables_hold.ensures ∙ c.if-not-tables_hold.false in
     let n = c.write_text-len.ensures.after in
     let q = too_short (attached_answer a.a) t a.out.now h (omega (arith, n, c.if-out-len.true)) in
     record { answer = q.0; out = q.1; room = tt }
 
 pub write_text-requires : goal.write_text-requires
 write_text-requires c =
-    sym c.tables_hold.ensures ∙ not-false _ c.if-not-tables_hold.false
+    sym c.tables_hold.ensures ∙ c.if-not-tables_hold.false
 
 pub returns : goal.returns
 returns c =
     let a = c.args in
     let t = lent a.pebs.now a.map.now a.states.now in
-    let h = sym c.tables_hold.ensures ∙ not-false _ c.if-not-tables_hold.false in
+    let h = sym c.tables_hold.ensures ∙ c.if-not-tables_hold.false in
     let n = c.write_text-len.ensures.after in
     let k = c.if-out-len.false in
     let w = c.write_text.ensures in

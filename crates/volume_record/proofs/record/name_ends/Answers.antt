@@ -10,13 +10,13 @@ use Rattle.volume_record.proofs.record.name_ends.Goals as goal
 
 pub returns-then-name-i-eq0 : goal.returns-then-name-i-eq0
 returns-then-name-i-eq0 c =
-    name_cut c.args.t1 c.args.n c.loop-i.i (omega arith) c.if-name-i-eq0.true
+    name_cut c.args.name c.args.n c.loop-i.i (omega arith) c.if-name-i-eq0.true
 
 pub loop-i-preserved : goal.loop-i-preserved
 loop-i-preserved c =
-    (omega arith, name_more c.args.t1 c.loop-i.i c.loop-i.invariant.1 c.if-name-i-eq0.false)
+    (omega arith, name_more c.args.name c.loop-i.i c.loop-i.invariant.1 c.if-name-i-eq0.false)
 
 pub returns : goal.returns
 returns c =
     let e : c.loop-i.i ≡ c.args.n = omega arith in
-    name_whole c.args.t1 c.args.n (rw e at c.loop-i.invariant.1)
+    name_whole c.args.name c.args.n (rw e at c.loop-i.invariant.1)

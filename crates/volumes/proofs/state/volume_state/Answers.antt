@@ -8,18 +8,6 @@ use Rattle.volumes.proofs.Words.{table_long, entries_there}
 use Rattle.volumes.proofs.States.{state_none, state_marked, state_faulty, state_dynamic, state_static}
 use Rattle.volumes.proofs.state.volume_state.Goals as goal
 
-static-state : (c : goal.After-lacks_leb) {x : Bool} → c.lacks-leb.result ≡ x
-    → let a = (start (read c.before.before.before.before.before.before)).args in
-    cond x 3 1 ≡ state_at (medium_of a.g a.n a.image.now) a.volume
-static-state c e =
-    let d = c.before.before.before in
-    let b = d.before in
-    let k = b.before.before in
-    let p = (start (read k)).requires in
-    state_static p.0 p.1 (read k).record-numbers.ensures k.before.before.if1.left k.if2.left
-    b.before.asks-crc.ensures b.any-faulty.ensures d.if3.left c.before.if4.false
-    c.lacks-leb.ensures e
-
 pub record_numbers-r-requires : goal.record_numbers-r-requires
 record_numbers-r-requires c =
     let p = c.requires in (table_long p.0.sorted, p.1)
@@ -56,8 +44,14 @@ lacks_leb-requires c =
 
 pub returns-then-lacks_leb : goal.returns-then-lacks_leb
 returns-then-lacks_leb c =
-    static-state c c.if-lacks_leb.true
+    let p = c.requires in
+    state_static p.0 p.1 c.record_numbers-r.ensures c.if-r-eq0.false c.if-r-eq1.false
+    c.asks_crc.ensures c.any_faulty.ensures c.if-any_faulty.false c.if-r-ne-STATIC.false
+    c.lacks_leb.ensures c.if-lacks_leb.true
 
 pub returns : goal.returns
 returns c =
-    static-state c c.if-lacks_leb.false
+    let p = c.requires in
+    state_static p.0 p.1 c.record_numbers-r.ensures c.if-r-eq0.false c.if-r-eq1.false
+    c.asks_crc.ensures c.any_faulty.ensures c.if-any_faulty.false c.if-r-ne-STATIC.false
+    c.lacks_leb.ensures c.if-lacks_leb.false
