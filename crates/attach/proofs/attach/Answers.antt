@@ -10,26 +10,24 @@ use Rattle.attach.proofs.attach.Goals as goal
 
 pub attach_image-requires : goal.attach_image-requires
 attach_image-requires c =
-    let q = c.r-1.given in
-    slip_placed c.args.slip.now q.0.0 (sym c.read_slip-r.ensures ∙ ap geometry_read q.1)
+    slip_placed c.args.slip.now c.in-Good.g (sym c.read_slip-r.ensures ∙ ap geometry_read c.in-Good.is)
 
 pub returns-in-Good : goal.returns-in-Good
 returns-in-Good c =
-    let a = c.args in let q = c.r-1.given in
-    let q = promised a.slip.now a.image.now (lent a.pebs.now a.map.now a.states.now) (given q.0.0)
-    (sym (ap geometry_read q.1) ∙ c.read_slip-r.ensures)
-    c.attach_image.ensures in record { answer = q.0; tables = q.1 }
+    let a = c.args in let q = promised a.slip.now a.image.now (lent a.pebs.now a.map.now a.states.now) (given c.in-Good.g)
+    (sym (ap geometry_read c.in-Good.is) ∙ c.read_slip-r.ensures)
+    c.attach_image.ensures in record { answer = q.0; tables = c.in-Good.is }
 
 pub returns-in-Malformed : goal.returns-in-Malformed
 returns-in-Malformed c =
     let a = c.args in
     let q = promised a.slip.now a.image.now (lent a.pebs.now a.map.now a.states.now) (refused 1 0)
-    (sym (ap geometry_read c.enum_told-1.given.1) ∙ c.read_slip-r.ensures)
+    (sym (ap geometry_read c.in-Malformed.is) ∙ c.read_slip-r.ensures)
     (early_ended 1 (lent a.pebs.now a.map.now a.states.now)) in record { answer = q.0; tables = q.1 }
 
 pub returns-in-Outside : goal.returns-in-Outside
 returns-in-Outside c =
     let a = c.args in
     let q = promised a.slip.now a.image.now (lent a.pebs.now a.map.now a.states.now) (refused 2 0)
-    (sym (ap geometry_read c.enum_told-in-Outside-1.given.1) ∙ c.read_slip-r.ensures)
+    (sym (ap geometry_read c.in-Outside.is) ∙ c.read_slip-r.ensures)
     (early_ended 2 (lent a.pebs.now a.map.now a.states.now)) in record { answer = q.0; tables = q.1 }

@@ -8,11 +8,11 @@ pub returns-in_default : goal.returns-in_default
 returns-in_default c =
     let q = no_table c.requires c.layout_content-copy0.ensures c.layout_content-copy1.ensures
     c.choose_table-choice.result.taken in
-    ended_refused _ (q c.choose_table-choice.ensures.taken c.enum_told-1.given.1) c.refuse.ensures
+    ended_refused _ (q c.choose_table-choice.ensures.taken c.in_default.is) c.refuse.ensures
 
 pub report_on-requires : goal.report_on-requires
 report_on-requires c =
     table_past c.requires c.layout_content-copy0.ensures c.layout_content-copy1.ensures
     c.choose_table-choice.result.taken
-    c.choose_table-choice.ensures.taken c.choose_table-choice.ensures.mark c.taken-1.given.1
+    c.choose_table-choice.ensures.taken c.choose_table-choice.ensures.mark c.in-Leb.is
     c.taken_table-table.ensures

@@ -14,8 +14,8 @@ returns-then-p-ne0 c =
 pub attach_passed-requires : goal.attach_passed-requires
 attach_passed-requires c =
     let p = c.pass-p in
-    past_eight c.requires p.result _ _ p.ensures (search (rules, c.pebs-1.given))
-    (search (rules, c.map-1.given))
+    past_eight c.requires p.result _ _ p.ensures (search rules)
+    (search rules)
     c.if-p-ne0.false
 
 pub returns : goal.returns

@@ -30,11 +30,11 @@ pub attach_chosen-requires : goal.attach_chosen-requires
 attach_chosen-requires c =
     let r = c.first_repeat-again in
     let q = past_ten c.requires.0 c.link_copies.ensures r.result r.ensures.0 c.if-again-n.false in
-    q (search (rules, c.pebs-2-1.given)) c.mark_chosen.ensures c.if-vid.false
+    q (search rules) c.mark_chosen.ensures c.if-vid.false
 
 pub returns : goal.returns
 returns c =
     let p = c.requires.0 in let r = c.first_repeat-again in
     let q = mark_beyond p c.link_copies.ensures r.result r.ensures.0 c.if-again-n.false in
-    ended_from _ p.room.least (q (search (rules, c.pebs-2-1.given)) c.mark_chosen.ensures)
+    ended_from _ p.room.least (q (search rules) c.mark_chosen.ensures)
     c.attach_chosen.ensures

@@ -6,5 +6,4 @@ use Rattle.bench_attach.proofs.bench_attach.Goals as goal
 
 pub returns : goal.returns
 returns c =
-    let e = (c.attach-a.ensures.answer, c.attach-a.ensures.tables) in
-    record { answer = c.code.ensures ∙ ap code_of e.0; tables = e.1 }
+    record { answer = c.code.ensures ∙ ap code_of c.attach-a.ensures.answer; tables = c.attach-a.ensures.tables }

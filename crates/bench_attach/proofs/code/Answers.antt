@@ -8,4 +8,4 @@ use Rattle.bench_attach.proofs.code.Goals as goal
 
 pub returns-in-Refused : goal.returns-in-Refused
 returns-in-Refused c =
-    sym (ap (λ (x : Attached). code_of (attached_answer x)) c.a-in-Refused-1.given.1)
+    sym (ap (λ (x : Attached). code_of (attached_answer x)) c.in-Refused.is)

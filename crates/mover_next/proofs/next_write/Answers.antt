@@ -9,17 +9,16 @@ use Rattle.mover_next.proofs.next_write.Goals as goal
 
 pub next_measured-requires : goal.next_measured-requires
 next_measured-requires c =
-    let q = c.r-1.given in
-    measured c.args.plan q.0.0 (sym c.check_geometry-r.ensures ∙ ap geometry_read q.1)
+    measured c.args.plan c.in-Good.g (sym c.check_geometry-r.ensures ∙ ap geometry_read c.in-Good.is)
 
 pub returns-in-Malformed : goal.returns-in-Malformed
 returns-in-Malformed c =
     let a = c.args in
     next_refused a.plan a.image.now
-    (outside a.plan 1 a.image.now (sym c.check_geometry-r.ensures ∙ ap geometry_read c.enum_told-1.given.1))
+    (outside a.plan 1 a.image.now (sym c.check_geometry-r.ensures ∙ ap geometry_read c.in-Malformed.is))
 
 pub returns-in-Outside : goal.returns-in-Outside
 returns-in-Outside c =
     let a = c.args in
     next_refused a.plan a.image.now
-    (outside a.plan 2 a.image.now (sym c.check_geometry-r.ensures ∙ ap geometry_read c.enum_told-in-Outside-1.given.1))
+    (outside a.plan 2 a.image.now (sym c.check_geometry-r.ensures ∙ ap geometry_read c.in-Outside.is))

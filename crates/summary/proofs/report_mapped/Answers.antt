@@ -12,5 +12,5 @@ overflow_cast-result-2 c =
 pub returns : goal.returns
 returns c =
     let z = c.fill_states.ensures in
-    let g = graded c.requires z (search (rules, c.states-1.given)) in
+    let g = graded c.requires z (search rules) in
     record { answer = report_is c.requires c.mean.ensures (c.grade-grade.ensures c.args.g c.args.image.now g); states = z }

@@ -15,36 +15,34 @@ make_map-entries-requires c =
 pub first_misfit-k-requires : goal.first_misfit-k-requires
 first_misfit-k-requires c =
     let o = c.make_map-entries.ensures c.args.g c.args.image.now (marked c.requires) in
-    let s = sorted c.requires o (search (rules, c.pebs-1.given)) (search (rules, c.map-1.given)) in
+    let s = sorted c.requires o (search rules) (search rules) in
     s
 
 pub peb_word-peb-requires : goal.peb_word-peb-requires
 peb_word-peb-requires c =
     let o = c.make_map-entries.ensures c.args.g c.args.image.now (marked c.requires) in
-    let s = sorted c.requires o (search (rules, c.pebs-1.given)) (search (rules, c.map-1.given)) in
+    let s = sorted c.requires o (search rules) (search rules) in
     omega (arith, (within s).0, c.if-k-entries.true)
 
 pub returns-then-k-entries : goal.returns-then-k-entries
 returns-then-k-entries c =
     let o = c.make_map-entries.ensures c.args.g c.args.image.now (marked c.requires) in
-    let lp = c.pebs-1.given in let lm = c.map-1.given in let e = c.first_misfit-k.ensures.0 in
-    ended_from _ c.requires.past10.room.least (map_beyond c.requires o (search (rules, lp)) (search (rules, lm)))
+    let e = c.first_misfit-k.ensures.0 in
+    ended_from _ c.requires.past10.room.least (map_beyond c.requires o (search rules) (search rules))
     (ended_refused _
-    (misfit_refusal_lem c.requires o (search (rules, lp)) (search (rules, lm)) e c.if-k-entries.true
+    (misfit_refusal_lem c.requires o (search rules) (search rules) e c.if-k-entries.true
     c.peb_word-peb.ensures)
     c.refuse.ensures)
 
 pub report_mapped-report-requires : goal.report_mapped-report-requires
 report_mapped-report-requires c =
     let o = c.make_map-entries.ensures c.args.g c.args.image.now (marked c.requires) in
-    let lp = c.pebs-1.given in let lm = c.map-1.given in
-    past_twelve c.requires o (search (rules, lp)) (search (rules, lm)) c.first_misfit-k.ensures.0
+    past_twelve c.requires o (search rules) (search rules) c.first_misfit-k.ensures.0
     c.if-k-entries.false
 
 pub returns : goal.returns
 returns c =
     let o = c.make_map-entries.ensures c.args.g c.args.image.now (marked c.requires) in
-    let lp = c.pebs-1.given in let lm = c.map-1.given in let z = (c.report_mapped-report.ensures.answer, c.report_mapped-report.ensures.states) in
-    report_ended c.requires o (search (rules, lp)) (search (rules, lm)) c.first_misfit-k.ensures.0
+    report_ended c.requires o (search rules) (search rules) c.first_misfit-k.ensures.0
     c.if-k-entries.false
-    z.0 z.1 (search (rules, c.states-2-1.given))
+    c.report_mapped-report.ensures.answer c.report_mapped-report.ensures.states (search rules)

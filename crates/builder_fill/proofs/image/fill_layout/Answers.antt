@@ -32,7 +32,7 @@ layout_vid-requires-2 c =
 pub store_used-requires-2 : goal.store_used-requires-2
 store_used-requires-2 c =
     let r = c.requires.1.0 in (
-      (omega (arith, c.image-1.given), c.requires.1.1),
+      (omega arith, c.requires.1.1),
       (
         r.0,
         (

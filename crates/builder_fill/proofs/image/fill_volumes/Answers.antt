@@ -135,7 +135,7 @@ loop-v-preserved c =
     let m = ap (λ x. x.lebs) shape_is in (
       (omega arith, (rw add-one (omega arith), rw add-one (omega arith))),
       (
-        search (rules, c.image-1.given),
+        search rules,
         volume_filled b pebs c.requires.1.0 l.v (omega arith) l.image (omega (arith, whole)) l.invariant.0.1.0
             shape_is
             content_is l.invariant.1.1 c.fill_volume.ensures,

@@ -29,7 +29,7 @@ fill_layout-requires c =
 pub fill_volumes-end-requires : goal.fill_volumes-end-requires
 fill_volumes-end-requires c =
     let pebs : ℕ = peb_count_of c.args.g c.args.image.now in
-    let after-layout : peb_count_of c.args.g c.fill_layout.new.image ≡ pebs = let e : length c.fill_layout.new.image ≡ length c.args.image.now = search (rules, c.image-1.given) in
+    let after-layout : peb_count_of c.args.g c.fill_layout.new.image ≡ pebs = let e : length c.fill_layout.new.image ≡ length c.args.image.now = search rules in
     ap (λ (m : ℕ). m / c.args.g.peb_size) e in
     let plan : BuildPlan = let a = c.args in plan_lent a.g a.ec.now a.table.now a.lengths.now a.content.now in
         (
@@ -74,6 +74,5 @@ returns c =
         let e = after-volumes in
     let n : length c.fill_volumes-end.new.image / c.args.g.peb_size ≡ pebs = ap (λ
     (m : ℕ). m / c.args.g.peb_size) e in
-    let f = (c.fill_volumes-end.ensures.end, c.fill_volumes-end.ensures.image) in
-    all_filled plan pebs c.requires.1.0 c.fill_volumes-end.new.image (e ∙ c.requires.1.1) (rw f.0 at f.1)
-    (rw (n, f.0) at c.free_from.ensures)
+    all_filled plan pebs c.requires.1.0 c.fill_volumes-end.new.image (e ∙ c.requires.1.1) (rw c.fill_volumes-end.ensures.end at c.fill_volumes-end.ensures.image)
+    (rw (n, c.fill_volumes-end.ensures.end) at c.free_from.ensures)

@@ -53,7 +53,7 @@ loop-p-preserved c =
     let f : ℕ → List ℕ = λ (_ : ℕ). free_peb a.g (built_ec a.g (seq_in a.ec.now)) in (
       (omega arith, omega arith),
       (
-        search (rules, c.image-1.given),
+        search rules,
         rw q (rows_next a.first k a.g.peb_size f a.image.now (λ _. free_length a.g c.requires.0.0.0 (built_ec a.g
             (seq_in a.ec.now)))
             (rw e (omega (arith, there))) l.invariant.1.1 refl (c.peb_start.ensures ∙ ap (λ

@@ -145,7 +145,7 @@ loop-l-preserved c =
             start_is c.leb_end-end.ensures
             (c.requires.0.starts (l.l + 1) h),
         (
-          search (rules, c.image-1.given),
+          search rules,
           rows_next a.first l.l a.g.peb_size (leb_peb a.g ec a.v a.content.now a.first) a.image.now
               (peb_length a.g a.v a.content.now c.requires.0.placed ec a.first) (omega (arith, there)) l.invariant.1.1.1
               row c.peb_start.ensures c.store_used.ensures,

@@ -32,7 +32,7 @@ loop-i-init c =
 
 pub store-requires : goal.store-requires
 store-requires c =
-    omega (arith, ap length c.empty_record-empty.ensures, empty_long, c.table-1.given)
+    omega (arith, ap length c.empty_record-empty.ensures, empty_long)
 
 pub loop-i-smaller : goal.loop-i-smaller
 loop-i-smaller c =
@@ -48,7 +48,7 @@ loop-i-preserved c =
       (
         omega arith,
         (
-          search (rules, c.table-in-loop-i-1.given),
+          search rules,
           rw l.invariant.1.1.1 at e
               ∙ row_more a.leb_size a.slip.now c.requires.0.1 l.i _ row,
         ),
@@ -57,7 +57,7 @@ loop-i-preserved c =
 
 pub shape_of-table : goal.shape_of-table
 shape_of-table c =
-    search (rules, c.table-1.given)
+    search rules
 
 pub returns : goal.returns
 returns c =

@@ -17,18 +17,17 @@ loop-next-init c =
 pub loop-next-smaller : goal.loop-next-smaller
 loop-next-smaller c =
     let l = c.loop-next in
-    let q = c.s-1.given in
-    fewer mover_job mover_lawful l.p q.0.0 l.image (sym (ap stepped_answer q.1) ∙ c.step-s.ensures.answer)
+    fewer mover_job mover_lawful l.p c.in-On.next l.image (sym (ap stepped_answer c.in-On.is) ∙ c.step-s.ensures.answer)
     c.step-s.ensures.image
 
 pub loop-next-preserved : goal.loop-next-preserved
 loop-next-preserved c =
     let l = c.loop-next in
-    let q = c.s-1.given in (
-      c.image-1.given ∙ l.invariant.0,
+    (
+      omega arith,
       (
         l.invariant.1.0,
-        left_on mover_job mover_lawful l.p q.0.0 l.image (sym (ap stepped_answer q.1) ∙ c.step-s.ensures.answer)
+        left_on mover_job mover_lawful l.p c.in-On.next l.image (sym (ap stepped_answer c.in-On.is) ∙ c.step-s.ensures.answer)
             c.step-s.ensures.image
             ∙ l.invariant.1.1,
       ),
@@ -43,7 +42,7 @@ returns-in-Done c =
     let l = c.loop-next in
     let a = c.args in
     let q = last_done a.plan l.p a.image.now l.image a.lent.now l.invariant.1.1 c.step-s.ensures.image
-    (sym (ap stepped_answer c.enum_told-1.given.1) ∙ c.step-s.ensures.answer)
+    (sym (ap stepped_answer c.in-Done.is) ∙ c.step-s.ensures.answer)
     (rw l.invariant.1.0 at (c.store_plan.ensures.answer, c.store_plan.ensures.words)) in record { answer = q.0; words = q.1.0; image = q.1.1 }
 
 pub returns-in-Refused : goal.returns-in-Refused
@@ -52,4 +51,4 @@ returns-in-Refused c =
     let a = c.args in
     let q = rw l.invariant.1.0
     (last_refused a.plan l.p a.image.now l.image a.lent.now l.invariant.1.1 c.step-s.ensures.image
-    (sym (ap stepped_answer c.enum_told-in-Refused-1.given.1) ∙ c.step-s.ensures.answer)) in record { answer = q.0; words = q.1.0; image = q.1.1 }
+    (sym (ap stepped_answer c.in-Refused.is) ∙ c.step-s.ensures.answer)) in record { answer = q.0; words = q.1.0; image = q.1.1 }

@@ -4,8 +4,8 @@ use Rattle.capi_answers.proofs.store.store_begun.Goals as goal
 
 pub returns-in-Planned : goal.returns-in-Planned
 returns-in-Planned c =
-    let q = rw c.b-1.given.1 (c.store_plan.ensures.answer, c.store_plan.ensures.words) in record { answer = q.0; words = q.1 }
+    let q = rw c.in-Planned.is (c.store_plan.ensures.answer, c.store_plan.ensures.words) in record { answer = q.0; words = q.1 }
 
 pub returns-in-Refused : goal.returns-in-Refused
 returns-in-Refused c =
-    let q = rw c.b-in-Refused-1.given.1 (c.store_refusal.ensures.answer, c.store_refusal.ensures.words) in record { answer = q.0; words = q.1 }
+    let q = rw c.in-Refused.is (c.store_refusal.ensures.answer, c.store_refusal.ensures.words) in record { answer = q.0; words = q.1 }

@@ -5,4 +5,4 @@ use Rattle.capi_answers.proofs.store.store_ec.Goals as goal
 
 pub returns-in-Good : goal.returns-in-Good
 returns-in-Good c =
-    let q = rw c.r-1.given.1 (refl, rw c.ec_words-words.ensures at c.store_words.ensures) in record { answer = q.0; words = q.1 }
+    let q = rw c.in-Good.is (refl, rw c.ec_words-words.ensures at c.store_words.ensures) in record { answer = q.0; words = q.1 }

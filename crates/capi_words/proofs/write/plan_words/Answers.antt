@@ -6,7 +6,7 @@ use Rattle.capi_words.proofs.write.plan_words.Goals as goal
 
 pub overflow_cast-result-15 : goal.overflow_cast-result-15
 overflow_cast-result-15 c =
-    search (rules, c.struct_known-15-1.given)
+    search rules
 
 pub returns : goal.returns
 unfolding plan_words

@@ -5,11 +5,11 @@ use Rattle.capi_words.proofs.write.report_words.Goals as goal
 
 pub overflow_cast-result-12 : goal.overflow_cast-result-12
 overflow_cast-result-12 c =
-    search (rules, c.struct_known-12-1.given)
+    search rules
 
 pub overflow_cast-result-13 : goal.overflow_cast-result-13
 overflow_cast-result-13 c =
-    search (rules, c.struct_known-13-1.given.1.1.1.1.1.1.1)
+    search rules
 
 pub returns : goal.returns
 unfolding report_words

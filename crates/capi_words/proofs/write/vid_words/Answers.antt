@@ -4,4 +4,4 @@ use Rattle.capi_words.proofs.write.vid_words.Goals as goal
 
 pub overflow_cast-result-10 : goal.overflow_cast-result-10
 overflow_cast-result-10 c =
-    search (rules, c.struct_known-10-1.given)
+    search rules

@@ -11,7 +11,7 @@ use Rattle.choice.proofs.chain.link_copies.Goals as goal
 
 pub loop-i-init : goal.loop-i-init
 loop-i-init c =
-    let sized : length c.fill_words.new.words ≡ length c.args.heads.now = search (rules, c.heads-1.given) in
+    let sized : length c.fill_words.new.words ≡ length c.args.heads.now = search rules in
         let h = sized in (
       omega arith,
       record {
@@ -36,12 +36,12 @@ shape_of-map c =
 
 pub shape_of-heads : goal.shape_of-heads
 shape_of-heads c =
-    let sized : length c.fill_words.new.words ≡ length c.args.heads.now = search (rules, c.heads-1.given) in
+    let sized : length c.fill_words.new.words ≡ length c.args.heads.now = search rules in
     c.loop-i.invariant.1.heads_size ∙ sized
 
 pub returns : goal.returns
 returns c =
-    let sized : length c.fill_words.new.words ≡ length c.args.heads.now = search (rules, c.heads-1.given) in
+    let sized : length c.fill_words.new.words ≡ length c.args.heads.now = search rules in
         let e : c.loop-i.i ≡ c.args.n = omega arith in
     let o = rw e at c.loop-i.invariant.1 in
     record { chained = o.chained; relinked = o.relinked; heads_size = o.heads_size ∙ sized }

@@ -27,6 +27,5 @@ pub returns : goal.returns
 returns c =
     let d = c.slip_end-at in
     let h = sym c.too_much.ensures ∙ c.if-too_much.false in
-    let w = (c.attach.ensures.answer, c.attach.ensures.tables) in
     let q = short_judged c.args.input.now c.args.more h d.ensures.slip_is
-    (rest_is c.args.input.now d.result d.ensures) c.requires w.0 w.1 in record { answer = q.0; tables = q.1 }
+    (rest_is c.args.input.now d.result d.ensures) c.requires c.attach.ensures.answer c.attach.ensures.tables in record { answer = q.0; tables = q.1 }

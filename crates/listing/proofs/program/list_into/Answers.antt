@@ -6,7 +6,5 @@ use Rattle.listing.proofs.program.list_into.Goals as goal
 pub returns : goal.returns
 returns c =
     let a = c.args in
-    let j = (c.judge-a.ensures.answer, c.judge-a.ensures.tables) in
-    let w = (c.render.ensures.answer, (c.render.ensures.out, c.render.ensures.room)) in
-    let q = listed_by a.input.now a.more a.out.now j.0 j.1 w.0 w.1.0 in
-    record { answer = q.0; out = q.1; room = w.1.1 }
+    let q = listed_by a.input.now a.more a.out.now c.judge-a.ensures.answer c.judge-a.ensures.tables c.render.ensures.answer c.render.ensures.out in
+    record { answer = q.0; out = q.1; room = c.render.ensures.room }

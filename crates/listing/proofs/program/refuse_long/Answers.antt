@@ -11,14 +11,14 @@ use Rattle.listing.proofs.program.refuse_long.Goals as goal
 pub returns-in-Good : goal.returns-in-Good
 returns-in-Good c =
     ap (λ (x : Answer Geometry). answer_of (after_slip x))
-    (sym (ap geometry_read c.r-1.given.1) ∙ c.read_slip-r.ensures)
+    (sym (ap geometry_read c.in-Good.is) ∙ c.read_slip-r.ensures)
 
 pub returns-in-Malformed : goal.returns-in-Malformed
 returns-in-Malformed c =
     ap (λ (x : Answer Geometry). answer_of (after_slip x))
-    (sym (ap geometry_read c.enum_told-1.given.1) ∙ c.read_slip-r.ensures)
+    (sym (ap geometry_read c.in-Malformed.is) ∙ c.read_slip-r.ensures)
 
 pub returns-in-Outside : goal.returns-in-Outside
 returns-in-Outside c =
     ap (λ (x : Answer Geometry). answer_of (after_slip x))
-    (sym (ap geometry_read c.enum_told-in-Outside-1.given.1) ∙ c.read_slip-r.ensures)
+    (sym (ap geometry_read c.in-Outside.is) ∙ c.read_slip-r.ensures)

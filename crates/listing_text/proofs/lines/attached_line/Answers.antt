@@ -5,5 +5,4 @@ use Rattle.listing_text.proofs.lines.attached_line.Goals as goal
 
 pub returns : goal.returns
 returns c =
-    let w = (c.marks_part.ensures.text, c.marks_part.ensures.end) in
-    record { text = both_written c.numbers_part-a.ensures.text w.0; end = w.1 }
+    record { text = both_written c.numbers_part-a.ensures.text c.marks_part.ensures.text; end = c.marks_part.ensures.end }

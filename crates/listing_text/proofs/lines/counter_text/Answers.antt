@@ -15,5 +15,4 @@ returns-then-counter-eq-NO_WORD c =
 pub returns : goal.returns
 unfolding counter_text labelled
 returns c =
-    let w = (c.labelled.ensures.text, c.labelled.ensures.end) in
-    record { text = rw (ne_eqb _ no_word c.if-counter-eq-NO_WORD.false) w.0; end = w.1 }
+    record { text = rw (ne_eqb _ no_word c.if-counter-eq-NO_WORD.false) c.labelled.ensures.text; end = c.labelled.ensures.end }

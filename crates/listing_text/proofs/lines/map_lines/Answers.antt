@@ -18,8 +18,7 @@ unfolding map_lines
 loop-i-preserved c =
     let l = c.loop-i in
     let a = c.args in
-    let w = (c.map_line-end.ensures.text, c.map_line-end.ensures.end) in
-    (next_written (map_line_at a.map.now) l.i l.invariant.0 w.0, (omega (arith, w.1), omega arith))
+    (next_written (map_line_at a.map.now) l.i l.invariant.0 c.map_line-end.ensures.text, (omega (arith, c.map_line-end.ensures.end), omega arith))
 
 pub shape_of-out : goal.shape_of-out
 shape_of-out c =

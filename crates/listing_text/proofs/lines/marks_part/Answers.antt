@@ -12,7 +12,5 @@ append-requires c =
 pub returns : goal.returns
 unfolding marks_part pair labelled
 returns c =
-    let p = (c.pair-a.ensures.text, c.pair-a.ensures.end) in
-    let q = (c.pair-b.ensures.text, c.pair-b.ensures.end) in
     let e = c.append.ensures in
-    record { text = rw (← c.bit.ensures) (both_written p.0 (both_written q.0 e)); end = omega (arith, e.after, q.1, p.1, c.requires) }
+    record { text = rw (← c.bit.ensures) (both_written c.pair-a.ensures.text (both_written c.pair-b.ensures.text e)); end = omega (arith, e.after, c.pair-b.ensures.end, c.pair-a.ensures.end, c.requires) }

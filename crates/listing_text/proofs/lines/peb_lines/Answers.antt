@@ -18,8 +18,7 @@ unfolding peb_lines
 loop-i-preserved c =
     let l = c.loop-i in
     let a = c.args in
-    let w = (c.peb_line-end.ensures.text, c.peb_line-end.ensures.end) in
-    (next_written (peb_line_at a.pebs.now) l.i l.invariant.0 w.0, (omega (arith, w.1), omega arith))
+    (next_written (peb_line_at a.pebs.now) l.i l.invariant.0 c.peb_line-end.ensures.text, (omega (arith, c.peb_line-end.ensures.end), omega arith))
 
 pub shape_of-out : goal.shape_of-out
 shape_of-out c =

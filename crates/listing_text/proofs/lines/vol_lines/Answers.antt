@@ -18,8 +18,7 @@ unfolding vol_lines
 loop-v-preserved c =
     let l = c.loop-v in
     let a = c.args in
-    let w = (c.vol_line-end.ensures.text, c.vol_line-end.ensures.end) in
-    (next_written (vol_line_at a.states.now) l.v l.invariant.0 w.0, (omega (arith, w.1), omega arith))
+    (next_written (vol_line_at a.states.now) l.v l.invariant.0 c.vol_line-end.ensures.text, (omega (arith, c.vol_line-end.ensures.end), omega arith))
 
 pub shape_of-out : goal.shape_of-out
 shape_of-out c =

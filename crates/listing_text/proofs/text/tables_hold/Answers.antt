@@ -10,5 +10,5 @@ pub returns-in-Given : goal.returns-in-Given
 returns-in-Given c =
     let a = c.args in
     let t = lent a.pebs.now a.map.now a.states.now in
-    let is = c.a-1.given.1 in
+    let is = c.in-Given.is in
     c.report_held.ensures ∙ sym (ap (λ (x : Attached). tables_hold (attached_answer x) t) is)

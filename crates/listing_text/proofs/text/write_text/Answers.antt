@@ -14,8 +14,7 @@ pub write_report-requires : goal.write_report-requires
 write_report-requires c =
     let a = c.args in
     let t = lent a.pebs.now a.map.now a.states.now in
-    let q = c.a-1.given in
-    held q.0.0 t (subst (λ (x : Attached). tables_hold (attached_answer x) t ≡ true) q.1 c.requires)
+    held c.in-Given.r t (subst (λ (x : Attached). tables_hold (attached_answer x) t ≡ true) c.in-Given.is c.requires)
 
 pub returns-in-Given : goal.returns-in-Given
 returns-in-Given c =
@@ -23,7 +22,7 @@ returns-in-Given c =
     let a = c.args in
     let t = lent a.pebs.now a.map.now a.states.now in
     subst (λ (x : Attached). Written a.out.now 0 (text_of (attached_answer x) t) w.result w.new.out)
-    (sym c.a-1.given.1) w.ensures
+    (sym c.in-Given.is) w.ensures
 
 pub returns-in-Refused : goal.returns-in-Refused
 returns-in-Refused c =
@@ -31,4 +30,4 @@ returns-in-Refused c =
     let a = c.args in
     let t = lent a.pebs.now a.map.now a.states.now in
     subst (λ (x : Attached). Written a.out.now 0 (text_of (attached_answer x) t) w.result w.new.out)
-    (sym c.a-in-Refused-1.given.1) w.ensures
+    (sym c.in-Refused.is) w.ensures

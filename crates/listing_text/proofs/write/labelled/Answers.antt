@@ -7,5 +7,4 @@ use Rattle.listing_text.proofs.write.labelled.Goals as goal
 pub returns : goal.returns
 returns c =
     let w = c.append-after.ensures in
-    let n = (c.number.ensures.text, c.number.ensures.end) in
-    record { text = both_written w n.0; end = omega (arith, w.after, n.1) }
+    record { text = both_written w c.number.ensures.text; end = omega (arith, w.after, c.number.ensures.end) }

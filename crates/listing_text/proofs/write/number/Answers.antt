@@ -13,8 +13,7 @@ append-requires c =
 pub returns : goal.returns
 returns c =
     let d = c.decimal-count in
-    let e = d.ensures.1 in
     let n = c.args.n in
-    let few = twenty_digits n d.result (omega arith) e.0 in
-    let w = number_written d.new.out few e.0 e.1 c.append.ensures in
+    let few = twenty_digits n d.result (omega arith) d.ensures.len in
+    let w = number_written d.new.out few d.ensures.len d.ensures.digits c.append.ensures in
     record { text = w; end = omega (arith, w.after, decimal_short n) }

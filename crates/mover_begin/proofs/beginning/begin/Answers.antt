@@ -9,25 +9,21 @@ use Rattle.mover_begin.proofs.beginning.begin.Goals as goal
 
 pub plan_move-requires : goal.plan_move-requires
 plan_move-requires c =
-    let a = c.args in let e = (c.attach-r.ensures.answer, c.attach-r.ensures.tables) in
-    let r = c.r-1.given in
-    begins (request a.slip.now) a.image.now (long_enough (lent a.pebs.now a.map.now a.states.now))
-    r.0.0 (sym (ap attached_answer r.1) ∙ e.0)
+    let a = c.args in begins (request a.slip.now) a.image.now (long_enough (lent a.pebs.now a.map.now a.states.now))
+    c.in-Given.report (sym (ap attached_answer c.in-Given.is) ∙ c.attach-r.ensures.answer)
     (λ k. omega (arith, c.type_inv.image k))
-    (lent a.pebs.now a.map.now a.states.now) e.1
+    (lent a.pebs.now a.map.now a.states.now) c.attach-r.ensures.tables
 
 pub returns-in-Given : goal.returns-in-Given
 returns-in-Given c =
     let a = c.args in
-    let e = (c.attach-r.ensures.answer, c.attach-r.ensures.tables) in let r = c.r-1.given in
-    let b = begun (request a.slip.now) a.image.now (long_enough (lent a.pebs.now a.map.now a.states.now)) r.0.0
-    (sym (ap attached_answer r.1) ∙ e.0) in
-    record { answer = b a.volume a.lnum a.target c.plan_move.ensures; tables = e.1 }
+    let b = begun (request a.slip.now) a.image.now (long_enough (lent a.pebs.now a.map.now a.states.now)) c.in-Given.report
+    (sym (ap attached_answer c.in-Given.is) ∙ c.attach-r.ensures.answer) in
+    record { answer = b a.volume a.lnum a.target c.plan_move.ensures; tables = c.attach-r.ensures.tables }
 
 pub returns-in-Refused : goal.returns-in-Refused
 unfolding beginning
 returns-in-Refused c =
     let a = c.args in
-    let e = (c.attach-r.ensures.answer, c.attach-r.ensures.tables) in let r = c.r-in-Refused-1.given in
     let o = attaching_into (request a.slip.now) a.image.now (lent a.pebs.now a.map.now a.states.now) in
-    record { answer = refused_too o r.0.0 r.0.1.0 a.volume a.lnum a.target (sym (ap attached_answer r.1) ∙ e.0); tables = e.1 }
+    record { answer = refused_too o c.in-Refused.number r.0.1.0 a.volume a.lnum a.target (sym (ap attached_answer c.in-Refused.is) ∙ c.attach-r.ensures.answer); tables = c.attach-r.ensures.tables }

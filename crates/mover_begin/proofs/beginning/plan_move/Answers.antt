@@ -21,18 +21,18 @@ pub plan_peb-requires : goal.plan_peb-requires
 plan_peb-requires c =
     let a = c.args in let t = c.requires.told in (
       t,
-      found_copy t a.volume a.lnum a.target c.place-1.given.0.0
+      found_copy t a.volume a.lnum a.target c.in-At.old
           (sym (c.requires.found a.volume a.lnum) ∙ sym c.find_leb-place.ensures
-          ∙ ap place_answer c.place-1.given.1),
+          ∙ ap place_answer c.in-At.is),
     )
 
 pub returns-in-At : goal.returns-in-At
 returns-in-At c =
     let a = c.args in
     found_planned c.requires.told a.volume a.lnum a.target c.if-report.false
-    (sym c.any_to_delete.ensures ∙ c.if-any_to_delete.false) c.place-1.given.0.0
+    (sym c.any_to_delete.ensures ∙ c.if-any_to_delete.false) c.in-At.old
     (sym (c.requires.found a.volume a.lnum) ∙ sym c.find_leb-place.ensures ∙ ap place_answer
-    c.place-1.given.1) c.plan_peb.ensures
+    c.in-At.is) c.plan_peb.ensures
 
 pub returns-in-Absent : goal.returns-in-Absent
 returns-in-Absent c =
@@ -41,4 +41,4 @@ returns-in-Absent c =
     ∙ unmapped_refused c.requires.told a.volume a.lnum a.target c.if-report.false
     (sym c.any_to_delete.ensures ∙ c.if-any_to_delete.false)
     (sym (c.requires.found a.volume a.lnum) ∙ sym c.find_leb-place.ensures ∙ ap place_answer
-    c.enum_told-1.given.1)
+    c.in-Absent.is)

@@ -12,22 +12,22 @@ returns-in-Good c =
     let a = c.args in
     c.is_internal.ensures
     ∙ ap (λ (v : VidView). is_internal 1 (good_vid v))
-    (sym (ap (vid_seen a.g a.p.now) c.v-1.given.1) ∙ c.see_vid-v.ensures)
+    (sym (ap (vid_seen a.g a.p.now) c.in-Good.is) ∙ c.see_vid-v.ensures)
 
 pub returns-in-Newer : goal.returns-in-Newer
 returns-in-Newer c =
     let a = c.args in
     ap (λ (v : VidView). is_internal 1 (good_vid v))
-    (sym (ap (vid_seen a.g a.p.now) c.enum_told-1.given.1) ∙ c.see_vid-v.ensures)
+    (sym (ap (vid_seen a.g a.p.now) c.in-Newer.is) ∙ c.see_vid-v.ensures)
 
 pub returns-in-Blank : goal.returns-in-Blank
 returns-in-Blank c =
     let a = c.args in
     ap (λ (v : VidView). is_internal 1 (good_vid v))
-    (sym (ap (vid_seen a.g a.p.now) c.enum_told-in-Blank-1.given.1) ∙ c.see_vid-v.ensures)
+    (sym (ap (vid_seen a.g a.p.now) c.in-Blank.is) ∙ c.see_vid-v.ensures)
 
 pub returns-in-Bad : goal.returns-in-Bad
 returns-in-Bad c =
     let a = c.args in
     ap (λ (v : VidView). is_internal 1 (good_vid v))
-    (sym (ap (vid_seen a.g a.p.now) c.enum_told-in-Bad-1.given.1) ∙ c.see_vid-v.ensures)
+    (sym (ap (vid_seen a.g a.p.now) c.in-Bad.is) ∙ c.see_vid-v.ensures)

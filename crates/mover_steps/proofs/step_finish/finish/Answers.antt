@@ -18,16 +18,15 @@ loop-next-init c =
 pub loop-next-smaller : goal.loop-next-smaller
 loop-next-smaller c =
     let l = c.loop-next in
-    let q = c.s-1.given in
-    fewer mover_job mover_lawful l.p q.0.0 l.image (sym (ap stepped_answer q.1) ∙ c.step-s.ensures.answer)
+    fewer mover_job mover_lawful l.p c.in-On.next l.image (sym (ap stepped_answer c.in-On.is) ∙ c.step-s.ensures.answer)
     c.step-s.ensures.image
 
 pub loop-next-preserved : goal.loop-next-preserved
 loop-next-preserved c =
     let l = c.loop-next in
-    let q = c.s-1.given in (
-      c.image-1.given ∙ l.invariant.0,
-      finish_on mover_job mover_lawful l.p q.0.0 l.image (sym (ap stepped_answer q.1) ∙ c.step-s.ensures.answer)
+    (
+      omega arith,
+      finish_on mover_job mover_lawful l.p c.in-On.next l.image (sym (ap stepped_answer c.in-On.is) ∙ c.step-s.ensures.answer)
           c.step-s.ensures.image
           ∙ l.invariant.1,
     )
@@ -36,12 +35,12 @@ pub returns-in-Done : goal.returns-in-Done
 returns-in-Done c =
     let l = c.loop-next in
     let q = finish_last mover_job mover_lawful l.p l.image
-    (sym (ap stepped_answer c.enum_told-1.given.1) ∙ c.step-s.ensures.answer)
+    (sym (ap stepped_answer c.in-Done.is) ∙ c.step-s.ensures.answer)
     c.step-s.ensures.image (inl refl) l.invariant.1 in record { answer = q.0; image = q.1 }
 
 pub returns-in-Refused : goal.returns-in-Refused
 returns-in-Refused c =
     let l = c.loop-next in
     let q = finish_last mover_job mover_lawful l.p l.image
-    (sym (ap stepped_answer c.enum_told-in-Refused-1.given.1) ∙ c.step-s.ensures.answer)
+    (sym (ap stepped_answer c.in-Refused.is) ∙ c.step-s.ensures.answer)
     c.step-s.ensures.image (inr refl) l.invariant.1 in record { answer = q.0; image = q.1 }

@@ -9,17 +9,16 @@ use Rattle.mover_steps.proofs.steps.step.Goals as goal
 
 pub step_measured-requires : goal.step_measured-requires
 step_measured-requires c =
-    let q = c.r-1.given in
-    measured c.args.plan q.0.0 (sym c.check_geometry-r.ensures ∙ ap geometry_read q.1)
+    measured c.args.plan c.in-Good.g (sym c.check_geometry-r.ensures ∙ ap geometry_read c.in-Good.is)
 
 pub returns-in-Malformed : goal.returns-in-Malformed
 returns-in-Malformed c =
     let a = c.args in
     let q = step_refused a.plan a.image.now
-    (outside a.plan 1 a.image.now (sym c.check_geometry-r.ensures ∙ ap geometry_read c.enum_told-1.given.1)) in record { answer = q.0; image = q.1 }
+    (outside a.plan 1 a.image.now (sym c.check_geometry-r.ensures ∙ ap geometry_read c.in-Malformed.is)) in record { answer = q.0; image = q.1 }
 
 pub returns-in-Outside : goal.returns-in-Outside
 returns-in-Outside c =
     let a = c.args in
     let q = step_refused a.plan a.image.now
-    (outside a.plan 2 a.image.now (sym c.check_geometry-r.ensures ∙ ap geometry_read c.enum_told-in-Outside-1.given.1)) in record { answer = q.0; image = q.1 }
+    (outside a.plan 2 a.image.now (sym c.check_geometry-r.ensures ∙ ap geometry_read c.in-Outside.is)) in record { answer = q.0; image = q.1 }

@@ -6,16 +6,16 @@ use Rattle.peb_scan.proofs.first_words.first_class.Goals as goal
 pub returns-in-Good : goal.returns-in-Good
 unfolding copy_of
 returns-in-Good c =
-    λ g p. rw c.v-1.given.1 c.good_class.ensures
+    λ g p. rw c.in-Good.is c.good_class.ensures
 
 pub returns-in-Newer : goal.returns-in-Newer
 returns-in-Newer c =
-    λ g p. rw c.enum_told-1.given.1
+    λ g p. rw c.in-Newer.is
 
 pub returns-in-Bad : goal.returns-in-Bad
 returns-in-Bad c =
-    λ g p. rw c.enum_told-in-Bad-1.given.1
+    λ g p. rw c.in-Bad.is
 
 pub returns-in-Blank : goal.returns-in-Blank
 returns-in-Blank c =
-    λ g p. rw c.enum_told-in-Blank-1.given.1 c.blank_class.ensures
+    λ g p. rw c.in-Blank.is c.blank_class.ensures

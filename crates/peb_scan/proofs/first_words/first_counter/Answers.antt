@@ -5,4 +5,4 @@ use Rattle.peb_scan.proofs.first_words.first_counter.Goals as goal
 
 pub overflow_cast-result : goal.overflow_cast-result
 overflow_cast-result c =
-    let z = rw c.e-1.given.1 at c.requires in omega arith
+    let z = rw c.in-Good.is at c.requires in omega arith

@@ -7,19 +7,19 @@ pub returns-in-Good : goal.returns-in-Good
 unfolding copy_of
 returns-in-Good c =
     λ g p.
-    rw c.v-1.given.1 c.store_header.ensures
+    rw c.in-Good.is c.store_header.ensures
 
 pub returns-in-Newer : goal.returns-in-Newer
 returns-in-Newer c =
     λ g p.
-    rw c.enum_told-1.given.1 c.store_entry.ensures
+    rw c.in-Newer.is c.store_entry.ensures
 
 pub returns-in-Blank : goal.returns-in-Blank
 returns-in-Blank c =
     λ g p.
-    rw c.enum_told-in-Blank-1.given.1 c.store_entry-in-Blank.ensures
+    rw c.in-Blank.is c.store_entry-in-Blank.ensures
 
 pub returns-in-Bad : goal.returns-in-Bad
 returns-in-Bad c =
     λ g p.
-    rw c.enum_told-in-Bad-1.given.1 c.store_entry-in-Bad.ensures
+    rw c.in-Bad.is c.store_entry-in-Bad.ensures

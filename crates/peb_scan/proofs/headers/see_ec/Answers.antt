@@ -11,25 +11,25 @@ unfolding view_of
 returns-in-Good c =
     let from : let a = c.args in
     ec_from (all_ff (take 64 a.p.now)) c.read_ec-r.result ≡ (view_of a.g a.p.now).ec = ec_from_lem _ (ec_long c.requires.0 c.args.p.now c.requires.1) c.read_ec-r.result c.read_ec-r.ensures in
-    rw c.r-1.given.1 at from
+    rw c.in-Good.is at from
 
 pub returns-in-Newer : goal.returns-in-Newer
 unfolding view_of
 returns-in-Newer c =
     let from : let a = c.args in
     ec_from (all_ff (take 64 a.p.now)) c.read_ec-r.result ≡ (view_of a.g a.p.now).ec = ec_from_lem _ (ec_long c.requires.0 c.args.p.now c.requires.1) c.read_ec-r.result c.read_ec-r.ensures in
-    rw c.enum_told-1.given.1 at from
+    rw c.in-Newer.is at from
 
 pub returns-in-Lost : goal.returns-in-Lost
 unfolding view_of
 returns-in-Lost c =
     let from : let a = c.args in
     ec_from (all_ff (take 64 a.p.now)) c.read_ec-r.result ≡ (view_of a.g a.p.now).ec = ec_from_lem _ (ec_long c.requires.0 c.args.p.now c.requires.1) c.read_ec-r.result c.read_ec-r.ensures in
-    c.blank_or_lost.ensures ∙ rw c.enum_told-in-Lost-1.given.1 at from
+    c.blank_or_lost.ensures ∙ rw c.in-Lost.is at from
 
 pub returns-in-Short : goal.returns-in-Short
 unfolding view_of
 returns-in-Short c =
     let from : let a = c.args in
     ec_from (all_ff (take 64 a.p.now)) c.read_ec-r.result ≡ (view_of a.g a.p.now).ec = ec_from_lem _ (ec_long c.requires.0 c.args.p.now c.requires.1) c.read_ec-r.result c.read_ec-r.ensures in
-    rw c.enum_told-in-Short-1.given.1 at from
+    rw c.in-Short.is at from

@@ -14,7 +14,7 @@ returns-in-Good c =
     ≡ (view_of a.g a.p.now).vid = let a = c.args in
     vid_from_lem a.g a.p.now _ (vid_long c.requires.0 a.p.now c.requires.1) c.read_vid-r.result
     (rw (lent_part a.g.vid_start 64 a.p.now) at c.read_vid-r.ensures) in
-    rw c.r-1.given.1 at from
+    rw c.in-Good.is at from
 
 pub returns-in-Newer : goal.returns-in-Newer
 unfolding view_of
@@ -24,7 +24,7 @@ returns-in-Newer c =
     ≡ (view_of a.g a.p.now).vid = let a = c.args in
     vid_from_lem a.g a.p.now _ (vid_long c.requires.0 a.p.now c.requires.1) c.read_vid-r.result
     (rw (lent_part a.g.vid_start 64 a.p.now) at c.read_vid-r.ensures) in
-    rw c.enum_told-1.given.1 at from
+    rw c.in-Newer.is at from
 
 pub returns-in-Bad : goal.returns-in-Bad
 unfolding view_of
@@ -36,7 +36,7 @@ returns-in-Bad c =
     (rw (lent_part a.g.vid_start 64 a.p.now) at c.read_vid-r.ensures) in
         let a = c.args in
     rw (lent_part a.g.vid_start 64 a.p.now) at (c.blank_or_bad.ensures a.g a.p.now)
-    ∙ rw c.enum_told-in-Bad-1.given.1 at from
+    ∙ rw c.in-Bad.is at from
 
 pub returns-in-Short : goal.returns-in-Short
 unfolding view_of
@@ -46,4 +46,4 @@ returns-in-Short c =
     ≡ (view_of a.g a.p.now).vid = let a = c.args in
     vid_from_lem a.g a.p.now _ (vid_long c.requires.0 a.p.now c.requires.1) c.read_vid-r.result
     (rw (lent_part a.g.vid_start 64 a.p.now) at c.read_vid-r.ensures) in
-    rw c.enum_told-in-Short-1.given.1 at from
+    rw c.in-Short.is at from

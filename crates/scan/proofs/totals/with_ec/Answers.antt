@@ -5,8 +5,8 @@ use Rattle.scan.proofs.totals.with_ec.Goals as goal
 pub with_good_ec-requires : goal.with_good_ec-requires
 with_good_ec-requires c =
     let p = c.requires in
-    (p.0, rw c.e-1.given.1 at p.1)
+    (p.0, rw c.in-Good.is at p.1)
 
 pub returns-in-Good : goal.returns-in-Good
 returns-in-Good c =
-    rw c.e-1.given.1 c.with_good_ec.ensures
+    rw c.in-Good.is c.with_good_ec.ensures
