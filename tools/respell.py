@@ -15,6 +15,7 @@ import sys
 
 WORD = r"[^\s(){}\[\].,;:\"@«»`|]+"
 DECLARED = re.compile(rf"^\s*(?:(?:unfoldable|abbrev|pub)\s+)*({WORD})\s*(?:\{{[^{{}}]*\}}\s*)*:(?:\s|$)")
+SEVERAL = re.compile(rf"^\s+({WORD}(?:\s+{WORD})+)\s*:\s+[A-Z]")
 KEYWORDS = {"use", "module", "let", "in", "where", "record", "data", "mod", "pub", "elim", "λ", "∷", "→", "⊢"}
 PIECES = re.compile(rf'("(?:[^"\\\n]|\\.)*")|({WORD})')
 
@@ -62,6 +63,11 @@ def declared(root):
             for line in text:
                 if line.lstrip().startswith("--"):
                     continue
+                if kind == "specs" and SEVERAL.match(line):
+                    # constructors that share a type
+                    for name in SEVERAL.match(line).group(1).split():
+                        if name not in KEYWORDS | {"abbrev", "unfoldable"}:
+                            names[name].add(kind)
                 m = DECLARED.match(line)
                 if not m or m.group(1) in KEYWORDS:
                     continue

@@ -22,7 +22,7 @@ use Rattle.header.specs.Vid.{judge_vid, vid_bytes, VidFits}
 use Rattle.header.specs.declared.EcHeader.{EcHeader}
 use Rattle.header.specs.declared.VidHeader.{VidHeader}
 use Rattle.header.proofs.Writes.{vid_64}
-use Rattle.report.specs.View.{Copy, ec_good, VidView, vid_good, vidBlank, Medium, medium_of, copy_of, vid_part, view_of}
+use Rattle.report.specs.View.{Copy, ec_good, VidView, vid_good, vid_blank, Medium, medium_of, copy_of, vid_part, view_of}
 use Rattle.report.specs.View.{peb_at}
 use Rattle.job.proofs.Seen.{ec_written_lem, vid_written_lem, vid_erased, renewed_ec, renewed_vid}
 use Rattle.builder_rules.specs.Blocks.{BuildPlan, free_peb, used_peb, layout_vid, key_below, block_no, lebs_of, leb_data}
@@ -86,7 +86,7 @@ filled b n = medium_of b.geometry n (built_image b n)
 
 -- the view of a VID header: of a copy, or of none
 abbrev pub shown : Option Copy → VidView
-shown none = vidBlank
+shown none = vid_blank
 shown (some c) = vid_good c
 
 module _ (b : BuildPlan) where

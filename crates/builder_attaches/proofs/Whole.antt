@@ -15,7 +15,7 @@ use Rattle.base.proofs.Answers.{by_test, by_option, or_true_right}
 use Rattle.base.proofs.Below.{lt_or_le, all_intro, sum_zero, nonzero_same}
 use Rattle.base.proofs.Rows.{concat_short, concat_cong}
 use Rattle.header.specs.declared.EcHeader.{EcHeader}
-use Rattle.report.specs.View.{Copy, ec_good, ecs, VidView, vid_good, vidBlank, is_mappable}
+use Rattle.report.specs.View.{Copy, ec_good, ecs, VidView, vid_good, vid_blank, is_mappable}
 use Rattle.report.specs.Scan.{image_seq_or0, image_seq_of, ec_refusal, vid_refusal}
 use Rattle.report.specs.Volumes.{Places, places_of, entry_at, record_for, reserved_of, map_up_to, map_of}
 use Rattle.report.specs.Report.{is_place, stays_in, class_of, counter_or, has_counter, mean_of, places, records, class_at}
@@ -42,7 +42,7 @@ module _ (b : BuildPlan) (n : ℕ) (a : Accepted b n) where
   ec_passes i h = rw (ec_is i h) (ec_unrefused b.geometry (plan_ec b) refl refl)
 
   -- what holds where there is no copy, and of copies of user and layout LEBs
-  vid_either : (P : VidView → Type 0) (i : ℕ) → i < n → P vidBlank
+  vid_either : (P : VidView → Type 0) (i : ℕ) → i < n → P vid_blank
       → ((c : Copy) → is_mappable c.header.volume ≡ true → P (vid_good c)) → P ((filled b n).views i).vid
   vid_either P i h p q =
       rw (peb_shows b n a i h).vid

@@ -15,7 +15,7 @@ use Rattle.words.specs.Words.{no_word, peb_stride, peb_words_needed, class_word,
 use Rattle.words.proofs.Laws.{class_set_same, class_set_other, class_set_counter, class_set_tail, class_at_lem, counter_at_lem}
 use Rattle.geometry.specs.declared.Geometry.{Geometry}
 use Rattle.report.proofs.Facts.{place_is}
-use Rattle.report.specs.View.{Copy, EcView, VidView, vid_good, vidNewer, vidBlank, vidBad, Views, Medium, medium_of, ecs, ec_good, ecNewer, ecBlank, ecLost, copies, good_vid, is_mappable}
+use Rattle.report.specs.View.{Copy, EcView, VidView, vid_good, vid_newer, vid_blank, vid_bad, Views, Medium, medium_of, ecs, ec_good, ec_newer, ec_blank, ec_lost, copies, good_vid, is_mappable}
 use Rattle.report.specs.Class.{class_by, first_class}
 use Rattle.report.specs.Choice.{chosen}
 use Rattle.report.specs.Volumes.{places_of}
@@ -32,21 +32,21 @@ use Rattle.choice.proofs.Rows.{rows_there}
 pub class_of : (f : Copy → ℕ) (e : EcView) (v : VidView) (c : Copy) → good_vid v ≡ some c
     → is_mappable c.header.volume ≡ true → class_by f e v ≡ f c
 class_of f e (vid_good d) c q m = let z : d ≡ c = cc in rw (z, m)
-class_of f e vidNewer c q m = none_some q
-class_of f e vidBlank c q m = none_some q
-class_of f e vidBad c q m = none_some q
+class_of f e vid_newer c q m = none_some q
+class_of f e vid_blank c q m = none_some q
+class_of f e vid_bad c q m = none_some q
 
 -- two rules that agree on them give one class
 class_same : (f h : Copy → ℕ) (e : EcView) (v : VidView)
     → ((c : Copy) → good_vid v ≡ some c → is_mappable c.header.volume ≡ true → f c ≡ h c)
     → class_by f e v ≡ class_by h e v
 class_same f h e (vid_good c) k = by_test (is_mappable c.header.volume) (λ m. rw m (k c refl m)) (λ m. rw m)
-class_same f h e vidNewer k = refl
-class_same f h (ec_good x) vidBlank k = refl
-class_same f h ecNewer vidBlank k = refl
-class_same f h ecBlank vidBlank k = refl
-class_same f h ecLost vidBlank k = refl
-class_same f h e vidBad k = refl
+class_same f h e vid_newer k = refl
+class_same f h (ec_good x) vid_blank k = refl
+class_same f h ec_newer vid_blank k = refl
+class_same f h ec_blank vid_blank k = refl
+class_same f h ec_lost vid_blank k = refl
+class_same f h e vid_bad k = refl
 
 -- after the first pass
 pub marked_none : {m : Medium} {map pebs : List ℕ} → peb_words_needed m.count ≤ length pebs

@@ -12,7 +12,7 @@ use lib.ListN.{get_or}
 use Rattle.base.proofs.Answers.{by_test, not_so, and_left, and_right, by_option, none_some}
 use Rattle.words.specs.Words.{no_word, volume_word, lnum_word}
 use Rattle.geometry.specs.declared.Geometry.{Geometry}
-use Rattle.report.specs.View.{Copy, VidView, vid_good, vidNewer, vidBlank, vidBad, copy_of, views_of, good_vid, copies, is_mappable}
+use Rattle.report.specs.View.{Copy, VidView, vid_good, vid_newer, vid_blank, vid_bad, copy_of, views_of, good_vid, copies, is_mappable}
 use Rattle.report.specs.Choice.{repeats}
 use Rattle.report.specs.Scratch.{key_words}
 use Rattle.copies.specs.InPlace.{copy_at}
@@ -35,9 +35,9 @@ record Named (o : Option Copy) (v l : ℕ) : Type 0 where
 
 named : (i : ℕ) (x : VidView) → (get_or (key_words i x) 0 0 ≡ no_word → ⊥)
     → Named (good_vid x) (get_or (key_words i x) 0 0) (get_or (key_words i x) 1 0)
-named i vidNewer n = absurd (n refl)
-named i vidBlank n = absurd (n refl)
-named i vidBad n = absurd (n refl)
+named i vid_newer n = absurd (n refl)
+named i vid_blank n = absurd (n refl)
+named i vid_bad n = absurd (n refl)
 named i (vid_good c) n =
     by_test (is_mappable c.header.volume)
     (λ e. record { copy = c; is = refl; mappable = e; volume = rw e; leb = rw e })
@@ -46,9 +46,9 @@ named i (vid_good c) n =
 -- and such a copy has its words there
 words_of : (i : ℕ) (x : VidView) (c : Copy) → good_vid x ≡ some c → is_mappable c.header.volume ≡ true
     → (get_or (key_words i x) 0 0 ≡ c.header.volume) × (get_or (key_words i x) 1 0 ≡ c.header.lnum)
-words_of i vidNewer c e m = none_some e
-words_of i vidBlank c e m = none_some e
-words_of i vidBad c e m = none_some e
+words_of i vid_newer c e m = none_some e
+words_of i vid_blank c e m = none_some e
+words_of i vid_bad c e m = none_some e
 words_of i (vid_good d) c e m = let q : d ≡ c = cc in rw (q, m) (refl, refl)
 
 -- ---- the words in the map

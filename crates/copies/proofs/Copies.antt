@@ -21,7 +21,7 @@ use Rattle.header.specs.Fields.{Verdict, good, bad, newer}
 use Rattle.header.specs.Vid.{vid_fields, vid_rules, static_rule, read_vid}
 use Rattle.header.proofs.Laws.{vid_good_holds}
 use Rattle.header.proofs.RoundTrip.{vid_read_fits}
-use Rattle.report.specs.View.{all_ff, Copy, vidBlank, copy_of, vid_of, vid_part, view_of, peb_at, views_of, Medium, medium_of, good_vid, copies}
+use Rattle.report.specs.View.{all_ff, Copy, vid_blank, copy_of, vid_of, vid_part, view_of, peb_at, views_of, Medium, medium_of, good_vid, copies}
 use Rattle.report.specs.Choice.{chosen}
 use Rattle.report.specs.Volumes.{face_of, faces_of, places_of}
 use Rattle.report.specs.Report.{faces, places}
@@ -36,7 +36,7 @@ module _ (g : Geometry) (p : List ℕ) (c : Copy) where
   fields = vid_fields (vid_part g p)
 
   of_verdict : (blank : Bool) (v : Verdict VidHeader) → read_vid g.leb_size (vid_part g p) ≡ v
-      → good_vid (cond blank vidBlank (vid_of g p v)) ≡ some c
+      → good_vid (cond blank vid_blank (vid_of g p v)) ≡ some c
       → (c ≡ copy_of g p fields) × (all_of (vid_rules g.leb_size fields) ≡ true)
   of_verdict true v q e = none_some e
   of_verdict false bad q e = none_some e

@@ -22,7 +22,7 @@ use Rattle.header.specs.declared.EcHeader.{EcHeader}
 use Rattle.header.specs.declared.VidHeader.{VidHeader}
 use Rattle.header.proofs.Writes.{ec_64}
 use Rattle.header.proofs.RoundTrip.{ec_judged, vid_judged}
-use Rattle.report.specs.View.{all_ff, Copy, EcView, ec_good, ecBlank, ecLost, VidView, vid_good, vidBlank, vidBad, ec_of, copy_of, vid_of, vid_part, view_of, good_ec, good_vid}
+use Rattle.report.specs.View.{all_ff, Copy, EcView, ec_good, ec_blank, ec_lost, VidView, vid_good, vid_blank, vid_bad, ec_of, copy_of, vid_of, vid_part, view_of, good_ec, good_vid}
 use Rattle.job.specs.Torn.{unlike}
 
 -- a written header is not all 0xFF
@@ -53,7 +53,7 @@ module _ (g : Geometry) (P : List ℕ) where
   ec_written_lem h f j e = rw (e, ec_shows h, ec_reads h f, j)
 
   pub ec_torn : all_ff (take 64 P) || not (crc_matches (take 64 P)) ≡ true
-      → ((view_of g P).ec ≡ ecBlank) ⊎ ((view_of g P).ec ≡ ecLost)
+      → ((view_of g P).ec ≡ ec_blank) ⊎ ((view_of g P).ec ≡ ec_lost)
   unfolding view_of read_ec
   ec_torn e =
       by_test (all_ff (take 64 P)) (λ b. inl (rw b))
@@ -68,14 +68,14 @@ module _ (g : Geometry) (P : List ℕ) where
   vid_written_lem h f j e = rw (e, vid_shows h, vid_reads g.leb_size h f, j)
 
   pub vid_torn : all_ff (vid_part g P) || not (crc_matches (vid_part g P)) ≡ true
-      → ((view_of g P).vid ≡ vidBlank) ⊎ ((view_of g P).vid ≡ vidBad)
+      → ((view_of g P).vid ≡ vid_blank) ⊎ ((view_of g P).vid ≡ vid_bad)
   unfolding view_of read_vid
   vid_torn e =
       by_test (all_ff (vid_part g P)) (λ b. inl (rw b))
       (λ b. by_test (crc_matches (vid_part g P)) (λ q. clash refl (rw (b, q) at e))
       (λ q. inr (rw (b, torn_read vid_magic (λ l. judge_vid g.leb_size (vid_fields l)) (vid_part g P) q))))
 
-  pub vid_erased : vid_part g P ≡ replicate 64 0xFF → (view_of g P).vid ≡ vidBlank
+  pub vid_erased : vid_part g P ≡ replicate 64 0xFF → (view_of g P).vid ≡ vid_blank
   unfolding view_of all_ff
   vid_erased e = rw e
 
@@ -91,7 +91,7 @@ module _ (g : Geometry) (P : List ℕ) where
   copy_read c e = go (all_ff (vid_part g P)) refl (read_vid g.leb_size (vid_part g P)) refl e
     where
       go : (b : Bool) → all_ff (vid_part g P) ≡ b → (v : Verdict VidHeader) → read_vid g.leb_size (vid_part g P) ≡ v
-          → good_vid (cond b vidBlank (vid_of g P v)) ≡ some c → Read c
+          → good_vid (cond b vid_blank (vid_of g P v)) ≡ some c → Read c
       go true q v r e = none_some e
       go false q (good h) r e =
           let z : copy_of g P h ≡ c = cc in
@@ -111,7 +111,7 @@ pub ec_seen_lem : (g : Geometry) (P : List ℕ) (h : EcHeader) → good_ec (view
 unfolding view_of
 ec_seen_lem g P h e = go (all_ff (take 64 P)) (read_ec (take 64 P)) refl e
   where
-    go : (b : Bool) (v : Verdict EcHeader) → read_ec (take 64 P) ≡ v → good_ec (cond b ecBlank (ec_of v)) ≡ some h
+    go : (b : Bool) (v : Verdict EcHeader) → read_ec (take 64 P) ≡ v → good_ec (cond b ec_blank (ec_of v)) ≡ some h
         → read_ec (take 64 P) ≡ good h
     go true v r e = none_some e
     go false (good x) r e = let z : x ≡ h = cc in rw z at r
@@ -139,7 +139,7 @@ module _ (g : Geometry) (P : Placed g) (Y : List ℕ) (h : EcHeader) (is : Y ≡
 module _ (g : Geometry) (O Y : List ℕ) where
   -- the EC header is the one that there was, or the new one, or none
   pub ec_after : (e : EcHeader) → EcFits e → judge_ec e ≡ good e → (S : EcView → Type 0) → S (view_of g O).ec
-      → S (ec_good e) → S ecBlank → S ecLost
+      → S (ec_good e) → S ec_blank → S ec_lost
       → unlike (eqs (take 64 Y) (take 64 O) || eqs (take 64 Y) (ec_bytes e)) (take 64 Y) ≡ true → S (view_of g Y).ec
   unfolding view_of
   ec_after e f j S old new blank lost c =
@@ -152,8 +152,8 @@ module _ (g : Geometry) (O Y : List ℕ) where
       (all_ff (take 64 Y) || not (crc_matches (take 64 Y))) c)
 
   -- the VID header is the one that there was, or none
-  pub vid_after : (c : Copy) → Read g O c → (S : VidView → Type 0) → S (vid_good (copy_of g Y c.header)) → S vidBlank
-      → S vidBad
+  pub vid_after : (c : Copy) → Read g O c → (S : VidView → Type 0) → S (vid_good (copy_of g Y c.header)) → S vid_blank
+      → S vid_bad
       → unlike (eqs (vid_part g Y) (vid_part g O)) (vid_part g Y) ≡ true → S (view_of g Y).vid
   vid_after c r S old blank none u =
       ⊎_elim (λ q. subst S (sym (same_header g O Y c r (eqs_true (vid_part g Y) (vid_part g O) q))) old)

@@ -11,7 +11,7 @@ use Rattle.base.proofs.Answers.{by_test}
 use Rattle.base.proofs.Below.{eq_or_ne}
 use Rattle.header.specs.declared.EcHeader.{EcHeader}
 use Rattle.header.specs.declared.VidHeader.{VidHeader}
-use Rattle.report.specs.View.{Copy, ec_good, vid_good, vidBlank, vidBad, Views, Medium, copies, is_mappable}
+use Rattle.report.specs.View.{Copy, ec_good, vid_good, vid_blank, vid_bad, Views, Medium, copies, is_mappable}
 use Rattle.report.specs.Scan.{ec_refusal, vid_refusal, refusal5678}
 use Rattle.report.specs.Choice.{sound, repeats, refusal9, chosen}
 use Rattle.report.specs.Volumes.{face_of, faces_of, places_of, table_leb, table_records}
@@ -90,7 +90,7 @@ pub record Ready (m : Medium) (v l o t : ℕ) (old : Copy) (h : VidHeader) : Typ
   pub mappable_here : is_mappable v ≡ true
   pub is_sound : sound old ≡ true
   pub t<n : t < m.count
-  pub free_vid : (m.views t).vid ≡ vidBlank
+  pub free_vid : (m.views t).vid ≡ vid_blank
   pub spare : EcHeader
   pub free_ec : (m.views t).ec ≡ ec_good spare
   pub volume : h.volume ≡ v
@@ -185,7 +185,7 @@ module _ (m : Medium) (vs' : Views) (v l o t : ℕ) (old : Copy) (h : VidHeader)
   }
 
   -- the new VID header is not there yet
-  pub keeps_torn : vs' o ≡ vs o → ((vs' t).vid ≡ vidBlank) ⊎ ((vs' t).vid ≡ vidBad) → Keeps m vs' v l t false
+  pub keeps_torn : vs' o ≡ vs o → ((vs' t).vid ≡ vid_blank) ⊎ ((vs' t).vid ≡ vid_bad) → Keeps m vs' v l t false
   keeps_torn eo et =
       let e = by_chosen (chosen_cong n (copies vs) (copies vs') same) in
       finish false o old at_o.0 (rw eo at_o.1) (after58 (rw eo o_before.0) (rw eo o_before.1) none_there.1)

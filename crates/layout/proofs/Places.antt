@@ -11,7 +11,7 @@ use Rattle.base.proofs.Answers.{clash, by_test, by_option, and_left, and_right}
 use Rattle.words.specs.Words.{class_word, volume_word}
 use Rattle.words.proofs.Laws.{class_at_lem}
 use Rattle.geometry.specs.declared.Geometry.{Geometry}
-use Rattle.report.specs.View.{Copy, EcView, ec_good, ecNewer, ecBlank, ecLost, VidView, vid_good, vidNewer, vidBlank, vidBad, Views, medium_of, views_of, good_vid, is_mappable}
+use Rattle.report.specs.View.{Copy, EcView, ec_good, ec_newer, ec_blank, ec_lost, VidView, vid_good, vid_newer, vid_blank, vid_bad, Views, medium_of, views_of, good_vid, is_mappable}
 use Rattle.report.specs.Volumes.{Places}
 use Rattle.report.specs.Report.{is_place, places}
 use Rattle.report.specs.Scratch.{marked_class}
@@ -37,12 +37,12 @@ marked_copy ps i e (vid_good c) q =
     (λ b. absurd (omega (arith, rw (a, b) at q))))
     (λ a. by_test (eqb c.header.compat 1) (λ b. absurd (omega (arith, rw (a, b) at q)))
     (λ b. absurd (omega (arith, rw (a, b) at q))))
-marked_copy ps i (ec_good h) vidBlank q = absurd (omega arith)
-marked_copy ps i ecNewer vidBlank q = absurd (omega arith)
-marked_copy ps i ecBlank vidBlank q = absurd (omega arith)
-marked_copy ps i ecLost vidBlank q = absurd (omega arith)
-marked_copy ps i e vidNewer q = absurd (omega arith)
-marked_copy ps i e vidBad q = absurd (omega arith)
+marked_copy ps i (ec_good h) vid_blank q = absurd (omega arith)
+marked_copy ps i ec_newer vid_blank q = absurd (omega arith)
+marked_copy ps i ec_blank vid_blank q = absurd (omega arith)
+marked_copy ps i ec_lost vid_blank q = absurd (omega arith)
+marked_copy ps i e vid_newer q = absurd (omega arith)
+marked_copy ps i e vid_bad q = absurd (omega arith)
 
 module _ {g : Geometry} {image : List ℕ} {n : ℕ} {map pebs : List ℕ} (o : Chosen g image n map pebs) where
   abbrev pl : Places

@@ -21,7 +21,7 @@ use Rattle.header.specs.Vid.{layout_volume}
 use Rattle.words.specs.Words.{no_word, entry_stride, most_pebs, map_words_needed, class_word, counter_word, volume_word, lnum_word, peb_word}
 use Rattle.words.proofs.Laws.{class_at_lem, counter_at_lem, volume_at, lnum_at, peb_at_lem}
 use Rattle.report.proofs.Facts.{place_is}
-use Rattle.report.specs.View.{Copy, EcView, ec_good, ecNewer, ecBlank, ecLost, VidView, vid_good, vidNewer, vidBlank, vidBad, Medium, ecs, copies, good_vid, is_mappable}
+use Rattle.report.specs.View.{Copy, EcView, ec_good, ec_newer, ec_blank, ec_lost, VidView, vid_good, vid_newer, vid_blank, vid_bad, Medium, ecs, copies, good_vid, is_mappable}
 use Rattle.report.specs.Choice.{chosen}
 use Rattle.report.specs.Volumes.{Places, places_of, record_for, reserved_of, map_up_to, map_of}
 use Rattle.report.specs.Report.{counter_or, is_place, stays_in, class_of, places, entries, class_at, counter_at}
@@ -53,12 +53,12 @@ class_is t ps i e (vid_good c) = go (is_mappable c.header.volume) (is_place at i
     go true false k = refl
     go false p true = refl
     go false p false = refl
-class_is t ps i (ec_good h) vidBlank = refl
-class_is t ps i ecNewer vidBlank = refl
-class_is t ps i ecBlank vidBlank = refl
-class_is t ps i ecLost vidBlank = refl
-class_is t ps i e vidNewer = refl
-class_is t ps i e vidBad = refl
+class_is t ps i (ec_good h) vid_blank = refl
+class_is t ps i ec_newer vid_blank = refl
+class_is t ps i ec_blank vid_blank = refl
+class_is t ps i ec_lost vid_blank = refl
+class_is t ps i e vid_newer = refl
+class_is t ps i e vid_bad = refl
 
 -- ---- which PEBs are in the map
 
@@ -69,9 +69,9 @@ place_chosen (some y) p e = (y.1, ap (λ (q : ℕ). some (q, y.1)) (let z : y.0 
 
 good_inv : (v : VidView) (c : Copy) → good_vid v ≡ some c → v ≡ vid_good c
 good_inv (vid_good d) c e = ap vid_good (let z : d ≡ c = cc in z)
-good_inv vidNewer c e = none_some e
-good_inv vidBlank c e = none_some e
-good_inv vidBad c e = none_some e
+good_inv vid_newer c e = none_some e
+good_inv vid_blank c e = none_some e
+good_inv vid_bad c e = none_some e
 
 -- the row of PEB i, and that of a PEB that is not in the map
 abbrev row_at : List ℕ → ℕ → List ℕ
@@ -155,9 +155,9 @@ module _ (t : List ℕ) (m : Medium)
           at true x true y false z = not_unused (row i j ∙ rw (q, x, y, z))
           at true x false y s z = not_unused (row i j ∙ rw (q, x, y))
           at false x b y s z = not_unused (row i j ∙ rw (q, x) (none_of (eqb (cond (eqb c.header.compat 1) 5 6) 1)))
-      go vidBlank q = not_unused (row i j ∙ rw q (none_of (eqb (class_of t ps i (m.views i).ec vidBlank) 1)))
-      go vidNewer q = not_unused (row i j ∙ rw q)
-      go vidBad q = not_unused (row i j ∙ rw q)
+      go vid_blank q = not_unused (row i j ∙ rw q (none_of (eqb (class_of t ps i (m.views i).ec vid_blank) 1)))
+      go vid_newer q = not_unused (row i j ∙ rw q)
+      go vid_bad q = not_unused (row i j ∙ rw q)
 
   maps_stays : (v l : ℕ) → HasSlot t v l → (is_mappable v ≡ true) × (stays_in t v l ≡ true)
   maps_stays v l (inl h) = (rw (lt-ltb _ _ h.0), rw (lt-ltb _ _ h.1) (or-true (eqb v layout_volume)))

@@ -20,9 +20,9 @@ use Rattle.report.specs.View.{
   EcView,
   VidView,
   vid_good,
-  vidNewer,
-  vidBlank,
-  vidBad,
+  vid_newer,
+  vid_blank,
+  vid_bad,
   Medium,
   medium_of,
   view_of,
@@ -51,9 +51,9 @@ class_not_5 t ps i e (vid_good c) n =
     go true b c d n = refl
     go false b c true n = absurd (n refl)
     go false b c false n = refl
-class_not_5 t ps i e vidNewer n = refl
-class_not_5 t ps i e vidBlank n = refl
-class_not_5 t ps i e vidBad n = refl
+class_not_5 t ps i e vid_newer n = refl
+class_not_5 t ps i e vid_blank n = refl
+class_not_5 t ps i e vid_bad n = refl
 
 pub kept : (m : Medium) (i : ℕ) {w : ℕ} → w ≡ class_at m i → (w ≡ 5 → ⊥) → false ≡ is_internal 1 (copies m.views i)
 unfolding class_at

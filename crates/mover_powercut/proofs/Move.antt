@@ -20,7 +20,7 @@ use Rattle.geometry.specs.declared.Geometry.{Geometry}
 use Rattle.header.specs.Fields.{is_good}
 use Rattle.header.specs.Ec.{judge_ec, ec_bytes}
 use Rattle.header.specs.Vid.{judge_vid, vid_bytes}
-use Rattle.report.specs.View.{all_ff, Copy, ec_good, vidBlank, Views, vid_part, view_of, views_of, peb_at, copies, Medium, medium_of}
+use Rattle.report.specs.View.{all_ff, Copy, ec_good, vid_blank, Views, vid_part, view_of, views_of, peb_at, copies, Medium, medium_of}
 use Rattle.report.specs.Scan.{image_seq_of}
 use Rattle.report.specs.Volumes.{places_of, table_records, map_of, place_written}
 use Rattle.report.specs.Report.{faces, places, records, class_at, entries, refusal}
@@ -266,7 +266,7 @@ module _ (req : AttachRequest) (g : Geometry) (n : ℕ) (chip : Chip req g n) (i
       end_free =
           let e : (vs' p.old).ec ≡ ec_good p.ec = ec_written_lem g Y p.ec good.ec_fits good.ec_good_holds
           (renewed_ec g P Y p.ec Y-is) in
-          let w : (vs' p.old).vid ≡ vidBlank = vid_erased g Y (renewed_vid g P Y p.ec Y-is) in
+          let w : (vs' p.old).vid ≡ vid_blank = vid_erased g Y (renewed_vid g P Y p.ec Y-is) in
           rw (e, w)
 
   -- ---- what a course leaves

@@ -18,7 +18,7 @@ use Rattle.geometry.specs.declared.Geometry.{Geometry}
 use Rattle.header.specs.Fields.{good}
 use Rattle.header.specs.Ec.{ec_bytes}
 use Rattle.header.specs.Vid.{implies, vid_bytes}
-use Rattle.report.specs.View.{Copy, VidView, vid_good, vidBlank, Views, good_vid, copy_of, vid_part, peb_at, view_of, views_of, Medium, medium_of, copies, is_mappable}
+use Rattle.report.specs.View.{Copy, VidView, vid_good, vid_blank, Views, good_vid, copy_of, vid_part, peb_at, view_of, views_of, Medium, medium_of, copies, is_mappable}
 use Rattle.report.specs.Scan.{image_seq_of, ec_refusal, vid_refusal}
 use Rattle.report.specs.Choice.{sound}
 use Rattle.report.specs.Report.{refusal}
@@ -131,7 +131,7 @@ module _ (g : Geometry) (n : ℕ) (image image' : List ℕ) (ok : refusal (mediu
   abbrev OldVid : VidView → Type 0
   OldVid x = (vid_refusal x ≡ none) × ((c : Copy) → good_vid x ≡ some c → c.header ≡ old.header)
 
-  no_copy : OldVid vidBlank
+  no_copy : OldVid vid_blank
   no_copy = (refl, λ c e. none_some e)
 
   old_vid : unlike (eqs (vid_part g Y) (vid_part g O)) (vid_part g Y) ≡ true → OldVid (vs' o).vid

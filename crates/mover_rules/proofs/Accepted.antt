@@ -13,7 +13,7 @@ use Rattle.base.proofs.Answers.{by_test, or_left, or_right, or_true_right, none_
 use Rattle.base.proofs.Highest.{max_at}
 use Rattle.header.specs.Vid.{layout_volume}
 use Rattle.header.specs.declared.EcHeader.{EcHeader}
-use Rattle.report.specs.View.{Copy, EcView, ec_good, ecNewer, ecBlank, ecLost, VidView, vid_good, vidNewer, vidBlank, vidBad, Medium, copies, is_mappable}
+use Rattle.report.specs.View.{Copy, EcView, ec_good, ec_newer, ec_blank, ec_lost, VidView, vid_good, vid_newer, vid_blank, vid_bad, Medium, copies, is_mappable}
 use Rattle.report.specs.Choice.{sound, chosen}
 use Rattle.report.specs.Volumes.{Places, record_for, reserved_of, map_of}
 use Rattle.report.specs.Report.{is_place, stays_in, class_of, highest_of, sequence_or0, places, records, class_at, entries}
@@ -44,7 +44,7 @@ in_map_mappable t v l (inr h) = or_true_right (ltb v 128) (eqb v layout_volume) 
 -- ---- a free block
 
 abbrev pub Free : EcView → VidView → Type 0
-Free e v = (v ≡ vidBlank) × ((h : EcHeader) × (e ≡ ec_good h))
+Free e v = (v ≡ vid_blank) × ((h : EcHeader) × (e ≡ ec_good h))
 
 pub class_free : (t : List ℕ) (ps : Places) (i : ℕ) (e : EcView) (v : VidView) → class_of t ps i e v ≡ 0 → Free e v
 class_free t ps i e (vid_good c) q =
@@ -57,12 +57,12 @@ class_free t ps i e (vid_good c) q =
     go true false c d e = omega arith
     go false b c true e = omega arith
     go false b c false e = omega arith
-class_free t ps i (ec_good h) vidBlank q = (refl, (h, refl))
-class_free t ps i ecBlank vidBlank q = absurd (omega arith)
-class_free t ps i ecLost vidBlank q = absurd (omega arith)
-class_free t ps i ecNewer vidBlank q = absurd (omega arith)
-class_free t ps i e vidBad q = absurd (omega arith)
-class_free t ps i e vidNewer q = absurd (omega arith)
+class_free t ps i (ec_good h) vid_blank q = (refl, (h, refl))
+class_free t ps i ec_blank vid_blank q = absurd (omega arith)
+class_free t ps i ec_lost vid_blank q = absurd (omega arith)
+class_free t ps i ec_newer vid_blank q = absurd (omega arith)
+class_free t ps i e vid_bad q = absurd (omega arith)
+class_free t ps i e vid_newer q = absurd (omega arith)
 
 -- ---- the highest sequence
 

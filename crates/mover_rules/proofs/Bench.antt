@@ -5,7 +5,7 @@ use mathlib.Core.List.{List, [], ◌∷◌}
 use Prim.Native.Nat.{ℕ}
 use lib.ListN.{get_or}
 use Rattle.geometry.specs.Geometry.{round_up, vid_start_of, data_start_of, leb_size_of, make_geometry}
-use Rattle.report.specs.View.{Copy, ec_good, vidBlank, Views, Medium}
+use Rattle.report.specs.View.{Copy, ec_good, vid_blank, Views, Medium}
 use Rattle.report.specs.Scan.{image_seq_of}
 use Rattle.mover_rules.specs.Headers.{old_counter, new_ec}
 use Rattle.mover_rules.specs.Begin.{make_plan}
@@ -21,7 +21,7 @@ views i = record {
     data_start = 128;
     image_seq = get_or (0 ∷ 7 ∷ 0 ∷ 0 ∷ []) i 0;
   });
-  vid = vidBlank;
+  vid = vid_blank;
   clean = true;
 }
 

@@ -23,7 +23,7 @@ use Rattle.header.specs.declared.VidRead.{VidRead}
 use Rattle.header.specs.declared.VidRead.TheVariants as vid
 use Rattle.geometry.specs.Placed.{Placed}
 use Rattle.geometry.specs.declared.Geometry.{Geometry}
-use Rattle.report.specs.View.{all_ff, ec_good, ecNewer, ecBlank, ecLost, vid_good, vidNewer, vidBlank, vidBad, ec_of, vid_of, copy_of, vid_part, EcView, VidView}
+use Rattle.report.specs.View.{all_ff, ec_good, ec_newer, ec_blank, ec_lost, vid_good, vid_newer, vid_blank, vid_bad, ec_of, vid_of, copy_of, vid_part, EcView, VidView}
 
 -- ---- all 0xFF
 
@@ -103,17 +103,17 @@ module _ {A T : Type 0} (s : List ℕ) (l : length s ≡ 64) (v : Verdict A) (ff
 -- what the reader's answer about a header, and whether it is all 0xFF, say of the view
 abbrev pub ec_from : Bool → EcRead → EcView
 ec_from b (ec.Good h) = ec_good h
-ec_from b ec.Newer = ecNewer
-ec_from b ec.Lost = cond b ecBlank ecLost
-ec_from b ec.Short = ecLost
+ec_from b ec.Newer = ec_newer
+ec_from b ec.Lost = cond b ec_blank ec_lost
+ec_from b ec.Short = ec_lost
 
 pub ec_from_lem : (s : List ℕ) → length s ≡ 64 → (r : EcRead) → ec_answer r ≡ ec_read s
-    → ec_from (all_ff s) r ≡ cond (all_ff s) ecBlank (ec_of (read_ec s))
+    → ec_from (all_ff s) r ≡ cond (all_ff s) ec_blank (ec_of (read_ec s))
 unfolding ec_read
-ec_from_lem s l (ec.Good h) e = seen_good s l (read_ec s) (ff_ec s l) ec_of ecBlank h e
-ec_from_lem s l ec.Newer e = seen_newer s l (read_ec s) (ff_ec s l) ec_of ecBlank e
-ec_from_lem s l ec.Lost e = seen_bad s l (read_ec s) (ff_ec s l) ec_of ecBlank e
-ec_from_lem s l ec.Short e = not_short s l (read_ec s) (ff_ec s l) ec_of ecBlank e
+ec_from_lem s l (ec.Good h) e = seen_good s l (read_ec s) (ff_ec s l) ec_of ec_blank h e
+ec_from_lem s l ec.Newer e = seen_newer s l (read_ec s) (ff_ec s l) ec_of ec_blank e
+ec_from_lem s l ec.Lost e = seen_bad s l (read_ec s) (ff_ec s l) ec_of ec_blank e
+ec_from_lem s l ec.Short e = not_short s l (read_ec s) (ff_ec s l) ec_of ec_blank e
 
 module _ (g : Geometry) (p : List ℕ) where
   abbrev read_as : List ℕ → Verdict VidHeader
@@ -121,17 +121,17 @@ module _ (g : Geometry) (p : List ℕ) where
 
   abbrev pub vid_from : Bool → VidRead → VidView
   vid_from b (vid.Good h) = vid_good (copy_of g p h)
-  vid_from b vid.Newer = vidNewer
-  vid_from b vid.Bad = cond b vidBlank vidBad
-  vid_from b vid.Short = vidBad
+  vid_from b vid.Newer = vid_newer
+  vid_from b vid.Bad = cond b vid_blank vid_bad
+  vid_from b vid.Short = vid_bad
 
   pub vid_from_lem : (s : List ℕ) → length s ≡ 64 → (r : VidRead) → vid_answer r ≡ vid_read g.leb_size s
-      → vid_from (all_ff s) r ≡ cond (all_ff s) vidBlank (vid_of g p (read_as s))
+      → vid_from (all_ff s) r ≡ cond (all_ff s) vid_blank (vid_of g p (read_as s))
   unfolding vid_read
-  vid_from_lem s l (vid.Good h) e = seen_good s l (read_as s) (ff_vid g.leb_size s l) (vid_of g p) vidBlank h e
-  vid_from_lem s l vid.Newer e = seen_newer s l (read_as s) (ff_vid g.leb_size s l) (vid_of g p) vidBlank e
-  vid_from_lem s l vid.Bad e = seen_bad s l (read_as s) (ff_vid g.leb_size s l) (vid_of g p) vidBlank e
-  vid_from_lem s l vid.Short e = not_short s l (read_as s) (ff_vid g.leb_size s l) (vid_of g p) vidBlank e
+  vid_from_lem s l (vid.Good h) e = seen_good s l (read_as s) (ff_vid g.leb_size s l) (vid_of g p) vid_blank h e
+  vid_from_lem s l vid.Newer e = seen_newer s l (read_as s) (ff_vid g.leb_size s l) (vid_of g p) vid_blank e
+  vid_from_lem s l vid.Bad e = seen_bad s l (read_as s) (ff_vid g.leb_size s l) (vid_of g p) vid_blank e
+  vid_from_lem s l vid.Short e = not_short s l (read_as s) (ff_vid g.leb_size s l) (vid_of g p) vid_blank e
 
 -- the headers of a whole PEB have their 64 bytes
 module _ {g : Geometry} (o : Placed g) (p : List ℕ) (whole : length p ≡ g.peb_size) where

@@ -3,7 +3,7 @@ ghost use Rattle.std.specs.Prelude.{◌≡◌, ◌||◌, cond, List, ℕ, ◌*�
 ghost use Rattle.base.specs.Lists.{put};
 ghost use Rattle.geometry.specs.declared.Geometry.{Geometry};
 ghost use Rattle.words.specs.Words.{no_word, entry_stride, most_pebs, HasEntry};
-ghost use Rattle.report.specs.View.{good_ec, vidBlank, is_mappable};
+ghost use Rattle.report.specs.View.{good_ec, vid_blank, is_mappable};
 ghost use Rattle.report.specs.Class.{first_class};
 ghost use Rattle.report.specs.Report.{counter_or};
 ghost use Rattle.report.specs.Scratch.{copy_words, key_words};
@@ -42,7 +42,7 @@ fn good_class(h: VidHeader) -> u32
 
 // The class of a block whose VID header is blank.
 fn blank_class(e: EcSeen) -> u32
-    ensures { result ≡ first_class (ec_seen e) vidBlank }
+    ensures { result ≡ first_class (ec_seen e) vid_blank }
 {
     match e {
         EcSeen::Good(_) => return class::FREE,

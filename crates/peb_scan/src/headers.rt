@@ -2,7 +2,7 @@
 ghost use Rattle.std.specs.Prelude.{◌≡◌, not, ◌&&◌, cond, List, ℕ, eqb, length};
 ghost use Rattle.geometry.specs.Placed.{Placed};
 ghost use Rattle.geometry.specs.declared.Geometry.{Geometry};
-ghost use Rattle.report.specs.View.{all_ff, is_mappable, view_of, ecBlank, ecLost, vidBlank, vidBad};
+ghost use Rattle.report.specs.View.{all_ff, is_mappable, view_of, ec_blank, ec_lost, vid_blank, vid_bad};
 ghost use Rattle.peb_scan.specs.Seen.{ec_seen, vid_seen};
 
 use crate::{EcSeen, VidSeen};
@@ -40,7 +40,7 @@ pub fn see_ec(p: &[u8], g: Geometry) -> EcSeen
 
 // A header that is not good: all 0xFF, or not.
 fn blank_or_lost(s: &[u8]) -> EcSeen
-    ensures { ec_seen result ≡ cond (all_ff s.now) ecBlank ecLost }
+    ensures { ec_seen result ≡ cond (all_ff s.now) ec_blank ec_lost }
 {
     if all_ff(s) {
         return EcSeen::Blank;
@@ -65,7 +65,7 @@ pub fn see_vid(p: &[u8], g: Geometry) -> VidSeen
 }
 
 fn blank_or_bad(s: &[u8]) -> VidSeen
-    ensures { (g : Geometry) (p : List ℕ) → vid_seen g p result ≡ cond (all_ff s.now) vidBlank vidBad }
+    ensures { (g : Geometry) (p : List ℕ) → vid_seen g p result ≡ cond (all_ff s.now) vid_blank vid_bad }
 {
     if all_ff(s) {
         return VidSeen::Blank;

@@ -11,7 +11,7 @@ use Rattle.geometry.specs.declared.Geometry.{Geometry}
 use Rattle.geometry.specs.Geometry.{round_up, vid_start_of, data_start_of, leb_size_of, make_geometry}
 use Rattle.volume_record.specs.Record.{record_of}
 use Rattle.volume_table.specs.Table.{record_count}
-use Rattle.report.specs.View.{Copy, ec_good, vidBlank, View, Medium, copy_of}
+use Rattle.report.specs.View.{Copy, ec_good, vid_blank, View, Medium, copy_of}
 use Rattle.report.specs.Scan.{Refusal, image_seq_of, view_refusal, refusal5678}
 use Rattle.report.specs.Choice.{pick, chosen}
 use Rattle.report.specs.Volumes.{face_of, faces_of, record_for, used_of, state_of}
@@ -25,7 +25,7 @@ chip = make_geometry 1024 1 1
 free_peb : ℕ → ℕ → View
 free_peb c seq = record {
   ec = ec_good (record { version = 1; counter = c; vid_start = 64; data_start = 128; image_seq = seq });
-  vid = vidBlank;
+  vid = vid_blank;
   clean = true;
 }
 

@@ -13,8 +13,8 @@ use Rattle.base.proofs.Below.{eq_or_ne, lt_or_le, all_at, none_at, none_intro, f
 use Rattle.base.proofs.Below.{nonzero_hit, zero_at, nonzero_all, nonzero_first}
 use Rattle.geometry.specs.declared.Geometry.{Geometry}
 use Rattle.header.specs.declared.EcHeader.{EcHeader}
-use Rattle.report.specs.View.{Copy, EcView, ec_good, ecNewer, ecBlank, ecLost, VidView, vid_good, vidNewer}
-use Rattle.report.specs.View.{vidBlank, vidBad, Views, Medium, good_ec, ecs, good_vid, copies, is_mappable}
+use Rattle.report.specs.View.{Copy, EcView, ec_good, ec_newer, ec_blank, ec_lost, VidView, vid_good, vid_newer}
+use Rattle.report.specs.View.{vid_blank, vid_bad, Views, Medium, good_ec, ecs, good_vid, copies, is_mappable}
 use Rattle.report.specs.Scan.{when, image_seq_or0, image_seq_of, other_starts, seq_disagrees, ec_refusal, vid_refusal}
 use Rattle.report.specs.Scan.{view_refusal, at_peb, refusal5678, refusal10}
 use Rattle.report.specs.Class.{is_unused}
@@ -119,22 +119,22 @@ module _ (g : Geometry) (s : ℕ) where
         eqb-true x.vid_start _ (and_left _ (eqb x.data_start g.data_start) t),
         eqb-true x.data_start _ (and_right (eqb x.vid_start g.vid_start) _ t),
       )
-  ec_starts ecNewer h r q = none_some q
-  ec_starts ecBlank h r q = none_some q
-  ec_starts ecLost h r q = none_some q
+  ec_starts ec_newer h r q = none_some q
+  ec_starts ec_blank h r q = none_some q
+  ec_starts ec_lost h r q = none_some q
 
   ec_agrees : (v : EcView) → ec_refusal g s v ≡ none → seq_disagrees s (image_seq_or0 (good_ec v)) ≡ false
   ec_agrees (ec_good h) r = when_none _ 7 (or_else_none (when (other_starts g h) 6) _ r).1
-  ec_agrees ecNewer r = refl
-  ec_agrees ecBlank r = refl
-  ec_agrees ecLost r = refl
+  ec_agrees ec_newer r = refl
+  ec_agrees ec_blank r = refl
+  ec_agrees ec_lost r = refl
 
   ec_passes : (q : ℕ) (v : EcView) → ec_refusal g s v ≡ none → seq_disagrees q (image_seq_or0 (good_ec v)) ≡ false
       → ec_refusal g q v ≡ none
   ec_passes q (ec_good h) r e = rw ((or_else_none (when (other_starts g h) 6) _ r).0, e)
-  ec_passes q ecNewer r e = r
-  ec_passes q ecBlank r e = refl
-  ec_passes q ecLost r e = refl
+  ec_passes q ec_newer r e = r
+  ec_passes q ec_blank r e = refl
+  ec_passes q ec_lost r e = refl
 
 module _ (m : Medium) where
   -- enough for no refusal 5 to 8: one number that every good EC agrees with
@@ -231,9 +231,9 @@ copy_unused e c =
 
 some_not_unused : (e : EcView) (v : VidView) (c : Copy) → good_vid v ≡ some c → is_unused e v ≡ false
 some_not_unused e (vid_good d) c q = copy_unused e d
-some_not_unused e vidNewer c q = none_some q
-some_not_unused e vidBlank c q = none_some q
-some_not_unused e vidBad c q = none_some q
+some_not_unused e vid_newer c q = none_some q
+some_not_unused e vid_blank c q = none_some q
+some_not_unused e vid_bad c q = none_some q
 
 abbrev unused_in : Medium → ℕ → Bool
 unused_in m i = is_unused (m.views i).ec (m.views i).vid

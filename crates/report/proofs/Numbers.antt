@@ -13,7 +13,7 @@ use Rattle.geometry.specs.Slip.{value_at, head_geometry, well_formed, slip_geome
 use Rattle.geometry.specs.declared.Geometry.{Geometry}
 use Rattle.header.specs.Vid.{layout_volume}
 use Rattle.volume_table.specs.Table.{table_good, taken_leb}
-use Rattle.report.specs.View.{EcView, ec_good, ecNewer, ecBlank, ecLost, VidView, vid_good, vidNewer, vidBlank, vidBad}
+use Rattle.report.specs.View.{EcView, ec_good, ec_newer, ec_blank, ec_lost, VidView, vid_good, vid_newer, vid_blank, vid_bad}
 use Rattle.report.specs.View.{View, Medium, copies, medium_of, is_mappable}
 use Rattle.report.specs.Class.{is_unused}
 use Rattle.report.specs.Scan.{Refusal, when, image_seq_of, other_starts, seq_disagrees, ec_refusal, vid_refusal}
@@ -66,19 +66,19 @@ each_when false k h = tt
 -- ---- refusals 5 to 12
 
 ec_told : (g : Geometry) (seq : ℕ) (v : EcView) → Each Above (ec_refusal g seq v)
-ec_told g seq ecNewer = lit< tt
+ec_told g seq ec_newer = lit< tt
 ec_told g seq (ec_good h) =
     each_or Above (when (other_starts g h) 6) (when (seq_disagrees seq (h.image_seq)) 7)
     (each_when (other_starts g h) 6 (lit< tt))
     (each_when (seq_disagrees seq (h.image_seq)) 7 (lit< tt))
-ec_told g seq ecBlank = tt
-ec_told g seq ecLost = tt
+ec_told g seq ec_blank = tt
+ec_told g seq ec_lost = tt
 
 vid_told : (v : VidView) → Each Above (vid_refusal v)
-vid_told vidNewer = lit< tt
+vid_told vid_newer = lit< tt
 vid_told (vid_good c) = each_when (not (is_mappable (c.header).volume) && eqb (c.header).compat 5) 8 (lit< tt)
-vid_told vidBlank = tt
-vid_told vidBad = tt
+vid_told vid_blank = tt
+vid_told vid_bad = tt
 
 view_told : (g : Geometry) (seq : ℕ) (v : View) → Each Above (view_refusal g seq v)
 unfolding view_refusal

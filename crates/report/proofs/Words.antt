@@ -6,7 +6,7 @@ use Prim.Native.Nat.{ℕ, ◌*◌}
 use native.Mathlib.Omega.{arith}
 use lib.ListN.{length}
 use Rattle.base.proofs.Rows.{rows_length}
-use Rattle.report.specs.View.{VidView, vid_good, vidNewer, vidBlank, vidBad, Medium, is_mappable}
+use Rattle.report.specs.View.{VidView, vid_good, vid_newer, vid_blank, vid_bad, Medium, is_mappable}
 use Rattle.report.specs.Volumes.{Entry}
 use Rattle.report.specs.Report.{class_at, counter_at}
 use Rattle.words.specs.Words.{no_word}
@@ -19,9 +19,9 @@ key_length i (vid_good c) = go (is_mappable c.header.volume)
     go : (b : Bool) → length (cond b (c.header.volume ∷ c.header.lnum ∷ i ∷ []) (no_word ∷ no_word ∷ no_word ∷ [])) ≡ 3
     go true = refl
     go false = refl
-key_length i vidNewer = refl
-key_length i vidBlank = refl
-key_length i vidBad = refl
+key_length i vid_newer = refl
+key_length i vid_blank = refl
+key_length i vid_bad = refl
 
 pub entry_words_length : (es : List Entry) → length (entry_words es) ≡ length es * 3
 entry_words_length [] = refl

@@ -5,7 +5,7 @@ use Rattle.base.specs.Answers.{or_else, map_o}
 use Rattle.base.specs.Below.{all_below, first_below, first_nonzero}
 use Rattle.geometry.specs.declared.Geometry.{Geometry}
 use Rattle.header.specs.declared.EcHeader.{EcHeader}
-use Rattle.report.specs.View.{EcView, ec_good, ecNewer, ecBlank, ecLost, VidView, vid_good, vidNewer, vidBlank, vidBad, View, Views, Medium, ecs, is_mappable}
+use Rattle.report.specs.View.{EcView, ec_good, ec_newer, ec_blank, ec_lost, VidView, vid_good, vid_newer, vid_blank, vid_bad, View, Views, Medium, ecs, is_mappable}
 use Rattle.report.specs.Class.{is_unused}
 
 -- a refusal: "number and place"
@@ -39,17 +39,17 @@ seq_disagrees seq x = not (eqb x 0) && not (eqb x seq)
 
 -- 5 "header version above 1"; 6; 7 "image sequence differs", if it is not zero
 abbrev pub ec_refusal : Geometry → ℕ → EcView → Option ℕ
-ec_refusal g seq ecNewer = some 5
+ec_refusal g seq ec_newer = some 5
 ec_refusal g seq (ec_good h) = or_else (when (other_starts g h) 6) (when (seq_disagrees seq h.image_seq) 7)
-ec_refusal g seq ecBlank = none
-ec_refusal g seq ecLost = none
+ec_refusal g seq ec_blank = none
+ec_refusal g seq ec_lost = none
 
 -- 5, of the VID header; 8 "unknown internal volume with compatibility 5"
 abbrev pub vid_refusal : VidView → Option ℕ
-vid_refusal vidNewer = some 5
+vid_refusal vid_newer = some 5
 vid_refusal (vid_good c) = when (not (is_mappable c.header.volume) && eqb c.header.compat 5) 8
-vid_refusal vidBlank = none
-vid_refusal vidBad = none
+vid_refusal vid_blank = none
+vid_refusal vid_bad = none
 
 -- "within one: EC version, 6, 7, VID version, 8"
 unfoldable pub view_refusal : Geometry → ℕ → View → Option ℕ

@@ -3,7 +3,7 @@
 use Rattle.std.specs.Prelude.{ℕ, cond, List, [], ◌∷◌}
 use Rattle.base.specs.Below.{concat_below}
 use Rattle.header.specs.declared.VidHeader.{VidHeader}
-use Rattle.report.specs.View.{Copy, EcView, VidView, vid_good, vidNewer, vidBlank, vidBad, Views, is_mappable, ecs}
+use Rattle.report.specs.View.{Copy, EcView, VidView, vid_good, vid_newer, vid_blank, vid_bad, Views, is_mappable, ecs}
 use Rattle.report.specs.Class.{class_by}
 use Rattle.report.specs.Volumes.{Places}
 use Rattle.report.specs.Report.{counter_or, is_place}
@@ -15,9 +15,9 @@ copy_words i h = cond (is_mappable h.volume) (h.volume ∷ h.lnum ∷ i ∷ []) 
 
 abbrev pub key_words : ℕ → VidView → List ℕ
 key_words i (vid_good c) = copy_words i c.header
-key_words i vidNewer = no_word ∷ no_word ∷ no_word ∷ []
-key_words i vidBlank = no_word ∷ no_word ∷ no_word ∷ []
-key_words i vidBad = no_word ∷ no_word ∷ no_word ∷ []
+key_words i vid_newer = no_word ∷ no_word ∷ no_word ∷ []
+key_words i vid_blank = no_word ∷ no_word ∷ no_word ∷ []
+key_words i vid_bad = no_word ∷ no_word ∷ no_word ∷ []
 
 -- the map's words after the first pass: three for each PEB
 abbrev pub keys_of : ℕ → Views → List ℕ

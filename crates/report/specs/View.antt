@@ -26,12 +26,12 @@ pub record Copy : Type 0 where
 -- an EC header is good, newer (version above 1), blank (lost, and all 0xFF), or lost otherwise
 pub data EcView : Type 0 where
   ec_good : EcHeader → EcView
-  ecNewer ecBlank ecLost : EcView
+  ec_newer ec_blank ec_lost : EcView
 
 -- a VID header is good, newer, blank (bad, and all 0xFF), or bad otherwise
 pub data VidView : Type 0 where
   vid_good : Copy → VidView
-  vidNewer vidBlank vidBad : VidView
+  vid_newer vid_blank vid_bad : VidView
 
 -- `clean`: every byte past the EC header is 0xFF (only the mover asks it, of a target: refusal 16)
 pub record View : Type 0 where
@@ -41,8 +41,8 @@ pub record View : Type 0 where
 
 abbrev pub ec_of : Verdict EcHeader → EcView
 ec_of (good h) = ec_good h
-ec_of bad = ecLost
-ec_of newer = ecNewer
+ec_of bad = ec_lost
+ec_of newer = ec_newer
 
 unfoldable pub copy_of : Geometry → List ℕ → VidHeader → Copy
 copy_of g p h = record {
@@ -53,8 +53,8 @@ copy_of g p h = record {
 
 abbrev pub vid_of : Geometry → List ℕ → Verdict VidHeader → VidView
 vid_of g p (good h) = vid_good (copy_of g p h)
-vid_of g p bad = vidBad
-vid_of g p newer = vidNewer
+vid_of g p bad = vid_bad
+vid_of g p newer = vid_newer
 
 -- the bytes in the place of the VID header
 abbrev pub vid_part : Geometry → List ℕ → List ℕ
@@ -63,8 +63,8 @@ vid_part g p = part g.vid_start 64 p
 -- the view of a PEB's bytes
 unfoldable pub view_of : Geometry → List ℕ → View
 view_of g p = record {
-  ec = cond (all_ff (take 64 p)) ecBlank (ec_of (read_ec (take 64 p)));
-  vid = cond (all_ff (vid_part g p)) vidBlank (vid_of g p (read_vid g.leb_size (vid_part g p)));
+  ec = cond (all_ff (take 64 p)) ec_blank (ec_of (read_ec (take 64 p)));
+  vid = cond (all_ff (vid_part g p)) vid_blank (vid_of g p (read_vid g.leb_size (vid_part g p)));
   clean = all_ff (drop 64 p);
 }
 
@@ -92,9 +92,9 @@ medium_of g n image = record { geometry = g; count = n; views = views_of g image
 -- the good EC header of a PEB, if it has one
 abbrev pub good_ec : EcView → Option EcHeader
 good_ec (ec_good h) = some h
-good_ec ecNewer = none
-good_ec ecBlank = none
-good_ec ecLost = none
+good_ec ec_newer = none
+good_ec ec_blank = none
+good_ec ec_lost = none
 
 abbrev pub ecs : Views → ℕ → Option EcHeader
 ecs vs i = good_ec (vs i).ec
@@ -102,9 +102,9 @@ ecs vs i = good_ec (vs i).ec
 -- the copy of a PEB, if its VID header is good
 abbrev pub good_vid : VidView → Option Copy
 good_vid (vid_good c) = some c
-good_vid vidNewer = none
-good_vid vidBlank = none
-good_vid vidBad = none
+good_vid vid_newer = none
+good_vid vid_blank = none
+good_vid vid_bad = none
 
 abbrev pub copies : Views → ℕ → Option Copy
 copies vs i = good_vid (vs i).vid

@@ -17,7 +17,7 @@ use Rattle.header.proofs.Laws.{by_version}
 use Rattle.header.specs.Ec.{ec_magic, ec_rules, ec_fields, judge_ec, read_ec}
 use Rattle.header.specs.declared.EcHeader.{EcHeader}
 use Rattle.words.specs.Words.{no_word, peb_stride, entry_stride}
-use Rattle.report.specs.View.{all_ff, EcView, ec_good, ecNewer, ecBlank, ecLost, VidView, vid_good, vidNewer, vidBlank, vidBad, View, ec_of, view_of, good_ec, is_mappable}
+use Rattle.report.specs.View.{all_ff, EcView, ec_good, ec_newer, ec_blank, ec_lost, VidView, vid_good, vid_newer, vid_blank, vid_bad, View, ec_of, view_of, good_ec, is_mappable}
 use Rattle.report.specs.Class.{first_class}
 use Rattle.report.specs.Scan.{when, other_starts, seq_disagrees, ec_refusal, vid_refusal, view_refusal}
 use Rattle.report.specs.Report.{counter_or}
@@ -57,7 +57,7 @@ small_read s =
 pub small_view : (g : Geometry) (p : List ℕ) → small_counter (view_of g p).ec
 unfolding view_of
 small_view g p =
-    either_way (λ (b : Bool). small_counter (cond b ecBlank (ec_of (read_ec (take 64 p))))) (all_ff (take 64 p))
+    either_way (λ (b : Bool). small_counter (cond b ec_blank (ec_of (read_ec (take 64 p))))) (all_ff (take 64 p))
     (omega arith) (small_read (take 64 p))
 
 -- ---- refusals as numbers
@@ -76,9 +76,9 @@ zero_both none b f h e = h e
 zero_both (some x) b f h e = f e
 
 ec_zero : (g : Geometry) (seq : ℕ) (e : EcView) → or_zero (ec_refusal g seq e) ≡ 0 → ec_refusal g seq e ≡ none
-ec_zero g seq ecNewer q = absurd (omega arith)
-ec_zero g seq ecBlank q = refl
-ec_zero g seq ecLost q = refl
+ec_zero g seq ec_newer q = absurd (omega arith)
+ec_zero g seq ec_blank q = refl
+ec_zero g seq ec_lost q = refl
 ec_zero g seq (ec_good h) q =
     let starts = other_starts g h in
     let other = seq_disagrees seq h.image_seq in
@@ -86,9 +86,9 @@ ec_zero g seq (ec_good h) q =
 
 vid_zero : (v : VidView) → or_zero (vid_refusal v) ≡ 0 → vid_refusal v ≡ none
 vid_zero (vid_good c) q = when_zero 7 (not (is_mappable c.header.volume) && eqb c.header.compat 5) q
-vid_zero vidNewer q = absurd (omega arith)
-vid_zero vidBlank q = refl
-vid_zero vidBad q = refl
+vid_zero vid_newer q = absurd (omega arith)
+vid_zero vid_blank q = refl
+vid_zero vid_bad q = refl
 
 pub view_zero : (g : Geometry) (seq : ℕ) (v : View) → or_zero (view_refusal g seq v) ≡ 0
     → view_refusal g seq v ≡ none

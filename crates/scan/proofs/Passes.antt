@@ -17,7 +17,7 @@ use Rattle.base.proofs.Rows.{rows_step, rows_tail}
 use Rattle.geometry.specs.declared.Geometry.{Geometry}
 use Rattle.header.specs.declared.EcHeader.{EcHeader}
 use Rattle.words.specs.Words.{peb_stride, entry_stride, peb_words_needed, map_words_needed}
-use Rattle.report.specs.View.{EcView, ec_good, ecNewer, ecBlank, ecLost, Views, Medium, ecs, good_ec, view_of, peb_at, medium_of}
+use Rattle.report.specs.View.{EcView, ec_good, ec_newer, ec_blank, ec_lost, Views, Medium, ecs, good_ec, view_of, peb_at, medium_of}
 use Rattle.report.specs.Class.{is_unused}
 use Rattle.report.specs.Scan.{image_seq_or0, image_seq_of, seq_disagrees, ec_refusal, view_refusal, refusal5678}
 use Rattle.report.specs.Report.{counter_or, has_counter, highest_of, read_only_of}
@@ -47,9 +47,9 @@ module _ (g : Geometry) (n i : ℕ) (vs : Views) (h : i < n) where
 
   ec_known : (x : EcView) → good_ec x ≡ ecs vs i → ec_refusal g (image_seq_of (suc i) vs) x ≡ ec_refusal g (image_seq_of n vs) x
   ec_known (ec_good e) p = rw (rw (← p) at seq_known)
-  ec_known ecNewer p = refl
-  ec_known ecBlank p = refl
-  ec_known ecLost p = refl
+  ec_known ec_newer p = refl
+  ec_known ec_blank p = refl
+  ec_known ec_lost p = refl
 
   view_known : view_refusal g (image_seq_of (suc i) vs) (vs i) ≡ view_refusal g (image_seq_of n vs) (vs i)
   unfolding view_refusal
@@ -83,9 +83,9 @@ module _ (i : ℕ) (vs : Views) (s : ScanTotals) (o : TotalsOf i vs s) where
     counters_small = omega (arith, o.counters_small);
     good_few = omega arith;
   }
-  ec_added ecNewer l = none_added
-  ec_added ecBlank l = none_added
-  ec_added ecLost l = none_added
+  ec_added ec_newer l = none_added
+  ec_added ec_blank l = none_added
+  ec_added ec_lost l = none_added
 
   seq_step : small_counter (vs i).ec → (with_ec s.ec (vs i).ec).image_seq ≡ image_seq_of (suc i) vs
   unfolding image_seq_of

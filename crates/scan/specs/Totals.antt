@@ -2,7 +2,7 @@
 use Rattle.std.specs.Prelude.{ℕ, ◌+◌, ◌*◌, ◌≤◌, max, Bool, ◌&&◌, ◌||◌}
 use Rattle.base.specs.Below.{unless_zero}
 use Rattle.words.specs.Words.{most_pebs}
-use Rattle.report.specs.View.{EcView, ec_good, ecNewer, ecBlank, ecLost, VidView, good_vid}
+use Rattle.report.specs.View.{EcView, ec_good, ec_newer, ec_blank, ec_lost, VidView, good_vid}
 use Rattle.report.specs.Report.{is_internal, sequence_or0}
 use Rattle.scan.specs.declared.EcTotals.{EcTotals}
 use Rattle.scan.specs.declared.VidTotals.{VidTotals}
@@ -14,9 +14,9 @@ with_ec s (ec_good h) = record {
   counters = s.counters + h.counter;
   good = s.good + 1;
 }
-with_ec s ecNewer = s
-with_ec s ecBlank = s
-with_ec s ecLost = s
+with_ec s ec_newer = s
+with_ec s ec_blank = s
+with_ec s ec_lost = s
 
 -- the totals with a PEB more: whether it is free or blank, its sequence (0 if none), whether it asks for read-only
 abbrev pub with_sequence : VidTotals → Bool → ℕ → Bool → VidTotals

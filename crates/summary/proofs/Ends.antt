@@ -15,7 +15,7 @@ use Rattle.header.specs.declared.EcHeader.{EcHeader}
 use Rattle.header.specs.Fields.{Verdict, good, bad, newer}
 use Rattle.header.specs.Ec.{read_ec}
 use Rattle.header.proofs.Laws.{ec_good_holds}
-use Rattle.report.specs.View.{all_ff, ecBlank, ec_of, good_ec, view_of, views_of, Medium, medium_of, peb_at, ecs}
+use Rattle.report.specs.View.{all_ff, ec_blank, ec_of, good_ec, view_of, views_of, Medium, medium_of, peb_at, ecs}
 use Rattle.report.specs.Report.{counter_or, has_counter, counter_at, refusal, entries, state_at}
 use Rattle.report.specs.Scan.{Refusal}
 use Rattle.report.specs.Attach.{
@@ -74,7 +74,7 @@ unfolding view_of
 counter_small g image i h e = go (all_ff (take 64 (peb_at g image i))) (read_ec (take 64 (peb_at g image i))) refl e
   where
     go : (t : Bool) (v : Verdict EcHeader) → read_ec (take 64 (peb_at g image i)) ≡ v
-        → good_ec (cond t ecBlank (ec_of v)) ≡ some h → h.counter ≤ 0x7FFFFFFF
+        → good_ec (cond t ec_blank (ec_of v)) ≡ some h → h.counter ≤ 0x7FFFFFFF
     go true v q e = absurd (let z : ◌≡◌ {A = ℕ} 0 1 = cc in omega arith)
     go false bad q e = absurd (let z : ◌≡◌ {A = ℕ} 0 1 = cc in omega arith)
     go false newer q e = absurd (let z : ◌≡◌ {A = ℕ} 0 1 = cc in omega arith)

@@ -10,16 +10,8 @@ pub returns-then-count-eq0 : goal.returns-then-count-eq0
 returns-then-count-eq0 c =
     let e = c.if-count-eq0.true in rw (e, div-zero)
 
-pub nonzero_div-result : goal.nonzero_div-result
-nonzero_div-result c =
-    search rules
-
 pub overflow_cast-result-2 : goal.overflow_cast-result-2
 overflow_cast-result-2 c =
     let a = c.args in
     let q : a.sum / a.count ≤ 0x7FFFFFFF = div-le_of_le-mul _ (omega (arith, c.requires)) in
     omega (arith, q)
-
-pub returns : goal.returns
-returns c =
-    search rules

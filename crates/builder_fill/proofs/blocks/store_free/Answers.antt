@@ -4,19 +4,7 @@ use borrow.Author.Rules.{rules}
 use Rattle.builder_rules.specs.Blocks.{built_ec}
 use Rattle.builder_rules.specs.Filling.{seq_in}
 use Rattle.builder_fill.proofs.Stores.{free_stored, ec_lent}
-use Rattle.builder_fill.proofs.blocks.store_free.Reads as reads
-use Rattle.builder_fill.proofs.blocks.store_free.Lts as lts
-use Rattle.base.proofs.store.Reads as store-reads
-use Rattle.flash_writes.proofs.erase.Reads as erase-reads
 use Rattle.builder_fill.proofs.blocks.store_free.Goals as goal
-
-pub overflow_cast-g : goal.overflow_cast-g
-overflow_cast-g c =
-    search rules
-
-pub erase-requires : goal.erase-requires
-erase-requires c =
-    search rules
 
 pub store-requires : goal.store-requires
 store-requires c =
@@ -29,10 +17,6 @@ store-requires c =
       omega arith,
       c.requires.0,
     )
-
-pub shape_of-image : goal.shape_of-image
-shape_of-image c =
-    search rules
 
 pub returns : goal.returns
 returns c =

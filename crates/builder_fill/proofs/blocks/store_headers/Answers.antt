@@ -4,20 +4,7 @@ use borrow.Author.Rules.{rules}
 use Rattle.builder_rules.specs.Blocks.{built_ec}
 use Rattle.builder_rules.specs.Filling.{seq_in}
 use Rattle.builder_fill.proofs.Stores.{headers_stored, ec_lent}
-use Rattle.builder_fill.proofs.blocks.store_headers.Reads as reads
-use Rattle.builder_fill.proofs.blocks.store_headers.Lts as lts
-use Rattle.base.proofs.store.Reads as store-reads
-use Rattle.flash_writes.proofs.erase.Reads as erase-reads
-use Rattle.flash_writes.proofs.store_vid.Reads as store-vid-reads
 use Rattle.builder_fill.proofs.blocks.store_headers.Goals as goal
-
-pub overflow_cast-g : goal.overflow_cast-g
-overflow_cast-g c =
-    search rules
-
-pub erase-requires : goal.erase-requires
-erase-requires c =
-    search rules
 
 pub store-requires : goal.store-requires
 store-requires c =
@@ -29,22 +16,6 @@ store-requires c =
       omega arith,
       c.requires.0,
     )
-
-pub overflow_cast-g-2 : goal.overflow_cast-g-2
-overflow_cast-g-2 c =
-    search rules
-
-pub overflow_add-at : goal.overflow_add-at
-overflow_add-at c =
-    search rules
-
-pub store_vid-requires : goal.store_vid-requires
-store_vid-requires c =
-    search rules
-
-pub shape_of-image : goal.shape_of-image
-shape_of-image c =
-    search rules
 
 pub returns : goal.returns
 returns c =

@@ -13,23 +13,11 @@ use Rattle.builder_rules.specs.Filling.{Filled}
 use Rattle.builder_rules.proofs.Accepted.{volumes_few, pad_small, content_within}
 use Rattle.builder_fill.specs.Pebs.{plan_lent}
 use Rattle.builder_fill.proofs.Filled.{lent_content, last_within, volume_ready, volume_filled}
-use Rattle.builder_fill.proofs.image.fill_volumes.Reads as reads
-use Rattle.builder_fill.proofs.image.fill_volumes.Lts as lts
-use Rattle.builder_fill.proofs.volume.fill_volume.Reads as fill-volume-reads
-use Rattle.builder_fill.proofs.volume.shape_of.Reads as shape-of-reads
 use Rattle.builder_fill.proofs.image.fill_volumes.Goals as goal
 
 pub loop-v-init : goal.loop-v-init
 loop-v-init c =
     ((omega arith, (refl, refl)), (refl, c.requires.1.1))
-
-pub offset_bounds-lengths-v : goal.offset_bounds-lengths-v
-offset_bounds-lengths-v c =
-    search rules
-
-pub bounds-lengths-v : goal.bounds-lengths-v
-bounds-lengths-v c =
-    search rules
 
 pub overflow_cast-v : goal.overflow_cast-v
 overflow_cast-v c =
@@ -62,14 +50,6 @@ overflow_add-end c =
     let plan : BuildPlan = let a = c.args in plan_lent a.g a.ec.now a.table.now a.lengths.now a.content.now in
         omega (arith, content_within plan pebs c.requires.1.0 c.loop-v.v (omega arith))
 
-pub slice_bounds-fill_volume-count : goal.slice_bounds-fill_volume-count
-slice_bounds-fill_volume-count c =
-    search rules
-
-pub slice_bounds-fill_volume-start : goal.slice_bounds-fill_volume-start
-slice_bounds-fill_volume-start c =
-    search rules
-
 pub slice_bounds-fill_volume-end : goal.slice_bounds-fill_volume-end
 slice_bounds-fill_volume-end c =
     let pebs : ℕ = peb_count_of c.args.g c.args.image.now in
@@ -94,10 +74,6 @@ fill_volume-requires c =
       c.requires.0,
     )
 
-pub overflow_cast-p : goal.overflow_cast-p
-overflow_cast-p c =
-    search rules
-
 pub overflow_add-p : goal.overflow_add-p
 unfolding volume_of lebs_of
 overflow_add-p c =
@@ -110,14 +86,6 @@ overflow_add-p c =
       last_within plan
           pebs c.requires.1.0 c.loop-v.v (omega arith),
     )
-
-pub overflow_add-v : goal.overflow_add-v
-overflow_add-v c =
-    search rules
-
-pub loop-v-smaller : goal.loop-v-smaller
-loop-v-smaller c =
-    search rules
 
 pub loop-v-preserved : goal.loop-v-preserved
 unfolding volume_of lebs_of
@@ -141,10 +109,6 @@ loop-v-preserved c =
             content_is l.invariant.1.1 c.fill_volume.ensures,
       ),
     )
-
-pub shape_of-image : goal.shape_of-image
-shape_of-image c =
-    search rules
 
 pub returns : goal.returns
 returns c =

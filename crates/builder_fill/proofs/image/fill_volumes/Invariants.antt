@@ -13,10 +13,6 @@ use Rattle.builder_rules.specs.Filling.{Filled}
 use Rattle.builder_rules.proofs.Accepted.{volumes_few, pad_small, content_within}
 use Rattle.builder_fill.specs.Pebs.{plan_lent}
 use Rattle.builder_fill.proofs.Filled.{lent_content, last_within, volume_ready, volume_filled}
-use Rattle.builder_fill.proofs.image.fill_volumes.Reads as reads
-use Rattle.builder_fill.proofs.image.fill_volumes.Lts as lts
-use Rattle.builder_fill.proofs.volume.fill_volume.Reads as fill-volume-reads
-use Rattle.builder_fill.proofs.volume.shape_of.Reads as shape-of-reads
 use Rattle.builder_fill.proofs.image.fill_volumes.Given as goal
 
 abbrev pub invariant-loop-v : goal.invariant-loop-v

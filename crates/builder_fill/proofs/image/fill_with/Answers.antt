@@ -10,11 +10,6 @@ use Rattle.builder_rules.specs.Blocks.{BuildPlan}
 use Rattle.builder_rules.proofs.Accepted.{table_fits, pebs_suffice}
 use Rattle.builder_fill.specs.Pebs.{plan_lent}
 use Rattle.builder_fill.proofs.Filled.{layout_filled, all_filled}
-use Rattle.builder_fill.proofs.image.fill_with.Reads as reads
-use Rattle.builder_fill.proofs.image.fill_with.Lts as lts
-use Rattle.builder_fill.proofs.image.fill_layout.Reads as fill-layout-reads
-use Rattle.builder_fill.proofs.image.fill_volumes.Reads as fill-volumes-reads
-use Rattle.builder_fill.proofs.image.free_from.Reads as free-from-reads
 use Rattle.builder_fill.proofs.image.fill_with.Goals as goal
 
 pub fill_layout-requires : goal.fill_layout-requires
@@ -41,17 +36,9 @@ fill_volumes-end-requires c =
       ),
     )
 
-pub overflow_cast-n : goal.overflow_cast-n
-overflow_cast-n c =
-    search rules
-
-pub nonzero_div-n : goal.nonzero_div-n
-nonzero_div-n c =
-    search rules
-
 pub free_from-requires : goal.free_from-requires
 free_from-requires c =
-    let after-volumes : length c.fill_volumes-end.new.image ≡ length c.args.image.now = search (rules, c.image-2-1.given, c.image-1.given) in
+    let after-volumes : length c.fill_volumes-end.new.image ≡ length c.args.image.now = search rules in
     let pebs : ℕ = peb_count_of c.args.g c.args.image.now in
     let plan : BuildPlan = let a = c.args in plan_lent a.g a.ec.now a.table.now a.lengths.now a.content.now in
         let a = c.requires.1.0 in
@@ -62,13 +49,9 @@ free_from-requires c =
       (rw n a.pebs_most, rw n (omega (arith, e, c.requires.1.1))),
     )
 
-pub shape_of-image : goal.shape_of-image
-shape_of-image c =
-    search rules
-
 pub returns : goal.returns
 returns c =
-    let after-volumes : length c.fill_volumes-end.new.image ≡ length c.args.image.now = search (rules, c.image-2-1.given, c.image-1.given) in
+    let after-volumes : length c.fill_volumes-end.new.image ≡ length c.args.image.now = search rules in
     let pebs : ℕ = peb_count_of c.args.g c.args.image.now in
     let plan : BuildPlan = let a = c.args in plan_lent a.g a.ec.now a.table.now a.lengths.now a.content.now in
         let e = after-volumes in

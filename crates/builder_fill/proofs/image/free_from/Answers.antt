@@ -13,10 +13,6 @@ use Rattle.base.proofs.Stores.{put_none}
 use Rattle.builder_rules.specs.Blocks.{built_ec, free_peb}
 use Rattle.builder_rules.specs.Filling.{seq_in}
 use Rattle.builder_rules.proofs.Pebs.{free_length}
-use Rattle.builder_fill.proofs.image.free_from.Reads as reads
-use Rattle.builder_fill.proofs.image.free_from.Lts as lts
-use Rattle.builder_fill.proofs.blocks.peb_start.Reads as peb-start-reads
-use Rattle.builder_fill.proofs.blocks.store_free.Reads as store-free-reads
 use Rattle.builder_fill.proofs.image.free_from.Goals as goal
 
 pub loop-p-init : goal.loop-p-init
@@ -33,10 +29,6 @@ store_free-requires c =
     let there : c.loop-p.p * c.args.g.peb_size + c.args.g.peb_size ≤ length c.args.image.now = let a = c.args in
     let h : c.loop-p.p < a.n = omega arith in omega (arith, mul-le-mul_right a.g.peb_size h, c.requires.1.1) in
         (omega (arith, there), c.requires.0.0)
-
-pub overflow_add-p : goal.overflow_add-p
-overflow_add-p c =
-    search rules
 
 pub loop-p-smaller : goal.loop-p-smaller
 loop-p-smaller c =
@@ -60,10 +52,6 @@ loop-p-preserved c =
             (m : ℕ). m * a.g.peb_size) (sym e)) c.store_free.ensures),
       ),
     )
-
-pub shape_of-image : goal.shape_of-image
-shape_of-image c =
-    search rules
 
 pub returns : goal.returns
 returns c =

@@ -13,10 +13,6 @@ use Rattle.base.proofs.Stores.{put_none}
 use Rattle.builder_rules.specs.Blocks.{built_ec, free_peb}
 use Rattle.builder_rules.specs.Filling.{seq_in}
 use Rattle.builder_rules.proofs.Pebs.{free_length}
-use Rattle.builder_fill.proofs.image.free_from.Reads as reads
-use Rattle.builder_fill.proofs.image.free_from.Lts as lts
-use Rattle.builder_fill.proofs.blocks.peb_start.Reads as peb-start-reads
-use Rattle.builder_fill.proofs.blocks.store_free.Reads as store-free-reads
 use Rattle.builder_fill.proofs.image.free_from.Given as goal
 
 abbrev pub invariant-loop-p : goal.invariant-loop-p

@@ -14,21 +14,11 @@ use Rattle.builder_rules.specs.Filling.{seq_in}
 use Rattle.builder_rules.proofs.Headers.{user_good}
 use Rattle.builder_fill.specs.Pebs.{bytes_of, leb_peb}
 use Rattle.builder_fill.proofs.Lebs.{lent_bytes, next_start, bytes_small, peb_length}
-use Rattle.builder_fill.proofs.volume.fill_volume.Reads as reads
-use Rattle.builder_fill.proofs.volume.fill_volume.Lts as lts
-use Rattle.builder_fill.proofs.blocks.peb_start.Reads as peb-start-reads
-use Rattle.builder_fill.proofs.blocks.store_used.Reads as store-used-reads
-use Rattle.builder_fill.proofs.volume.leb_end.Reads as leb-end-reads
-use Rattle.builder_fill.proofs.volume.leb_header.Reads as leb-header-reads
 use Rattle.builder_fill.proofs.volume.fill_volume.Goals as goal
 
 pub overflow_sub-room : goal.overflow_sub-room
 overflow_sub-room c =
     omega (arith, c.requires.0.pad)
-
-pub overflow_cast-room : goal.overflow_cast-room
-overflow_cast-room c =
-    search rules
 
 pub loop-l-init : goal.loop-l-init
 loop-l-init c =
@@ -50,35 +40,11 @@ leb_end-end-requires c =
     let within : c.loop-l.from < length c.args.content.now = rw start_is (c.requires.0.starts c.loop-l.l c.loop-l-test.true) in
     omega (arith, within)
 
-pub slice_bounds-bytes-count : goal.slice_bounds-bytes-count
-slice_bounds-bytes-count c =
-    search rules
-
-pub slice_bounds-bytes-start : goal.slice_bounds-bytes-start
-slice_bounds-bytes-start c =
-    search rules
-
 pub slice_bounds-bytes-end : goal.slice_bounds-bytes-end
 slice_bounds-bytes-end c =
     let start_is : c.loop-l.from ≡ c.loop-l.l * (c.args.g.leb_size - c.args.v.data_pad) = c.loop-l.invariant.1.0 c.loop-l-test.true in
     let within : c.loop-l.from < length c.args.content.now = rw start_is (c.requires.0.starts c.loop-l.l c.loop-l-test.true) in
     omega (arith, within)
-
-pub overflow_cast-p : goal.overflow_cast-p
-overflow_cast-p c =
-    search rules
-
-pub overflow_add-p : goal.overflow_add-p
-overflow_add-p c =
-    search rules
-
-pub overflow_add-p-in-loop-l : goal.overflow_add-p-in-loop-l
-overflow_add-p-in-loop-l c =
-    search rules
-
-pub leb_header-vid-requires : goal.leb_header-vid-requires
-leb_header-vid-requires c =
-    search rules
 
 pub peb_start-requires : goal.peb_start-requires
 peb_start-requires c =
@@ -113,14 +79,6 @@ store_used-requires c =
       ),
     )
 
-pub overflow_add-l : goal.overflow_add-l
-overflow_add-l c =
-    search rules
-
-pub loop-l-smaller : goal.loop-l-smaller
-loop-l-smaller c =
-    search rules
-
 pub loop-l-preserved : goal.loop-l-preserved
 unfolding leb_peb
 loop-l-preserved c =
@@ -152,10 +110,6 @@ loop-l-preserved c =
         ),
       ),
     )
-
-pub shape_of-image : goal.shape_of-image
-shape_of-image c =
-    search rules
 
 pub returns : goal.returns
 returns c =

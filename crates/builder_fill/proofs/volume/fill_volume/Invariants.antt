@@ -14,12 +14,6 @@ use Rattle.builder_rules.specs.Filling.{seq_in}
 use Rattle.builder_rules.proofs.Headers.{user_good}
 use Rattle.builder_fill.specs.Pebs.{bytes_of, leb_peb}
 use Rattle.builder_fill.proofs.Lebs.{lent_bytes, next_start, bytes_small, peb_length}
-use Rattle.builder_fill.proofs.volume.fill_volume.Reads as reads
-use Rattle.builder_fill.proofs.volume.fill_volume.Lts as lts
-use Rattle.builder_fill.proofs.blocks.peb_start.Reads as peb-start-reads
-use Rattle.builder_fill.proofs.blocks.store_used.Reads as store-used-reads
-use Rattle.builder_fill.proofs.volume.leb_end.Reads as leb-end-reads
-use Rattle.builder_fill.proofs.volume.leb_header.Reads as leb-header-reads
 use Rattle.builder_fill.proofs.volume.fill_volume.Given as goal
 
 abbrev pub invariant-loop-l : goal.invariant-loop-l

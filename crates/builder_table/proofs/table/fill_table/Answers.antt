@@ -55,12 +55,7 @@ loop-i-preserved c =
       ),
     )
 
-pub shape_of-table : goal.shape_of-table
-shape_of-table c =
-    search rules
-
 pub returns : goal.returns
 returns c =
     let a = c.args in let l = c.loop-i in
-    whole_table a.leb_size a.slip.now c.requires.0.1 l.i _ (omega arith) (omega
-    (arith, c.table-1.given)) l.invariant.1.1.1
+    whole_table a.leb_size a.slip.now c.requires.0.1 l.i _ (omega arith) (omega arith) l.invariant.1.1.1

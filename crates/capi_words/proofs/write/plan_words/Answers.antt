@@ -4,10 +4,6 @@ use mathlib.Core.Path.{refl}
 use Rattle.capi_words.specs.Structs.{plan_words}
 use Rattle.capi_words.proofs.write.plan_words.Goals as goal
 
-pub overflow_cast-result-15 : goal.overflow_cast-result-15
-overflow_cast-result-15 c =
-    search rules
-
 pub returns : goal.returns
 unfolding plan_words
 returns c =

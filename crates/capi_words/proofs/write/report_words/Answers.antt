@@ -3,14 +3,6 @@ use borrow.Author.Rules.{rules}
 use Rattle.capi_words.specs.Structs.{report_words}
 use Rattle.capi_words.proofs.write.report_words.Goals as goal
 
-pub overflow_cast-result-12 : goal.overflow_cast-result-12
-overflow_cast-result-12 c =
-    search rules
-
-pub overflow_cast-result-13 : goal.overflow_cast-result-13
-overflow_cast-result-13 c =
-    search rules
-
 pub returns : goal.returns
 unfolding report_words
 returns c =
