@@ -10,7 +10,7 @@ same_leb-requires c =
 
 pub returns-then-not-same_leb : goal.returns-then-not-same_leb
 returns-then-not-same_leb c =
-    rw (← c.same_leb.ensures, not-true c.same_leb.result c.if-not-same_leb.true)
+    rw (← c.same_leb.ensures, c.if-not-same_leb.true)
 
 pub header_field-s-requires : goal.header_field-s-requires
 header_field-s-requires c =

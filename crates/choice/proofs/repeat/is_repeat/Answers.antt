@@ -11,7 +11,7 @@ pub returns-then-not-same_leb : goal.returns-then-not-same_leb
 returns-then-not-same_leb c =
     rw (
       ← c.same_leb.ensures,
-      not-true c.same_leb.result c.if-not-same_leb.true,
+      c.if-not-same_leb.true,
       ← c.volume_word.ensures,
       ne_eqb _ _ c.if-volume_word.false,
     )
@@ -20,7 +20,7 @@ pub returns : goal.returns
 returns c =
     rw (
       ← c.same_leb.ensures,
-      not-false c.same_leb.result c.if-not-same_leb.false,
+      c.if-not-same_leb.false,
       ← c.volume_word.ensures,
       ne_eqb _ _ c.if-volume_word.false,
       ← c.header_field.ensures,
