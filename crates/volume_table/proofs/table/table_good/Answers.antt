@@ -36,7 +36,7 @@ returns-then-not-sum c =
     Summed a.leb_size a.unit a.content.now c.record_count-n.result c.records_part-t.result.now c.tally-sum.result = record { count = c.record_count-n.ensures; records = c.records_part-t.ensures; sums = c.tally-sum.ensures } in
         let a = c.args in
     not_fine a.leb_size a.unit a.peb_count a.content.now summed
-    (c.if-not-sum.true)
+    (not-true c.tally-sum.result.good c.if-not-sum.true)
 
 pub returns-then-sum-gt1 : goal.returns-then-sum-gt1
 returns-then-sum-gt1 c =
@@ -44,7 +44,7 @@ returns-then-sum-gt1 c =
     Summed a.leb_size a.unit a.content.now c.record_count-n.result c.records_part-t.result.now c.tally-sum.result = record { count = c.record_count-n.ensures; records = c.records_part-t.ensures; sums = c.tally-sum.ensures } in
         let a = c.args in
     too_many a.leb_size a.unit a.peb_count a.content.now summed
-    (c.if-not-sum.false) c.if-sum-gt1.true
+    (not-false c.tally-sum.result.good c.if-not-sum.false) c.if-sum-gt1.true
 
 pub returns-then-most_reserved-sum : goal.returns-then-most_reserved-sum
 returns-then-most_reserved-sum c =
@@ -52,7 +52,7 @@ returns-then-most_reserved-sum c =
     Summed a.leb_size a.unit a.content.now c.record_count-n.result c.records_part-t.result.now c.tally-sum.result = record { count = c.record_count-n.ensures; records = c.records_part-t.ensures; sums = c.tally-sum.ensures } in
         let a = c.args in
     too_much_lem a.leb_size a.unit a.peb_count a.content.now summed
-    (c.if-not-sum.false)
+    (not-false c.tally-sum.result.good c.if-not-sum.false)
     (rw c.most_reserved.ensures at c.if-most_reserved-sum.true)
 
 pub names_differ-requires : goal.names_differ-requires
@@ -69,6 +69,6 @@ returns c =
     c.records_part-t.ensures c.if-content-n.false in
         let a = c.args in
     names_decide a.leb_size a.unit a.peb_count a.content.now summed
-    (c.if-not-sum.false)
+    (not-false c.tally-sum.result.good c.if-not-sum.false)
     c.if-n-eq0.false whole c.if-sum-gt1.false
     (rw c.most_reserved.ensures at c.if-most_reserved-sum.false) c.names_differ.ensures

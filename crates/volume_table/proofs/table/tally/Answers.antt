@@ -31,14 +31,14 @@ returns-then-not-sum c =
     let l = c.loop-i in
     tally_stop a.leb_size a.unit a.t.now l.i l.sum c.tally_record-sum.result
     next a.n (omega arith)
-    (c.if-not-sum.true)
+    (not-true c.tally_record-sum.result.good c.if-not-sum.true)
 
 pub loop-i-preserved : goal.loop-i-preserved
 loop-i-preserved c =
     let next : let a = c.args in
     c.tally_record-sum.result ≡ tallied a.leb_size a.unit c.loop-i.sum (record_at a.t.now c.loop-i.i) = rw add-sub_cancel_left at c.tally_record-sum.ensures.0 in
         let a = c.args in
-    let l = c.loop-i in let f = c.if-not-sum.false in
+    let l = c.loop-i in let f = not-false c.tally_record-sum.result.good c.if-not-sum.false in
     let r = c.tally_record-sum.result in
     let s = tally_more a.leb_size a.unit a.t.now l.i l.sum r next in
     (omega arith, (f, (omega arith, (omega arith, s l.invariant.1.1.1.1 l.invariant.1.0 f))))
