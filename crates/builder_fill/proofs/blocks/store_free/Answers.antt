@@ -14,7 +14,6 @@ store-requires c =
       c.requires.1.0.vid_after_ec,
       c.requires.1.0.data_after_vid,
       c.requires.1.0.leb_fills,
-      omega arith,
       c.requires.0,
     )
 

@@ -13,7 +13,6 @@ store-requires c =
       ec_lent c.args.g c.requires.1.1.0,
       c.requires.1.0.vid_after_ec,
       c.requires.1.0.data_after_vid,
-      omega arith,
       c.requires.0,
     )
 
