@@ -1,6 +1,6 @@
 # `make` proves the library and the programs and builds them into build/; `make install PREFIX=..` installs them.
 # Needs the Rattle kit (rt), a C compiler and, for the bench tool and the tests, Python 3. On x86-64 Linux.
-# `make clean` keeps target/, in which rt has what it has proved.
+# `make clean` keeps crates/*/out/, in which rt has what it has proved, and build/bench and build/fuzz.
 VERSION := 0.12.0
 SONAME := libchoduljin.so.0
 
@@ -11,7 +11,7 @@ CFLAGS ?= -O2 -Wall -Wextra
 INSTALL ?= install
 
 # rt proves again what has changed, and nothing else; the folders tell of files that are gone.
-SOURCES := crates.txt $(shell find crates -type d -o -name '*.rt' -o -name '*.antt')
+SOURCES := crates.txt $(shell find crates/*/src crates/*/specs crates/*/proofs -type d -o -name '*.rt' -o -name '*.antt')
 BUILT := build/libchoduljin.a build/libchoduljin.so build/$(SONAME) build/ubilist build/attach build/build
 
 .DELETE_ON_ERROR:
@@ -22,8 +22,8 @@ build:
 	mkdir -p $@
 
 build/libchoduljin.a: $(SOURCES) | build
-	rt staticlib capi
-	cp target/staticlib/libcapi.a $@
+	cd crates/capi && rt lib
+	cp crates/capi/out/libcapi.a $@
 
 build/libchoduljin.so: build/libchoduljin.a tools/exports.map Makefile
 	$(CC) -shared $(LDFLAGS) -Wl,-soname,$(SONAME) -Wl,--version-script=tools/exports.map -Wl,--no-undefined \
@@ -32,10 +32,11 @@ build/libchoduljin.so: build/libchoduljin.a tools/exports.map Makefile
 build/$(SONAME): build/libchoduljin.so
 	ln -sf libchoduljin.so $@
 
-# After the library: two rt at once in one target/ would be in each other's way.
+# After the library: of two rt at once one would wait for the other. `rt run` leaves the program that it ran, here on
+# empty input.
 build/ubilist: $(SOURCES) | build build/libchoduljin.a
-	rt check ubilist
-	cp target/bin/ubilist $@
+	cd crates/ubilist && rt run < /dev/null > /dev/null
+	cp crates/ubilist/out/ubilist $@
 
 build/attach build/build: build/%: examples/%.c include/choduljin.h build/libchoduljin.a
 	$(CC) -std=c99 $(CFLAGS) -Iinclude $(LDFLAGS) -o $@ $< build/libchoduljin.a
@@ -62,4 +63,4 @@ install: all
 	$(INSTALL) -m 644 tools/ubibench.bash "$(SHARE)/bash-completion/completions/ubibench"
 
 clean:
-	rm -rf build
+	rm -f $(BUILT)
