@@ -1,7 +1,10 @@
 """Checks demand 3 on lists of moves by chance, within the oracle itself.
 
     python3 oracle/check_moves.py [--count 10000] [--seed 1]
-    python3 oracle/check_moves.py target/bin/test_mover [--count 1000]
+    python3 oracle/check_moves.py PROGRAM [--count 1000]
+
+PROGRAM is test_mover, as crates/test_mover/out/test_mover, where `rt run`
+leaves it.
 
 Each list starts from an image of its own that attaches; its moves are
 accepted or refused, gone on with to the end or stopped anywhere. After every

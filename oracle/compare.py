@@ -1,6 +1,6 @@
 """Compares a listing program with the oracle on dumps by chance.
 
-    python3 oracle/compare.py target/bin/ubilist [--count 5000] [--seed 1]
+    python3 oracle/compare.py build/ubilist [--count 5000] [--seed 1]
 
 The same seed gives the same dumps. At the first difference the dump is kept
 in a temporary file, its path is printed, and the exit status is 1.

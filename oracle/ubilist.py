@@ -1,6 +1,6 @@
 """Runs the listing program on input and output that end, fail or pause.
 
-    python3 oracle/ubilist.py target/bin/ubilist
+    python3 oracle/ubilist.py build/ubilist
 
 Where its input can be read, the program must print the oracle's listing of
 it, however it came; where not, nothing at all. Where its output fails, what

@@ -1,6 +1,6 @@
 """Compares a listing program and the oracle on images made by `ubinize`.
 
-    python3 oracle/ubinize.py target/bin/ubilist
+    python3 oracle/ubinize.py build/ubilist
     python3 oracle/ubinize.py --installed
 
 `ubinize`, of mtd-utils, is what makes UBI images elsewhere: a third reading

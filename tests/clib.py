@@ -10,7 +10,7 @@ from array import array
 
 ROOT = os.path.dirname(os.path.dirname(os.path.abspath(__file__)))
 VARIABLE = "CHODULJIN_LIBRARY"
-PLACES = ("build", "target/lib", "target")
+PLACE = "build"
 FILE = "libchoduljin.so"
 
 ON, BAD, EMPTY, UNFIT = 256, 257, 258, 259
@@ -45,10 +45,9 @@ def library_path():
     named = os.environ.get(VARIABLE)
     if named:
         return os.path.abspath(named)
-    for place in PLACES:
-        path = os.path.join(ROOT, place, FILE)
-        if os.path.exists(path):
-            return path
+    path = os.path.join(ROOT, PLACE, FILE)
+    if os.path.exists(path):
+        return path
     raise SystemExit("%s is not built: `make` builds it, or %s names it" % (FILE, VARIABLE))
 
 

@@ -28,7 +28,7 @@ from programs import keep
 
 SECONDS = 60
 BATCH = 50
-PLACES = ("build/ubilist", "target/bin/ubilist")
+PLACE = "build/ubilist"
 TOO_LONG = b"refused 3 at 0\n"
 # A run over fewer dumps than there are has lost some.
 LEAST_DUMPS = 3000
@@ -124,16 +124,15 @@ def run_batch(job):
 
 
 def find_ubilist(given):
-    paths = [given] if given else [os.path.join(ROOT, place) for place in PLACES]
-    for path in paths:
-        if os.access(path, os.X_OK):
-            return os.path.abspath(path)
-    raise SystemExit("ubilist is not built: looked for it at " + ", ".join(paths))
+    path = given or os.path.join(ROOT, PLACE)
+    if os.access(path, os.X_OK):
+        return os.path.abspath(path)
+    raise SystemExit("ubilist is not built: looked for it at " + path)
 
 
 def main(arguments):
     parser = argparse.ArgumentParser(description="The bench tool against ubilist on every stored dump.")
-    parser.add_argument("ubilist", nargs="?", help="the listing program (%s)" % " or ".join(PLACES))
+    parser.add_argument("ubilist", nargs="?", help="the listing program (%s)" % PLACE)
     parser.add_argument("--processes", type=int, default=300, help="dumps for which the tool is a process (300)")
     parser.add_argument("--jobs", type=int, default=2, help="processes that compare (2)")
     chosen = parser.parse_args(arguments)
