@@ -1,5 +1,6 @@
 // Attaching: from a slip and an image to the report.
 #![tactic(auto)]
+
 ghost use Rattle.std.specs.Prelude.{◌≡◌, ◌≤◌, length};
 ghost use Rattle.geometry.specs.Placed.{Placed};
 ghost use Rattle.base.specs.Answers.{given};

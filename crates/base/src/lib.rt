@@ -1,5 +1,6 @@
 // Byte slices compared, stored and filled. The definitions and laws that every crate uses stand in specs/ and proofs/.
 #![tactic(auto)]
+
 ghost use Rattle.std.specs.Prelude.{◌≡◌, ◌++◌, ◌+◌, ◌≤◌, length, drop, replicate};
 ghost use Rattle.base.specs.Lists.{put, eqs};
 

@@ -1,6 +1,7 @@
 // Attaching and its checksum as C calls them: what bench/ links and times. C passes a slice as a pointer and then a
 // length.
 #![tactic(auto)]
+
 ghost use Rattle.std.specs.Prelude.{◌≡◌};
 ghost use Rattle.crc32.specs.Crc.{crc_from};
 ghost use Rattle.report.specs.Attach.{lent, request, attaching_into, attached_answer, answer_of, tables_after};

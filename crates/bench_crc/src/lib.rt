@@ -1,5 +1,6 @@
 // The checksum as C calls it: what bench/ links and times.
 #![tactic(auto)]
+
 ghost use Rattle.std.specs.Prelude.{◌≡◌};
 ghost use Rattle.crc32.specs.Crc.{crc_from};
 

@@ -1,5 +1,6 @@
 // Production images: a whole image of flash, filled from a list of volumes and their contents.
 #![tactic(auto)]
+
 ghost use Rattle.std.specs.Prelude.{◌≡◌, true, ◌*◌, length};
 ghost use Rattle.base.specs.Answers.{given, refused, all_of};
 ghost use Rattle.geometry.specs.Image.{image_rules};

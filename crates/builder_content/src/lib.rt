@@ -1,5 +1,6 @@
 // Refusal 21: a length for each volume, and room for it.
 #![tactic(auto)]
+
 ghost use Rattle.std.specs.Prelude.{◌≡◌, ℕ, ◌+◌, ◌-◌, ◌*◌, ◌^◌, ◌≤◌, ◌<◌, leb, length, get_or};
 ghost use Rattle.base.specs.Answers.{all_of};
 ghost use Rattle.base.specs.Below.{all_below, sum_below};

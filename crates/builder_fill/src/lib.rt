@@ -1,5 +1,6 @@
 // The PEBs of a production image, filled from the first to the last. No byte of the content is stored twice.
 #![tactic(auto)]
+
 mod blocks;
 mod image;
 mod volume;

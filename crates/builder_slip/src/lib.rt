@@ -1,5 +1,6 @@
 // The builder's slip: the head of an image's slip, a field for each volume, and the tail.
 #![tactic(auto)]
+
 ghost use Rattle.std.specs.Prelude.{◌≡◌, cond, ◌+◌, ◌≤◌, length};
 ghost use Rattle.geometry.specs.Geometry.{geometry_read};
 ghost use Rattle.builder_rules.specs.Slip.{length_at, volume_field_at, field_start, volume_count, builder_geometry};

@@ -1,5 +1,6 @@
 // The volume table that the volume fields of a slip give; refusal 20.
 #![tactic(auto)]
+
 mod records;
 mod table;
 

@@ -1,6 +1,7 @@
 // The library as C calls it: include/choduljin.h documents every function, word and answer. C passes a slice as a
 // pointer and then a length. Structs are words that C lends.
 #![tactic(auto)]
+
 mod attaching;
 mod building;
 mod headers;

@@ -1,5 +1,6 @@
 // What the library answers C: one number, and words that C lends.
 #![tactic(auto)]
+
 mod store;
 
 pub use store::{

@@ -1,5 +1,6 @@
 // The structs of the library as words that C lends: 64 bits each, in the order of include/choduljin.h.
 #![tactic(auto)]
+
 mod read;
 mod store;
 mod write;

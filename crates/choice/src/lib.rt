@@ -1,5 +1,6 @@
 // Which copy of a logical block (LEB) counts, and the first copy that repeats another.
 #![tactic(auto)]
+
 mod chain;
 mod chosen;
 mod marking;

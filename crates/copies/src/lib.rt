@@ -1,5 +1,6 @@
 // A copy of a logical block (LEB), read where it stands in the image: its header's fields and its data run.
 #![tactic(auto)]
+
 ghost use Rattle.std.specs.Prelude.{◌≡◌, ◌+◌, ◌*◌, ◌≤◌, length};
 ghost use Rattle.geometry.specs.Placed.{Placed};
 ghost use Rattle.header.specs.Vid.{IsVidField, vid_field};

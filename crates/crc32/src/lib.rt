@@ -2,6 +2,7 @@
 // folded: left out, and added to later words, at the distances that a sparse multiple of the polynomial gives. The CRC
 // stays the same.
 #![tactic(auto)]
+
 ghost use Rattle.std.specs.Prelude.{◌≡◌};
 ghost use Rattle.crc32.specs.Crc.{crc_from, crc_of};
 

@@ -1,5 +1,6 @@
 // The erase counter header, read and written.
 #![tactic(auto)]
+
 ghost use Rattle.std.specs.Prelude.{◌≡◌, ◌≤◌, length};
 ghost use Rattle.header.specs.Fields.{is_good, written, verdict_answer};
 ghost use Rattle.header.specs.Ec.{ec_fields, judge_ec, ec_read, ec_answer, ec_written, ec_out};

@@ -1,5 +1,6 @@
 // Unsigned fields of 1 to 8 bytes, the highest byte first, at an offset of a byte slice.
 #![tactic(auto)]
+
 ghost use Rattle.std.specs.Prelude.{◌≡◌, ◌+◌, ◌^◌, ◌≤◌, ◌<◌, length};
 ghost use Rattle.base.specs.Lists.{part, put};
 ghost use Rattle.field.specs.Be.{be_of, to_be};

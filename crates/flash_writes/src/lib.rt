@@ -1,5 +1,6 @@
 // Writes on an image of flash: a run copied, a block erased, a header stored. Each stores its bytes ascending.
 #![tactic(auto)]
+
 ghost use Rattle.std.specs.Prelude.{◌≡◌, true, ◌⊎◌, ◌+◌, ◌≤◌, ◌<◌, length, replicate};
 ghost use Rattle.base.specs.Lists.{part, put};
 ghost use Rattle.header.specs.Fields.{is_good};

@@ -1,5 +1,6 @@
 // Frames from standard input, and words to standard output: what the test programs share.
 #![tactic(auto)]
+
 ghost use Rattle.std.specs.Prelude.{◌<◌, ◌≤◌, length};
 
 mod headers;

@@ -1,5 +1,6 @@
 // The slip before an image, the geometry of the flash chip that it gives, and the size of the image.
 #![tactic(auto)]
+
 mod image;
 mod rules;
 mod slip;

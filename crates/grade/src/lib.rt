@@ -1,5 +1,6 @@
 // The grade, from the words of the report.
 #![tactic(auto)]
+
 ghost use Rattle.std.specs.Prelude.{◌≡◌, List, ℕ, ◌≤◌, length};
 ghost use Rattle.base.specs.Below.{all_below};
 ghost use Rattle.geometry.specs.declared.Geometry.{Geometry};

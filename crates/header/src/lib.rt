@@ -1,6 +1,7 @@
 // The erase counter (EC) and volume identifier (VID) headers of a physical block, 64 bytes each: what they are, and
 // their fields one by one.
 #![tactic(auto)]
+
 mod fields;
 
 pub use fields::{

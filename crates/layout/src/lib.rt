@@ -1,5 +1,6 @@
 // The two layout LEBs: where they are found once copies are chosen, and their contents.
 #![tactic(auto)]
+
 ghost use Rattle.std.specs.Prelude.{◌≡◌, ◌≤◌, length};
 ghost use Rattle.words.specs.Words.{peb_words_needed, map_words_needed, HasPeb, HasEntry};
 ghost use Rattle.header.specs.Vid.{layout_volume};

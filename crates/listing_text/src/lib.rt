@@ -1,5 +1,6 @@
 // A report as the text of a listing.
 #![tactic(auto)]
+
 mod lines;
 mod text;
 mod write;

@@ -1,5 +1,6 @@
 // Reading a report's tables: what they say of one PEB, and where a LEB is.
 #![tactic(auto)]
+
 ghost use Rattle.std.specs.Prelude.{◌≡◌};
 ghost use Rattle.words.specs.Words.{HasEntry};
 ghost use Rattle.lookup.specs.Lookup.{peb_answer, peb_in, is_entry, place_answer, place_in};

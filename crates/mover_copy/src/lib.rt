@@ -1,5 +1,6 @@
 // The copy that is moved: whether its data are right, and the new VID header.
 #![tactic(auto)]
+
 ghost use Rattle.std.specs.Prelude.{◌≡◌, ◌+◌, ◌-◌, ◌^◌, ◌≤◌, ◌<◌, length, take, drop};
 ghost use Rattle.base.specs.Lists.{part};
 ghost use Rattle.crc32.specs.Crc.{crc_of};

@@ -1,5 +1,6 @@
 // What the next step of a move will write: for callers that bring the image's bytes to where they are kept.
 #![tactic(auto)]
+
 ghost use Rattle.std.specs.Prelude.{◌≡◌, ◌+◌, ◌-◌, ◌*◌, ◌<◌, min};
 ghost use Rattle.job.specs.Write.{peb_start};
 ghost use Rattle.mover_rules.specs.Write.{data_steps};

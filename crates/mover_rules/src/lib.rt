@@ -1,6 +1,7 @@
 // A move of one logical block: what its beginning and its steps answer. The definitions and laws that the mover and the
 // power-cut theorem cite stand in specs/ and proofs/.
 #![tactic(auto)]
+
 use header::{EcHeader, VidHeader};
 
 // All that the steps of a move need beside the image.

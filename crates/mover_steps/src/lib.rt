@@ -1,5 +1,6 @@
 // The steps of a move on the lent image, one by one or all that are left.
 #![tactic(auto)]
+
 mod step_finish;
 mod steps;
 

@@ -1,5 +1,6 @@
 // What one PEB, judged alone, says: its headers, and its first words in the lent tables.
 #![tactic(auto)]
+
 mod first_words;
 mod headers;
 

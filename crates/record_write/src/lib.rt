@@ -1,5 +1,6 @@
 // A volume record written, field by field through the table.
 #![tactic(auto)]
+
 ghost use Rattle.std.specs.Prelude.{◌≡◌, ◌≤◌, length};
 ghost use Rattle.volume_record.specs.Record.{record_accepted, record_written, record_out};
 ghost use Rattle.record_write.specs.Stores.{sizes_stored, kind_stored, name_stored, crc_stored};

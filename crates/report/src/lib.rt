@@ -1,6 +1,7 @@
 // The report on an image: what attaching answers. The definitions and laws that attaching and moving cite stand in
 // specs/ and proofs/.
 #![tactic(auto)]
+
 pub mod class;
 pub mod refusal;
 pub mod state;

@@ -1,5 +1,6 @@
 // One pass over an image's headers: what each PEB, judged alone, says; refusals 5 to 8; the totals of the report.
 #![tactic(auto)]
+
 mod run;
 mod totals;
 

@@ -1,5 +1,6 @@
 // Answers of attaching and moving as the test programs print them.
 #![tactic(auto)]
+
 use report::{Attached, Report};
 
 mod moves;

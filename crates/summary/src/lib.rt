@@ -1,5 +1,6 @@
 // The end of attaching: from the table taken on, the map, refusal 12, states and the report; or a refusal's tables.
 #![tactic(auto)]
+
 mod tables;
 
 ghost use Rattle.std.specs.Prelude.{◌≡◌, ◌++◌, ◌*◌, ◌/◌, ◌≤◌, drop};

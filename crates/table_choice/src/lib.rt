@@ -1,5 +1,6 @@
 // Which of the two copies of the volume table counts.
 #![tactic(auto)]
+
 ghost use Rattle.std.specs.Prelude.{◌≡◌, ◌&&◌, cond};
 ghost use Rattle.base.specs.Answers.{given, refused};
 ghost use Rattle.volume_table.specs.Table.{taken_leb, records_taken, copies_mark_of, taken_number};

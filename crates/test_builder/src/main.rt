@@ -1,5 +1,6 @@
 // Builds the image of each frame, attaches it, and prints what both answer and leave.
 #![tactic(auto)]
+
 use builder_rules::Built;
 use geometry::HEAD_SIZE;
 use report::Attached;

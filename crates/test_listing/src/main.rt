@@ -1,6 +1,7 @@
 // Lists the dump of each frame into a buffer of the frame's length, and prints the text and whether the bytes behind it
 // stayed.
 #![tactic(auto)]
+
 use listing_text::Rendered;
 
 fn main() {

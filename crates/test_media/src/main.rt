@@ -1,5 +1,6 @@
 // Prints for each frame what its media format functions answer: the first byte says which part of the format.
 #![tactic(auto)]
+
 ghost use Rattle.std.specs.Prelude.{◌≤◌, length};
 
 mod headers;

@@ -1,5 +1,6 @@
 // Carries out the operations of each frame on its image, and prints what each answers and leaves.
 #![tactic(auto)]
+
 fn main() {
     for _ in 0..frames::count() {
         turn();

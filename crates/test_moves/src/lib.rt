@@ -1,5 +1,6 @@
 // The operations of a frame of moves, carried out one after the other and printed.
 #![tactic(auto)]
+
 mod steps;
 mod tables;
 

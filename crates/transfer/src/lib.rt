@@ -1,5 +1,6 @@
 // What a row of calls of C's `read` or `write` has come to, from their answers alone.
 #![tactic(auto)]
+
 ghost use Rattle.std.specs.Prelude.{◌≡◌};
 ghost use Rattle.transfer.specs.Transfer.{begun, after_bytes, after_interruption, after_error, after_call};
 

@@ -1,6 +1,7 @@
 // Lists a dump: slip and image from standard input, the listing to standard output. Where one of the two fails, a line
 // on standard error says so.
 #![tactic(auto)]
+
 mod input;
 mod output;
 

@@ -1,5 +1,6 @@
 // The volume identifier header, read and written.
 #![tactic(auto)]
+
 ghost use Rattle.std.specs.Prelude.{◌≡◌, ◌≤◌, length};
 ghost use Rattle.header.specs.Fields.{is_good, written, verdict_answer};
 ghost use Rattle.header.specs.Vid.{vid_fields, IsVidField, vid_field, judge_vid, vid_read, vid_answer, vid_written};

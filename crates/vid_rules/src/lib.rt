@@ -1,5 +1,6 @@
 // The rules of a VID header's fields, beside magic, CRC and version.
 #![tactic(auto)]
+
 ghost use Rattle.std.specs.Prelude.{◌≡◌, ◌||◌, ◌≤◌, eqb};
 ghost use Rattle.base.specs.Answers.{all_of};
 ghost use Rattle.header.specs.Vid.{volume_rule, static_rule, dynamic_rule, layout_rule, vid_rules};

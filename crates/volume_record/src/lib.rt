@@ -1,5 +1,6 @@
 // A volume record of 172 bytes: its fields, and its reader.
 #![tactic(auto)]
+
 mod fields;
 mod record;
 

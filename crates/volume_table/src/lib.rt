@@ -1,5 +1,6 @@
 // The volume table in a layout LEB: its records, and whether it is good.
 #![tactic(auto)]
+
 mod table;
 
 pub use table::{record_count, records_part, table_good};

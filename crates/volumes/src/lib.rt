@@ -1,5 +1,6 @@
 // From the sorted map and the table taken: volume states, and the entries that refusal 12 names.
 #![tactic(auto)]
+
 mod entries;
 mod misfit;
 mod record;

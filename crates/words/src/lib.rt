@@ -1,5 +1,6 @@
 // The words of the lent tables: two for each PEB, three for each entry of the map, one for each volume's state.
 #![tactic(auto)]
+
 ghost use Rattle.std.specs.Prelude.{◌≡◌, [], ◌∷◌, ◌++◌, ◌*◌, ◌+◌, ◌≤◌, length, drop, replicate, set};
 ghost use Rattle.base.specs.Lists.{put};
 ghost use Rattle.words.specs.Words.{no_word, peb_stride, entry_stride, HasPeb, HasEntry, class_word, counter_word, volume_word, lnum_word, peb_word};

@@ -5,7 +5,6 @@ use Rattle.geometry.specs.Geometry.{geometry_read}
 use Rattle.geometry.proofs.Laws.{slip_placed}
 use Rattle.report.specs.Attach.{lent}
 use Rattle.attach.proofs.Stages.{early_ended, promised}
-use borrow.Author.Rules.{rules}
 use Rattle.attach.proofs.attach.Goals as goal
 
 pub attach_image-requires : goal.attach_image-requires

@@ -1,7 +1,6 @@
 -- `attach::attach_chosen` meets its contract. Assumes nothing.
 use Rattle.summary.proofs.Ends.{ended_refused}
 use Rattle.attach.proofs.Stages.{table_past, no_table}
-use borrow.Author.Rules.{rules}
 use Rattle.attach.proofs.attach_chosen.Goals as goal
 
 pub returns-in_default : goal.returns-in_default

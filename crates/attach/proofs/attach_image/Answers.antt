@@ -1,10 +1,8 @@
 -- `attach::attach_image` meets its contract. Assumes nothing.
 use mathlib.Core.Path.{sym, ◌∙◌}
-use borrow.Author.Tests.{not-true, not-false}
 use Rattle.report.specs.Attach.{lent}
 use Rattle.geometry.proofs.Laws.{image_few}
 use Rattle.attach.proofs.Stages.{refused3, refused4, room_of, ended_image}
-use borrow.Author.Rules.{rules}
 use Rattle.attach.proofs.attach_image.Goals as goal
 
 pub returns-then-not-image_fits : goal.returns-then-not-image_fits

@@ -1,5 +1,4 @@
 -- `attach::long_enough` meets its contract. Assumes nothing.
-use borrow.Author.Rules.{rules}
 use Rattle.report.specs.Attach.{lent}
 use Rattle.attach.proofs.Stages.{short_pebs, short_map, by_states}
 use Rattle.attach.proofs.long_enough.Goals as goal

@@ -1,11 +1,9 @@
 -- `base::fill` meets its contract: after i turns the first i bytes are set. Assumes nothing.
 use mathlib.Core.Path.{◌≡◌}
-use Prim.Native.Nat.{◌≤◌, ◌-◌}
+use Prim.Native.Nat.{◌-◌}
 use native.Mathlib.Omega.{arith}
-use borrow.Author.Rules.{rules}
-use mathlib.Core.List.{◌++◌}
 use borrow.Author.Fill.{fill_more}
-use lib.ListN.{length, length-set, drop, replicate}
+use lib.ListN.{length-set}
 use Rattle.base.proofs.fill.Goals as goal
 
 pub loop-i-preserved : goal.loop-i-preserved

@@ -1,11 +1,8 @@
 -- `base::fill` meets its contract: after i turns the first i bytes are set. Assumes nothing.
 use mathlib.Core.Path.{◌≡◌}
 use Prim.Native.Nat.{◌≤◌, ◌-◌}
-use native.Mathlib.Omega.{arith}
-use borrow.Author.Rules.{rules}
 use mathlib.Core.List.{◌++◌}
-use borrow.Author.Fill.{fill_more}
-use lib.ListN.{length, length-set, drop, replicate}
+use lib.ListN.{length, drop, replicate}
 use Rattle.base.proofs.fill.Given as goal
 
 abbrev pub invariant-loop-i : goal.invariant-loop-i

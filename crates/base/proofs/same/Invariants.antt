@@ -1,11 +1,8 @@
 -- `base::same` meets its contract: what is left to compare gives the answer of the whole. Assumes nothing.
-use mathlib.Core.Path.{◌≡◌, sym, ◌∙◌}
+use mathlib.Core.Path.{◌≡◌}
 use Prim.Native.Nat.{◌≤◌, ◌-◌}
-use native.Mathlib.Omega.{arith}
-use borrow.Author.Rules.{rules}
 use lib.ListN.{length, drop}
 use Rattle.base.specs.Lists.{eqs}
-use Rattle.base.proofs.Lists.{eqs_lengths, eqs_go, eqs_stop, eqs_end}
 use Rattle.base.proofs.same.Given as goal
 
 abbrev pub invariant-loop-i : goal.invariant-loop-i

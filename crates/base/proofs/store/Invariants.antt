@@ -1,12 +1,8 @@
 -- `base::store` meets its contract: after i turns the first i bytes are stored. Assumes nothing.
-use mathlib.Core.Path.{◌≡◌, refl, ◌∙◌}
+use mathlib.Core.Path.{◌≡◌}
 use Prim.Native.Nat.{◌≤◌, ◌-◌}
-use native.Mathlib.Omega.{arith}
-use borrow.Author.Rules.{rules}
-use native.Mathlib.Numerals.{add-one}
-use lib.ListN.{length, length-set}
-use lib.Seq.{paste, paste-zero, paste-suc}
-use Rattle.base.proofs.Lists.{paste_all}
+use lib.ListN.{length}
+use lib.Seq.{paste}
 use Rattle.base.proofs.store.Given as goal
 
 abbrev pub invariant-loop-i : goal.invariant-loop-i

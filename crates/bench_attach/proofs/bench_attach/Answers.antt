@@ -1,6 +1,5 @@
 -- `bench_attach::bench_attach` meets its contract. Assumes nothing.
 use mathlib.Core.Path.{ap, ◌∙◌}
-use borrow.Author.Rules.{rules}
 use Rattle.bench_attach.specs.Code.{code_of}
 use Rattle.bench_attach.proofs.bench_attach.Goals as goal
 

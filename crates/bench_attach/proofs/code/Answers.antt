@@ -1,6 +1,5 @@
 -- `bench_attach::code` meets its contract. Assumes nothing.
 use mathlib.Core.Path.{sym, ap}
-use borrow.Author.Rules.{rules}
 use Rattle.report.specs.declared.Attached.{Attached}
 use Rattle.report.specs.Attach.{attached_answer}
 use Rattle.bench_attach.specs.Code.{code_of}

@@ -1,7 +1,6 @@
 -- `builder::build` keeps its promise. Assumes nothing.
 use mathlib.Core.Path.{refl, sym, ap, ◌∙◌}
 use Prim.Native.Nat.{ℕ}
-use borrow.Author.Rules.{rules}
 use lib.ListN.{length-replicate}
 use Rattle.base.specs.Answers.{given, refused}
 use Rattle.geometry.specs.Geometry.{geometry_read}
@@ -9,15 +8,14 @@ use Rattle.builder.proofs.Laws.{by_refusal_lem, geometry_placed, promised}
 use Rattle.builder.proofs.build.Goals as goal
 
 pub build_chip-requires : goal.build_chip-requires
-build_chip-requires c =
-    (
-      (
-        geometry_placed c.args.slip.now c.in-Good.g (sym c.read_slip-r.ensures
-            ∙ ap geometry_read c.in-Good.is),
-        c.volume_fields-fields.ensures.count,
-      ),
-      length-replicate {A = ℕ} 22016 0,
-    )
+build_chip-requires c = (
+  (
+    geometry_placed c.args.slip.now c.in-Good.g (sym c.read_slip-r.ensures
+        ∙ ap geometry_read c.in-Good.is),
+    c.volume_fields-fields.ensures.count,
+  ),
+  length-replicate {A = ℕ} 22016 0,
+)
 
 pub returns-in-Good : goal.returns-in-Good
 returns-in-Good c =

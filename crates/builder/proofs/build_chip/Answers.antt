@@ -1,8 +1,7 @@
 -- `builder::build_chip` meets its contract. Assumes nothing.
 use native.Mathlib.Omega.{arith}
-use borrow.Author.Rules.{rules}
 use lib.ListN.{length-take}
-use Rattle.base.proofs.Answers.{value_is, was_false, was_true}
+use Rattle.base.proofs.Answers.{value_is}
 use Rattle.volume_table.proofs.Tables.{count_small}
 use Rattle.builder.proofs.Laws.{by_refusal_lem, refused_3}
 use Rattle.builder.proofs.build_chip.Goals as goal
@@ -22,11 +21,10 @@ slice_bounds-build_with-end c =
     omega (arith, count_small c.args.g.leb_size)
 
 pub build_with-requires : goal.build_with-requires
-build_with-requires c =
-    (
-      c.requires.0,
-      (
-        value_is c.image_fits.ensures c.if-not-image_fits.false,
-        rw length-take (omega (arith, count_small c.args.g.leb_size)),
-      ),
-    )
+build_with-requires c = (
+  c.requires.0,
+  (
+    value_is c.image_fits.ensures c.if-not-image_fits.false,
+    rw length-take (omega (arith, count_small c.args.g.leb_size)),
+  ),
+)

@@ -2,11 +2,10 @@
 use mathlib.Core.Path.{◌≡◌, refl, ap}
 use mathlib.Core.Bool.{true}
 use native.Mathlib.Omega.{arith}
-use borrow.Author.Rules.{rules}
 use lib.ListN.{length}
 use Rattle.base.specs.Answers.{all_of}
 use Rattle.base.specs.Lists.{Bytes}
-use Rattle.base.proofs.Answers.{value_is, was_false, was_true}
+use Rattle.base.proofs.Answers.{value_is}
 use Rattle.geometry.specs.Image.{peb_count_of}
 use Rattle.volume_table.proofs.Tables.{count_small}
 use Rattle.geometry.proofs.Laws.{image_whole, image_few}
@@ -38,7 +37,7 @@ pub content_fits-requires : goal.content_fits-requires
 content_fits-requires c =
     let table_is : c.volumes_good.new.table ≡ slip_table c.args.g.leb_size c.args.slip.now = c.volumes_good.ensures.table (value_is refl c.if-not-volumes_good.false) in
     let good : all_of (volume_rules c.args.g (peb_count_of c.args.g c.args.image.now) c.args.slip.now) ≡ true = value_is c.volumes_good.ensures.good c.if-not-volumes_good.false in
-        let a = c.args in let q = good in let m = peb_count_of a.g a.image.now in
+    let a = c.args in let q = good in let m = peb_count_of a.g a.image.now in
     let few = fields_few a.g m a.slip.now c.requires.0.0 (slip-bytes c) q in
     let long = table_long a.g m a.slip.now c.requires.0.0 (slip-bytes c) q in (
       omega (arith, few, count_small a.g.leb_size),
@@ -54,7 +53,7 @@ pub returns-then-not-content_fits : goal.returns-then-not-content_fits
 returns-then-not-content_fits c =
     let table_is : c.volumes_good.new.table ≡ slip_table c.args.g.leb_size c.args.slip.now = c.volumes_good.ensures.table (value_is refl c.if-not-volumes_good.false) in
     let good : all_of (volume_rules c.args.g (peb_count_of c.args.g c.args.image.now) c.args.slip.now) ≡ true = value_is c.volumes_good.ensures.good c.if-not-volumes_good.false in
-        let a = c.args in
+    let a = c.args in
     let q = by_refusal_lem a.image.now (refused_21 a.slip.now a.image_seq a.lengths.now a.content.now a.image.now a.g c.requires.1.0
     good
     (value_is (content_decides a.slip.now a.image_seq a.lengths.now a.content.now a.image.now a.g c.requires.1.0
@@ -69,7 +68,7 @@ fill_image-requires c =
     all_of (content_rules (plan_of a.slip.now a.image_seq a.lengths.now a.content.now a.image.now a.g)) ≡ true = let a = c.args in
     value_is (content_decides a.slip.now a.image_seq a.lengths.now a.content.now a.image.now a.g c.requires.1.0 good
     c.requires.0.1 table_is c.content_fits.ensures) c.if-not-content_fits.false in
-        let a = c.args in (
+    let a = c.args in (
       ready a.slip.now a.image_seq a.lengths.now a.content.now a.image.now a.g c.requires.1.0 good c.requires.0.1
           table_is c.requires.0.0 (slip-bytes c) (omega arith)
           (content_bytes c) fits,
@@ -84,7 +83,7 @@ returns c =
     all_of (content_rules (plan_of a.slip.now a.image_seq a.lengths.now a.content.now a.image.now a.g)) ≡ true = let a = c.args in
     value_is (content_decides a.slip.now a.image_seq a.lengths.now a.content.now a.image.now a.g c.requires.1.0 good
     c.requires.0.1 table_is c.content_fits.ensures) c.if-not-content_fits.false in
-        let a = c.args in
+    let a = c.args in
     let many = lengths_many a.slip.now a.image_seq a.lengths.now a.content.now a.image.now a.g c.requires.1.0 good
     fits in
     let q = by_plan a.image.now (planned a.slip.now a.image_seq a.lengths.now a.content.now a.image.now a.g c.requires.1.0

@@ -3,7 +3,6 @@ use mathlib.Core.Path.{◌≡◌}
 use Prim.Native.Nat.{◌-◌, ◌≤◌}
 use native.Mathlib.Nat.{mul-le-mul}
 use native.Mathlib.Omega.{arith}
-use borrow.Author.Rules.{rules}
 use Rattle.volume_record.specs.Record.{record_of}
 use Rattle.volume_table.specs.Table.{record_at}
 use Rattle.builder_content.proofs.Laws.{pad_read, reserved_read}
@@ -22,6 +21,6 @@ overflow_mul-result c =
 pub returns : goal.returns
 returns c =
     let pad : c.get_field.result ≡ (record_of (record_at c.args.table.now c.args.v)).data_pad = pad_read c.args.table.now c.args.v c.get_field.ensures.0 in
-        let a = c.args in
+    let a = c.args in
     let e = reserved_read a.table.now a.v c.get_field-2.ensures.0 in
     rw (e, pad, c.wide.ensures.0)

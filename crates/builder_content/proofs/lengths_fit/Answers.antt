@@ -1,12 +1,9 @@
 -- `builder_content::lengths_fit` meets its contract: the lengths before the v-th fit. Assumes nothing.
 use mathlib.Core.Path.{◌≡◌, refl, sym}
-use mathlib.Core.Bool.{true}
-use Prim.Native.Nat.{◌-◌, ◌≤◌}
+use Prim.Native.Nat.{◌-◌}
 use native.Mathlib.Omega.{arith}
-use borrow.Author.Rules.{rules}
 use lib.ListN.{length}
-use Rattle.base.specs.Below.{all_below}
-use Rattle.builder_content.proofs.Laws.{fits, too_long, fits_more}
+use Rattle.builder_content.proofs.Laws.{too_long, fits_more}
 use Rattle.builder_content.proofs.lengths_fit.Goals as goal
 
 pub loop-v-init : goal.loop-v-init

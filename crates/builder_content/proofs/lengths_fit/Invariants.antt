@@ -1,12 +1,10 @@
 -- `builder_content::lengths_fit` meets its contract: the lengths before the v-th fit. Assumes nothing.
-use mathlib.Core.Path.{◌≡◌, refl, sym}
+use mathlib.Core.Path.{◌≡◌}
 use mathlib.Core.Bool.{true}
 use Prim.Native.Nat.{◌-◌, ◌≤◌}
-use native.Mathlib.Omega.{arith}
-use borrow.Author.Rules.{rules}
 use lib.ListN.{length}
 use Rattle.base.specs.Below.{all_below}
-use Rattle.builder_content.proofs.Laws.{fits, too_long, fits_more}
+use Rattle.builder_content.proofs.Laws.{fits}
 use Rattle.builder_content.proofs.lengths_fit.Given as goal
 
 abbrev pub invariant-loop-v : goal.invariant-loop-v

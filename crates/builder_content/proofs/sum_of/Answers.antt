@@ -1,11 +1,9 @@
 -- `builder_content::sum_of` meets its contract: the sum of the lengths before the v-th. Assumes nothing.
 use mathlib.Core.Path.{◌≡◌, refl}
-use Prim.Native.Nat.{ℕ, ◌-◌, ◌*◌, ◌^◌, ◌≤◌}
+use Prim.Native.Nat.{◌-◌}
 use native.Mathlib.Numerals.{add-one}
 use native.Mathlib.Omega.{arith}
-use borrow.Author.Rules.{rules}
-use lib.ListN.{length, get_or}
-use Rattle.base.specs.Below.{sum_below}
+use lib.ListN.{length}
 use Rattle.builder_content.proofs.sum_of.Goals as goal
 
 pub loop-v-init : goal.loop-v-init

@@ -1,9 +1,6 @@
 -- `builder_content::sum_of` meets its contract: the sum of the lengths before the v-th. Assumes nothing.
-use mathlib.Core.Path.{◌≡◌, refl}
+use mathlib.Core.Path.{◌≡◌}
 use Prim.Native.Nat.{ℕ, ◌-◌, ◌*◌, ◌^◌, ◌≤◌}
-use native.Mathlib.Numerals.{add-one}
-use native.Mathlib.Omega.{arith}
-use borrow.Author.Rules.{rules}
 use lib.ListN.{length, get_or}
 use Rattle.base.specs.Below.{sum_below}
 use Rattle.builder_content.proofs.sum_of.Given as goal

@@ -1,7 +1,6 @@
 -- `builder_slip::field_end` meets its contract. Assumes nothing.
 use native.Mathlib.Omega.{arith}
-use borrow.Author.Rules.{rules}
-use Rattle.base.proofs.Answers.{value_is, was_false, was_true}
+use Rattle.base.proofs.Answers.{value_is}
 use Rattle.base.proofs.Lists.{lent_part}
 use Rattle.builder_rules.specs.Slip.{length_at}
 use Rattle.builder_slip.proofs.Laws.{not_held, other_tag, is_field}

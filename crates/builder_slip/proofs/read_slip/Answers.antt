@@ -1,7 +1,6 @@
 -- `builder_slip::read_slip` meets its contract. Assumes nothing.
 use mathlib.Core.Path.{◌∙◌}
-use borrow.Author.Rules.{rules}
-use Rattle.base.proofs.Answers.{value_is, was_false, was_true}
+use Rattle.base.proofs.Answers.{value_is}
 use Rattle.builder_slip.proofs.Laws.{no_tail, head_decides}
 use Rattle.builder_slip.proofs.read_slip.Goals as goal
 

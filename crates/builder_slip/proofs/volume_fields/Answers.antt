@@ -2,14 +2,10 @@
 -- nothing.
 use mathlib.Core.Path.{◌≡◌, refl, sym, ◌∙◌}
 use mathlib.Core.Bool.{false}
-use mathlib.Core.Option.{none}
-use Prim.Native.Nat.{◌+◌, ◌-◌, ◌≤◌}
+use Prim.Native.Nat.{◌-◌}
 use native.Mathlib.Omega.{arith}
-use borrow.Author.Rules.{rules}
-use lib.ListN.{length}
-use Rattle.base.specs.Below.{first_below}
-use Rattle.builder_rules.specs.Slip.{volume_field_at, field_start}
-use Rattle.builder_slip.proofs.Laws.{other, none_more, count_is, next_start, first_start, short_none, no_end}
+use Rattle.builder_rules.specs.Slip.{volume_field_at}
+use Rattle.builder_slip.proofs.Laws.{none_more, count_is, next_start, first_start, short_none, no_end}
 use Rattle.builder_slip.proofs.Laws.{Ended, ended}
 use Rattle.builder_slip.proofs.volume_fields.Goals as goal
 
@@ -38,7 +34,7 @@ loop-at-smaller c =
 pub loop-at-preserved : goal.loop-at-preserved
 loop-at-preserved c =
     let field : Ended c.args.slip.now c.loop-at.at c.field_end-end.result = ended c.args.slip.now c.loop-at.at c.field_end-end.result c.field_end-end.ensures c.if-end-eq0.false in
-        let l = c.loop-at in let s = c.args.slip.now in
+    let l = c.loop-at in let s = c.args.slip.now in
     let e = field in
     let at-start = l.invariant.0 in (
       e.end_is ∙ rw at-start (next_start s l.count),

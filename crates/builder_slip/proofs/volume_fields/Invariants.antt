@@ -1,16 +1,12 @@
 -- `builder_slip::volume_fields` meets its contract: all fields before the one at `at` are volume fields. Assumes
 -- nothing.
-use mathlib.Core.Path.{◌≡◌, refl, sym, ◌∙◌}
-use mathlib.Core.Bool.{false}
+use mathlib.Core.Path.{◌≡◌}
 use mathlib.Core.Option.{none}
 use Prim.Native.Nat.{◌+◌, ◌-◌, ◌≤◌}
-use native.Mathlib.Omega.{arith}
-use borrow.Author.Rules.{rules}
 use lib.ListN.{length}
 use Rattle.base.specs.Below.{first_below}
-use Rattle.builder_rules.specs.Slip.{volume_field_at, field_start}
-use Rattle.builder_slip.proofs.Laws.{other, none_more, count_is, next_start, first_start, short_none, no_end}
-use Rattle.builder_slip.proofs.Laws.{Ended, ended}
+use Rattle.builder_rules.specs.Slip.{field_start}
+use Rattle.builder_slip.proofs.Laws.{other}
 use Rattle.builder_slip.proofs.volume_fields.Given as goal
 
 abbrev pub invariant-loop-at : goal.invariant-loop-at

@@ -3,7 +3,6 @@ use mathlib.Core.Path.{ap, ◌∙◌}
 use mathlib.Core.List.{List}
 use Prim.Native.Nat.{ℕ}
 use native.Mathlib.Omega.{arith}
-use borrow.Author.Rules.{rules}
 use Rattle.header.specs.Vid.{vid_fields, vid_field}
 use Rattle.copies.specs.InPlace.{header_at}
 use Rattle.copies.proofs.Copies.{lent_peb_lem}

@@ -1,5 +1,4 @@
 -- `copies::is_sound` meets its contract. Assumes nothing.
-use borrow.Author.Rules.{rules}
 use borrow.Author.Tests.{ne_eqb}
 use Rattle.report.specs.View.{copy_of}
 use Rattle.copies.proofs.is_sound.Goals as goal

@@ -1,7 +1,6 @@
 -- `copies::matches` meets its contract. Assumes nothing.
 use mathlib.Core.Path.{refl}
 use native.Mathlib.Omega.{arith}
-use borrow.Author.Rules.{rules}
 use Rattle.copies.proofs.Copies.{size_within, matches_run}
 use Rattle.copies.proofs.matches.Goals as goal
 

@@ -4,7 +4,6 @@ use Rattle.crc32.specs.Table.{crc_rows}
 use Rattle.crc32.specs.Crc.{tap, crc_bit, crc_bits}
 use Rattle.base.specs.Lists.{eqs}
 use native.Mathlib.Omega.{arith}
-use borrow.Author.Rules.{rules}
 use Rattle.crc32.proofs.update.Goals as goal
 
 pub by_words-requires : goal.by_words-requires

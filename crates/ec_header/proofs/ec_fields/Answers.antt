@@ -1,6 +1,5 @@
 -- `ec_header::ec_fields` meets its contract. Assumes nothing.
 use native.Mathlib.Omega.{arith}
-use borrow.Author.Rules.{rules}
 use Rattle.header.specs.Ec.{ec_fields}
 use Rattle.ec_header.proofs.ec_fields.Goals as goal
 

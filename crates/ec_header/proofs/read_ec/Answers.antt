@@ -1,8 +1,7 @@
 -- `ec_header::read_ec` meets its contract. Assumes nothing.
 use mathlib.Core.Path.{◌∙◌}
-use borrow.Author.Rules.{rules}
 use borrow.Author.Tests.{lt-ltb, le-ltb}
-use Rattle.base.proofs.Answers.{value_is, was_false, was_true}
+use Rattle.base.proofs.Answers.{value_is}
 use Rattle.header.specs.Ec.{read_ec, ec_read}
 use Rattle.ec_header.proofs.read_ec.Goals as goal
 

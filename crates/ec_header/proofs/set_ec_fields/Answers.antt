@@ -1,5 +1,4 @@
 -- `ec_header::set_ec_fields` meets its contract. Assumes nothing.
-use borrow.Author.Rules.{rules}
 use Rattle.header.specs.Stores.{ec_stored}
 use Rattle.ec_header.proofs.set_ec_fields.Goals as goal
 

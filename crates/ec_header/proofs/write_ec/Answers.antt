@@ -1,10 +1,9 @@
 -- `ec_header::write_ec` meets its contract. Assumes nothing.
 use Prim.Native.Nat.{◌≤◌}
 use native.Mathlib.Omega.{arith}
-use borrow.Author.Rules.{rules}
 use lib.ListN.{length}
 use borrow.Author.Tests.{lt-ltb, le-ltb}
-use Rattle.base.proofs.Answers.{value_is, was_false, was_true}
+use Rattle.base.proofs.Answers.{value_is}
 use Rattle.header.specs.Ec.{ec_written, ec_out}
 use Rattle.header.proofs.Writes.{ec_wrote}
 use Rattle.ec_header.proofs.write_ec.Goals as goal

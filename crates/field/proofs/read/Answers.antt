@@ -1,10 +1,9 @@
 -- `field::read` meets its contract: after i turns v is the number of the first i bytes. Assumes nothing.
 use mathlib.Core.Path.{◌≡◌, refl}
-use Prim.Native.Nat.{◌≤◌, ◌<◌, ◌-◌, ◌^◌, ◌+◌}
+use Prim.Native.Nat.{◌<◌, ◌-◌, ◌+◌}
 use native.Mathlib.Omega.{arith}
 use lib.ListN.{get_or}
-use Rattle.base.specs.Lists.{part}
-use Rattle.field.specs.Be.{be_from, be_of}
+use Rattle.field.specs.Be.{be_from}
 use Rattle.field.proofs.Laws.{be_of_next, grows, below_eight}
 use Rattle.field.proofs.read.Goals as goal
 
@@ -33,7 +32,7 @@ overflow_cast-v c =
 pub overflow_add-v-in-loop-i : goal.overflow_add-v-in-loop-i
 overflow_add-v-in-loop-i c =
     let byte : get_or c.args.s.now (c.args.at + c.loop-i.i) 0 < 256 = omega (arith, c.type_inv.s (c.args.at + c.loop-i.i)) in
-        omega (arith, byte, below_eight c.loop-i.v c.loop-i.i (omega arith) (omega arith))
+    omega (arith, byte, below_eight c.loop-i.v c.loop-i.i (omega arith) (omega arith))
 
 pub overflow_add-i : goal.overflow_add-i
 overflow_add-i c =
@@ -46,7 +45,7 @@ loop-i-smaller c =
 pub loop-i-preserved : goal.loop-i-preserved
 loop-i-preserved c =
     let byte : get_or c.args.s.now (c.args.at + c.loop-i.i) 0 < 256 = omega (arith, c.type_inv.s (c.args.at + c.loop-i.i)) in
-        let i = c.loop-i.i in
+    let i = c.loop-i.i in
     let a = c.args in (
       omega arith,
       (

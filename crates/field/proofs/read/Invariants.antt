@@ -1,11 +1,8 @@
 -- `field::read` meets its contract: after i turns v is the number of the first i bytes. Assumes nothing.
-use mathlib.Core.Path.{◌≡◌, refl}
-use Prim.Native.Nat.{◌≤◌, ◌<◌, ◌-◌, ◌^◌, ◌+◌}
-use native.Mathlib.Omega.{arith}
-use lib.ListN.{get_or}
+use mathlib.Core.Path.{◌≡◌}
+use Prim.Native.Nat.{◌≤◌, ◌<◌, ◌-◌, ◌^◌}
 use Rattle.base.specs.Lists.{part}
-use Rattle.field.specs.Be.{be_from, be_of}
-use Rattle.field.proofs.Laws.{be_of_next, grows, below_eight}
+use Rattle.field.specs.Be.{be_of}
 use Rattle.field.proofs.read.Given as goal
 
 abbrev pub invariant-loop-i : goal.invariant-loop-i

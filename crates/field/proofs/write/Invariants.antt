@@ -1,10 +1,9 @@
 -- `field::write` meets its contract: what is left to store, at the slice as it is, is what was to be stored at first.
 -- Assumes nothing.
-use mathlib.Core.Path.{◌≡◌, refl, ◌∙◌, sym}
+use mathlib.Core.Path.{◌≡◌}
 use Prim.Native.Nat.{◌≤◌}
-use native.Mathlib.Omega.{arith}
-use lib.ListN.{length, length-set}
-use Rattle.field.proofs.Laws.{left_to, store_step, store_all, store_none}
+use lib.ListN.{length}
+use Rattle.field.proofs.Laws.{left_to}
 use Rattle.field.proofs.write.Given as goal
 
 abbrev pub invariant-loop-i : goal.invariant-loop-i

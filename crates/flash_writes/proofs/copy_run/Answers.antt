@@ -1,10 +1,9 @@
 -- `flash_writes::copy_run` meets its contract. Assumes nothing.
 use mathlib.Core.Path.{◌≡◌, refl, ◌∙◌}
-use Prim.Native.Nat.{◌≤◌, ◌-◌}
+use Prim.Native.Nat.{◌-◌}
 use native.Mathlib.Omega.{arith}
-use borrow.Author.Rules.{rules}
 use lib.ListN.{length, length-set}
-use lib.Seq.{paste, paste-zero}
+use lib.Seq.{paste-zero}
 use Rattle.base.specs.Lists.{part}
 use Rattle.base.proofs.Lists.{paste_all, length_part}
 use Rattle.flash_writes.proofs.Writes.{copy_more}

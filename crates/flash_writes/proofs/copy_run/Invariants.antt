@@ -1,13 +1,9 @@
 -- `flash_writes::copy_run` meets its contract. Assumes nothing.
-use mathlib.Core.Path.{◌≡◌, refl, ◌∙◌}
+use mathlib.Core.Path.{◌≡◌}
 use Prim.Native.Nat.{◌≤◌, ◌-◌}
-use native.Mathlib.Omega.{arith}
-use borrow.Author.Rules.{rules}
-use lib.ListN.{length, length-set}
-use lib.Seq.{paste, paste-zero}
+use lib.ListN.{length}
+use lib.Seq.{paste}
 use Rattle.base.specs.Lists.{part}
-use Rattle.base.proofs.Lists.{paste_all, length_part}
-use Rattle.flash_writes.proofs.Writes.{copy_more}
 use Rattle.flash_writes.proofs.copy_run.Given as goal
 
 abbrev pub invariant-loop-i : goal.invariant-loop-i

@@ -1,6 +1,5 @@
 -- `flash_writes::erase` meets its contract. Assumes nothing.
 use native.Mathlib.Omega.{arith}
-use borrow.Author.Rules.{rules}
 use lib.ListN.{replicate, length-replicate}
 use Rattle.base.proofs.Stores.{stored_part}
 use Rattle.flash_writes.proofs.erase.Goals as goal

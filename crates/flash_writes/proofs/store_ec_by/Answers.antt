@@ -1,5 +1,4 @@
 -- `flash_writes::store_ec_by` meets its contract. Assumes nothing.
-use borrow.Author.Rules.{rules}
 use Rattle.flash_writes.proofs.Writes.{ec_stored_lem}
 use Rattle.flash_writes.proofs.store_ec_by.Goals as goal
 

@@ -1,5 +1,4 @@
 -- `flash_writes::store_vid_by` meets its contract. Assumes nothing.
-use borrow.Author.Rules.{rules}
 use Rattle.flash_writes.proofs.Writes.{vid_stored}
 use Rattle.flash_writes.proofs.store_vid_by.Goals as goal
 

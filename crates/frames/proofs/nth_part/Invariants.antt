@@ -1,5 +1,5 @@
 -- `frames::nth_part` is safe and ends. Assumes nothing.
-use Rattle.std.proofs.Common.{◌-◌, ◌≤◌, length, rules}
+use Rattle.std.proofs.Common.{◌-◌, ◌≤◌, length}
 use Rattle.frames.proofs.nth_part.Given as goal
 
 abbrev pub invariant-loop : goal.invariant-loop

@@ -1,5 +1,5 @@
 -- `frames::patches` meets its contract. Assumes nothing.
-use Rattle.std.proofs.Common.{◌≡◌, ◌-◌, ◌≤◌, length, rules}
+use Rattle.std.proofs.Common.{◌≡◌, ◌-◌, ◌≤◌, length}
 use Rattle.frames.proofs.patches.Given as goal
 
 abbrev pub invariant-loop : goal.invariant-loop

@@ -1,5 +1,5 @@
 -- `frames::words` is safe and ends. Assumes nothing.
-use Rattle.std.proofs.Common.{◌≡◌, ◌-◌, length, rules}
+use Rattle.std.proofs.Common.{◌-◌}
 use Rattle.frames.proofs.words.Given as goal
 
 abbrev pub invariant-loop-i : goal.invariant-loop-i

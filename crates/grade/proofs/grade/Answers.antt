@@ -1,5 +1,5 @@
 -- `grade::grade` meets its contract. Assumes nothing.
-use Rattle.std.proofs.Common.{◌≡◌, refl, sym, ◌∙◌, true, false}
+use Rattle.std.proofs.Common.{refl, sym, ◌∙◌, true, false}
 use borrow.Author.Tests.{eq-eqb, ne_eqb}
 use Rattle.grade.proofs.Graded.{graded}
 use Rattle.grade.proofs.grade.Goals as goal

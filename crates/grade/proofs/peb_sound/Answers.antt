@@ -1,5 +1,4 @@
 -- `grade::peb_sound` meets its contract. Assumes nothing.
-use borrow.Author.Rules.{rules}
 use borrow.Author.Tests.{eq-eqb, ne_eqb}
 use Rattle.grade.proofs.peb_sound.Goals as goal
 

@@ -1,11 +1,8 @@
 -- `grade::pebs_sound` meets its contract: the PEBs before i are sound. Assumes nothing.
 use mathlib.Core.Path.{◌≡◌, refl, sym, ◌∙◌}
 use mathlib.Core.Bool.{true}
-use Prim.Native.Nat.{◌≤◌, ◌-◌}
+use Prim.Native.Nat.{◌-◌}
 use native.Mathlib.Omega.{arith}
-use borrow.Author.Rules.{rules}
-use borrow.Author.Tests.{not-true, not-false}
-use Rattle.base.specs.Below.{all_below}
 use Rattle.base.proofs.Below.{all_fails, all_more}
 use Rattle.grade.specs.Words.{sound_peb}
 use Rattle.grade.proofs.pebs_sound.Goals as goal

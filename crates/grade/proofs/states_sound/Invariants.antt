@@ -1,12 +1,8 @@
 -- `grade::states_sound` meets its contract: the states before v are neither 2 nor 3. Assumes nothing.
-use mathlib.Core.Path.{◌≡◌, refl, sym}
+use mathlib.Core.Path.{◌≡◌}
 use mathlib.Core.Bool.{true}
 use Prim.Native.Nat.{◌≤◌, ◌-◌}
-use native.Mathlib.Omega.{arith}
-use borrow.Author.Rules.{rules}
-use borrow.Author.Tests.{eq-eqb, ne_eqb}
 use Rattle.base.specs.Below.{all_below}
-use Rattle.base.proofs.Below.{all_fails, all_more}
 use Rattle.words.specs.Words.{state_words_needed}
 use Rattle.grade.specs.Words.{sound_state}
 use Rattle.grade.proofs.states_sound.Given as goal

@@ -1,8 +1,7 @@
 -- `layout::find_chosen` meets its contract: no PEB before i is chosen for the LEB. Assumes nothing.
 use mathlib.Core.Path.{◌≡◌, sym, ◌∙◌}
-use Prim.Native.Nat.{◌≤◌, ◌<◌, ◌-◌}
+use Prim.Native.Nat.{◌-◌}
 use native.Mathlib.Omega.{arith}
-use borrow.Author.Rules.{rules}
 use Prim.Native.Nat.{ℕ}
 use mathlib.Core.Bool.{false}
 use Rattle.base.proofs.Below.{one_more}
@@ -16,10 +15,10 @@ loop-i-init c =
 pub returns-then-is_chosen : goal.returns-then-is_chosen
 returns-then-is_chosen c =
     record {
-  range = omega arith;
-  none_before = c.loop-i.invariant.1;
-  is = λ h. sym c.is_chosen.ensures ∙ c.if-is_chosen.true;
-}
+      range = omega arith;
+      none_before = c.loop-i.invariant.1;
+      is = λ h. sym c.is_chosen.ensures ∙ c.if-is_chosen.true;
+    }
 
 pub loop-i-preserved : goal.loop-i-preserved
 loop-i-preserved c =

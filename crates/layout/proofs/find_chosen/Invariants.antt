@@ -1,11 +1,8 @@
 -- `layout::find_chosen` meets its contract: no PEB before i is chosen for the LEB. Assumes nothing.
-use mathlib.Core.Path.{◌≡◌, sym, ◌∙◌}
+use mathlib.Core.Path.{◌≡◌}
 use Prim.Native.Nat.{◌≤◌, ◌<◌, ◌-◌}
-use native.Mathlib.Omega.{arith}
-use borrow.Author.Rules.{rules}
 use Prim.Native.Nat.{ℕ}
 use mathlib.Core.Bool.{false}
-use Rattle.base.proofs.Below.{one_more}
 use Rattle.layout.specs.Layout.{is_chosen}
 use Rattle.layout.proofs.find_chosen.Given as goal
 

@@ -1,5 +1,4 @@
 -- `layout::is_chosen` meets its contract. Assumes nothing.
-use borrow.Author.Rules.{rules}
 use borrow.Author.Tests.{eq-eqb, ne_eqb}
 use Rattle.layout.proofs.is_chosen.Goals as goal
 

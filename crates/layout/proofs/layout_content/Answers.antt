@@ -1,7 +1,6 @@
 -- `layout::layout_content` meets its contract. Assumes nothing.
 use Prim.Native.Nat.{◌+◌, ◌*◌, ◌≤◌}
 use native.Mathlib.Omega.{arith}
-use borrow.Author.Rules.{rules}
 use lib.ListN.{length}
 use Rattle.layout.proofs.Contents.{no_content, found_bytes, content_slice}
 use Rattle.layout.proofs.layout_content.Goals as goal
@@ -20,7 +19,7 @@ pub overflow_add-result : goal.overflow_add-result
 overflow_add-result c =
     let bytes : let g = c.args.g in
     c.find_chosen-i.result * g.peb_size + g.peb_size ≤ length c.args.image.now = found_bytes c.requires c.find_chosen-i.ensures c.if-i-n.false in
-        omega (arith, bytes, c.requires.keyed.placed.leb_fills)
+    omega (arith, bytes, c.requires.keyed.placed.leb_fills)
 
 pub overflow_add-result-2 : goal.overflow_add-result-2
 overflow_add-result-2 c =

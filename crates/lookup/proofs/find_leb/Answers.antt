@@ -1,9 +1,8 @@
 -- `lookup::find_leb` meets its contract: no entry before k is the LEB's. Assumes nothing.
 use mathlib.Core.Path.{◌≡◌, sym, ◌∙◌}
 use mathlib.Core.Bool.{false}
-use Prim.Native.Nat.{ℕ, ◌≤◌, ◌<◌, ◌-◌}
+use Prim.Native.Nat.{ℕ, ◌-◌}
 use native.Mathlib.Omega.{arith}
-use borrow.Author.Rules.{rules}
 use Rattle.base.proofs.Below.{one_more}
 use Rattle.lookup.specs.Lookup.{is_entry}
 use Rattle.lookup.proofs.Laws.{map_short, no_entry, first_entry}

@@ -1,5 +1,4 @@
 -- `lookup::is_entry` meets its contract. Assumes nothing.
-use borrow.Author.Rules.{rules}
 use borrow.Author.Tests.{eq-eqb, ne_eqb}
 use Rattle.lookup.proofs.is_entry.Goals as goal
 

@@ -1,6 +1,5 @@
 -- `lookup::peb_report` meets its contract. Assumes nothing.
 use native.Mathlib.Omega.{arith}
-use borrow.Author.Rules.{rules}
 use Rattle.lookup.proofs.Laws.{peb_above, peb_short, peb_there}
 use Rattle.lookup.proofs.peb_report.Goals as goal
 

@@ -2,7 +2,6 @@
 use mathlib.Core.Path.{refl}
 use Prim.Native.Nat.{◌≤◌, ◌-◌, ◌+◌, ◌*◌, ◌/◌}
 use native.Mathlib.Omega.{arith}
-use borrow.Author.Rules.{rules}
 use Rattle.mover_copy.proofs.Data.{rounded, rounded_within}
 use Rattle.mover_copy.proofs.content_size.Goals as goal
 
@@ -25,5 +24,5 @@ returns c =
     let within : (c.data_end-end.result + (c.args.g.unit - 1)) /
     c.args.g.unit * c.args.g.unit ≤
     c.args.g.leb_size = rounded_within c.args.g c.args.p.now c.args.pad refl c.requires.0 c.data_end-end.ensures.1 in
-        let a = c.args in
+    let a = c.args in
     (rounded a.g a.p.now a.pad refl c.data_end-end.ensures.0, within)

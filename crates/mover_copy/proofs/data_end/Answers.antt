@@ -1,9 +1,7 @@
 -- `mover_copy::data_end` meets its contract. Assumes nothing.
 use mathlib.Core.Path.{◌≡◌, ap, ◌∙◌}
-use Prim.Native.Nat.{◌≤◌}
 use native.Mathlib.Omega.{arith}
-use borrow.Author.Rules.{rules}
-use lib.ListN.{length, take}
+use lib.ListN.{length}
 use lib.Seq.{take_all}
 use Rattle.mover_rules.specs.Headers.{data_end}
 use Rattle.mover_copy.proofs.Data.{end_go, end_stop}
@@ -14,12 +12,11 @@ loop-i-init c =
     let s = c.args.s.now in (omega arith, ap data_end (take_all (length s) s (omega arith)))
 
 pub returns-then-s-i : goal.returns-then-s-i
-returns-then-s-i c =
-    (
-      end_stop c.args.s.now c.loop-i.i (omega arith) (omega arith) c.if-s-i.true
-          ∙ c.loop-i.invariant.1,
-      omega arith,
-    )
+returns-then-s-i c = (
+  end_stop c.args.s.now c.loop-i.i (omega arith) (omega arith) c.if-s-i.true
+      ∙ c.loop-i.invariant.1,
+  omega arith,
+)
 
 pub loop-i-preserved : goal.loop-i-preserved
 loop-i-preserved c =

@@ -1,12 +1,8 @@
 -- `mover_copy::data_end` meets its contract. Assumes nothing.
-use mathlib.Core.Path.{◌≡◌, ap, ◌∙◌}
+use mathlib.Core.Path.{◌≡◌}
 use Prim.Native.Nat.{◌≤◌}
-use native.Mathlib.Omega.{arith}
-use borrow.Author.Rules.{rules}
 use lib.ListN.{length, take}
-use lib.Seq.{take_all}
 use Rattle.mover_rules.specs.Headers.{data_end}
-use Rattle.mover_copy.proofs.Data.{end_go, end_stop}
 use Rattle.mover_copy.proofs.data_end.Given as goal
 
 abbrev pub invariant-loop-i : goal.invariant-loop-i

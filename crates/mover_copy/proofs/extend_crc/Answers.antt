@@ -1,5 +1,4 @@
 -- `mover_copy::extend_crc` meets its contract. Assumes nothing.
-use borrow.Author.Rules.{rules}
 use Rattle.mover_copy.proofs.Data.{crc_goes_on}
 use Rattle.mover_copy.proofs.extend_crc.Goals as goal
 

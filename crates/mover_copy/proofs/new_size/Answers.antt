@@ -1,5 +1,4 @@
 -- `mover_copy::new_size` meets its contract. Assumes nothing.
-use borrow.Author.Rules.{rules}
 use Rattle.mover_copy.proofs.Data.{static_size, dynamic_size}
 use Rattle.mover_copy.proofs.new_size.Goals as goal
 

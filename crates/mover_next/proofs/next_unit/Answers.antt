@@ -1,7 +1,6 @@
 -- `mover_next::next_unit` meets its contract. Assumes nothing.
 use Prim.Native.Nat.{◌+◌, ◌*◌, ◌≤◌, ◌<◌}
 use native.Mathlib.Omega.{arith}
-use borrow.Author.Rules.{rules}
 use Rattle.mover_rules.proofs.Steps.{unit_within}
 use Rattle.mover_steps.proofs.Units.{at_within}
 use Rattle.mover_next.proofs.next_unit.Goals as goal
@@ -31,7 +30,7 @@ overflow_add-at-2 c =
       unit_within a.g a.plan a.image.now c.requires.0 a.j c.requires.1,
       at_within a.g a.plan a.image.now c.requires.0 a.j c.requires.1,
     ) in
-        omega (arith, unit.1, c.peb_start.ensures, c.requires.0.target_room)
+    omega (arith, unit.1, c.peb_start.ensures, c.requires.0.target_room)
 
 pub unit_length-requires : goal.unit_length-requires
 unit_length-requires c =

@@ -1,5 +1,4 @@
 -- `record_write::store_crc` meets its contract. Assumes nothing.
-use borrow.Author.Rules.{rules}
 use Rattle.record_write.specs.Stores.{crc_stored}
 use Rattle.record_write.proofs.store_crc.Goals as goal
 

@@ -1,5 +1,4 @@
 -- `record_write::store_kind` meets its contract. Assumes nothing.
-use borrow.Author.Rules.{rules}
 use Rattle.record_write.specs.Stores.{kind_stored}
 use Rattle.record_write.proofs.store_kind.Goals as goal
 

@@ -1,7 +1,6 @@
 -- `record_write::store_name` meets its contract. Assumes nothing.
 use mathlib.Core.Path.{ap}
 use native.Mathlib.Omega.{arith}
-use borrow.Author.Rules.{rules}
 use Rattle.field.specs.declared.Field.{Field}
 use Rattle.record_write.specs.Stores.{name_stored}
 use Rattle.record_write.proofs.store_name.Goals as goal

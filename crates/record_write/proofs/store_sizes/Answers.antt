@@ -1,5 +1,4 @@
 -- `record_write::store_sizes` meets its contract. Assumes nothing.
-use borrow.Author.Rules.{rules}
 use Rattle.record_write.specs.Stores.{sizes_stored}
 use Rattle.record_write.proofs.store_sizes.Goals as goal
 

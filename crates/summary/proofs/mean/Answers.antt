@@ -1,7 +1,6 @@
 -- `summary::mean` meets its contract. Assumes nothing.
 use Prim.Native.Nat.{◌≤◌}
 use native.Mathlib.Omega.{arith}
-use borrow.Author.Rules.{rules}
 use Prim.Native.Nat.{◌/◌}
 use native.Mathlib.Nat.{div-zero, div-le_of_le-mul}
 use Rattle.summary.proofs.mean.Goals as goal

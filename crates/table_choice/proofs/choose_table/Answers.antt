@@ -1,6 +1,5 @@
 -- `table_choice::choose_table` meets its contract. Assumes nothing.
 use mathlib.Core.Path.{sym, ◌∙◌}
-use borrow.Author.Rules.{rules}
 use Rattle.volume_table.proofs.Tables.{chosen_equal, chosen_unequal}
 use Rattle.table_choice.proofs.choose_table.Goals as goal
 

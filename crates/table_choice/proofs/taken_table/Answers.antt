@@ -1,5 +1,4 @@
 -- `table_choice::taken_table` meets its contract. Assumes nothing.
-use borrow.Author.Rules.{rules}
 use borrow.Author.Tests.{ne_eqb}
 use Rattle.table_choice.proofs.taken_table.Goals as goal
 

@@ -1,6 +1,5 @@
 -- `test_builder::main` is safe and ends. Assumes nothing.
 use Prim.Native.Nat.{◌-◌}
-use borrow.Author.Rules.{rules}
 use Rattle.test_builder.proofs.main.Given as goal
 
 abbrev pub invariant-loop : goal.invariant-loop

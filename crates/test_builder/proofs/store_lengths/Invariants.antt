@@ -1,7 +1,6 @@
 -- `test_builder::store_lengths` is safe and ends. Assumes nothing.
 use mathlib.Core.Path.{◌≡◌}
 use Prim.Native.Nat.{◌-◌}
-use borrow.Author.Rules.{rules}
 use lib.ListN.{length}
 use Rattle.test_builder.proofs.store_lengths.Given as goal
 

@@ -1,5 +1,5 @@
 -- `test_moves::operations` is safe and ends. Assumes nothing.
-use Rattle.std.proofs.Common.{◌≡◌, ◌-◌, length, rules}
+use Rattle.std.proofs.Common.{◌≡◌, ◌-◌, length}
 use Rattle.test_moves.proofs.operations.Given as goal
 
 abbrev pub invariant-loop-i : goal.invariant-loop-i

@@ -1,7 +1,6 @@
 -- `transfer::after_bytes` meets its contract. Assumes nothing.
 use Prim.Native.Nat.{◌+◌}
 use native.Mathlib.Omega.{arith}
-use borrow.Author.Rules.{rules}
 use borrow.Author.Tests.{eq-eqb, ne_eqb, lt-ltb, le-ltb}
 use Rattle.transfer.specs.Transfer.{after_bytes}
 use Rattle.transfer.proofs.Laws.{beyond}

@@ -7,7 +7,6 @@ use lib.Signed.{lt_z, non_neg}
 use mir.Syntax.{w64}
 use mir.Val.{Fits}
 use mir.Facts.{to_z-of_z}
-use borrow.Author.Rules.{rules}
 use Rattle.transfer.specs.Transfer.{after_bytes}
 use Rattle.transfer.proofs.Laws.{negative, not_negative, casts}
 use Rattle.transfer.proofs.after_call.Goals as goal

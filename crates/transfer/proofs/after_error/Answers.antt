@@ -1,5 +1,4 @@
 -- `transfer::after_error` meets its contract. Assumes nothing.
-use borrow.Author.Rules.{rules}
 use Rattle.transfer.proofs.after_error.Goals as goal
 
 pub returns-then-interrupted : goal.returns-then-interrupted

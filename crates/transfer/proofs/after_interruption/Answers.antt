@@ -1,5 +1,4 @@
 -- `transfer::after_interruption` meets its contract. Assumes nothing.
-use borrow.Author.Rules.{rules}
 use borrow.Author.Tests.{eq-eqb, ne_eqb}
 use Rattle.transfer.specs.Transfer.{after_interruption}
 use Rattle.transfer.proofs.after_interruption.Goals as goal

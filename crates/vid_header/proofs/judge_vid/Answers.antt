@@ -1,6 +1,5 @@
 -- `vid_header::judge_vid` meets its contract. Assumes nothing.
-use borrow.Author.Rules.{rules}
-use Rattle.base.proofs.Answers.{value_is, was_false, was_true}
+use Rattle.base.proofs.Answers.{value_is}
 use Rattle.header.specs.Vid.{judge_vid}
 use Rattle.header.proofs.Laws.{version_zero, version_newer, version_one}
 use Rattle.vid_header.proofs.judge_vid.Goals as goal

@@ -1,8 +1,7 @@
 -- `vid_header::read_vid` meets its contract. Assumes nothing.
 use mathlib.Core.Path.{◌∙◌}
-use borrow.Author.Rules.{rules}
 use borrow.Author.Tests.{lt-ltb, le-ltb}
-use Rattle.base.proofs.Answers.{value_is, was_false, was_true}
+use Rattle.base.proofs.Answers.{value_is}
 use Rattle.header.specs.Vid.{read_vid, vid_read}
 use Rattle.vid_header.proofs.read_vid.Goals as goal
 

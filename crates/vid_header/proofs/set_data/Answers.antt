@@ -1,5 +1,4 @@
 -- `vid_header::set_data` meets its contract. Assumes nothing.
-use borrow.Author.Rules.{rules}
 use Rattle.header.specs.Stores.{data_stored}
 use Rattle.vid_header.proofs.set_data.Goals as goal
 

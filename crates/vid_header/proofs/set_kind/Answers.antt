@@ -1,5 +1,4 @@
 -- `vid_header::set_kind` meets its contract. Assumes nothing.
-use borrow.Author.Rules.{rules}
 use Rattle.header.specs.Stores.{kind_stored}
 use Rattle.vid_header.proofs.set_kind.Goals as goal
 

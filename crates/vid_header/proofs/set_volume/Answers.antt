@@ -1,5 +1,4 @@
 -- `vid_header::set_volume` meets its contract. Assumes nothing.
-use borrow.Author.Rules.{rules}
 use Rattle.header.specs.Stores.{volume_stored}
 use Rattle.vid_header.proofs.set_volume.Goals as goal
 

@@ -1,6 +1,5 @@
 -- `vid_header::vid_field` meets its contract. Assumes nothing.
 use mathlib.Core.Path.{◌∙◌}
-use borrow.Author.Rules.{rules}
 use Rattle.header.proofs.Laws.{vid_field_at}
 use Rattle.vid_header.proofs.vid_field.Goals as goal
 

@@ -1,6 +1,5 @@
 -- `vid_header::vid_fields` meets its contract. Assumes nothing.
 use native.Mathlib.Omega.{arith}
-use borrow.Author.Rules.{rules}
 use Rattle.header.specs.Vid.{vid_fields}
 use Rattle.vid_header.proofs.vid_fields.Goals as goal
 

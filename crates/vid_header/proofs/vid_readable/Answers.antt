@@ -1,6 +1,5 @@
 -- `vid_header::vid_readable` meets its contract. Assumes nothing.
 use mathlib.Core.Path.{sym, ◌∙◌}
-use borrow.Author.Rules.{rules}
 use Rattle.header.specs.Vid.{judge_vid}
 use Rattle.header.proofs.Laws.{not_version_one, version_one, good_if}
 use Rattle.vid_header.proofs.vid_readable.Goals as goal

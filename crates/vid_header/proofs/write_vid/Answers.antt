@@ -1,10 +1,9 @@
 -- `vid_header::write_vid` meets its contract. Assumes nothing.
 use Prim.Native.Nat.{◌≤◌}
 use native.Mathlib.Omega.{arith}
-use borrow.Author.Rules.{rules}
 use lib.ListN.{length}
 use borrow.Author.Tests.{lt-ltb, le-ltb}
-use Rattle.base.proofs.Answers.{value_is, was_false, was_true}
+use Rattle.base.proofs.Answers.{value_is}
 use Rattle.header.specs.Vid.{vid_written, vid_out}
 use Rattle.header.proofs.Writes.{vid_wrote}
 use Rattle.vid_header.proofs.write_vid.Goals as goal

@@ -1,10 +1,9 @@
 -- `vid_rules::rules_hold` meets its contract: one broken rule is enough, and past all others the last decides.
 -- Assumes nothing.
 use mathlib.Core.Path.{sym, ◌∙◌}
-use borrow.Author.Rules.{rules}
-use borrow.Author.Tests.{lt-ltb, le-ltb, le-leb, lt-leb, not-false}
+use borrow.Author.Tests.{lt-ltb, le-ltb, le-leb, lt-leb}
 use mathlib.Core.Bool.{and-true}
-use Rattle.base.proofs.Answers.{value_is, one_broken, was_false}
+use Rattle.base.proofs.Answers.{value_is, one_broken}
 use Rattle.header.specs.Vid.{layout_rule, vid_rules}
 use Rattle.vid_rules.proofs.rules_hold.Goals as goal
 

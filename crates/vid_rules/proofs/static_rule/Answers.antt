@@ -1,7 +1,6 @@
 -- `vid_rules::static_rule` meets its contract. Assumes nothing.
 use Prim.Native.Nat.{◌<◌}
 use native.Mathlib.Omega.{arith}
-use borrow.Author.Rules.{rules}
 use borrow.Author.Tests.{lt-ltb, le-ltb, eq-eqb, ne_eqb}
 use Rattle.header.specs.Vid.{static_rule}
 use Rattle.vid_rules.proofs.static_rule.Goals as goal

@@ -1,11 +1,8 @@
 -- `words::fill_words` meets its contract: after i turns the first i words are set. Assumes nothing.
 use mathlib.Core.Path.{◌≡◌}
 use Prim.Native.Nat.{◌≤◌, ◌-◌}
-use native.Mathlib.Omega.{arith}
-use borrow.Author.Rules.{rules}
 use mathlib.Core.List.{◌++◌}
-use borrow.Author.Fill.{fill_more}
-use lib.ListN.{length, length-set, drop, replicate}
+use lib.ListN.{length, drop, replicate}
 use Rattle.words.specs.Words.{no_word}
 use Rattle.words.proofs.fill_words.Given as goal
 

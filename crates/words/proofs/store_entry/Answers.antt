@@ -1,7 +1,6 @@
 -- `words::store_entry` meets its contract. Assumes nothing.
 use Prim.Native.Nat.{◌*◌}
 use native.Mathlib.Omega.{arith}
-use borrow.Author.Rules.{rules}
 use lib.ListN.{length-set}
 use Rattle.words.specs.Words.{entry_stride}
 use Rattle.words.proofs.Laws.{set_three}

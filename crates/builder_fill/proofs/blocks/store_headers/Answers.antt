@@ -1,6 +1,5 @@
 -- `builder_fill::blocks::store_headers` meets its contract. Assumes nothing.
 use native.Mathlib.Omega.{arith}
-use borrow.Author.Rules.{rules}
 use Rattle.builder_rules.specs.Blocks.{built_ec}
 use Rattle.builder_rules.specs.Filling.{seq_in}
 use Rattle.builder_fill.proofs.Stores.{headers_stored, ec_lent}

@@ -1,5 +1,4 @@
 -- `builder_fill::blocks::store_used` meets its contract. Assumes nothing.
-use borrow.Author.Rules.{rules}
 use Rattle.builder_rules.specs.Blocks.{built_ec}
 use Rattle.builder_rules.specs.Filling.{seq_in}
 use Rattle.builder_fill.proofs.Stores.{used_stored}

@@ -1,6 +1,5 @@
 -- `builder_fill::image::fill_image` meets its contract. Assumes nothing.
 use native.Mathlib.Omega.{arith}
-use borrow.Author.Rules.{rules}
 use Rattle.builder_fill.proofs.Stores.{made_seq, made_ready}
 use Rattle.builder_fill.proofs.image.fill_image.Goals as goal
 

@@ -1,7 +1,6 @@
 -- `builder_fill::image::fill_layout` meets its contract. Assumes nothing.
 use mathlib.Core.Path.{ap}
 use native.Mathlib.Omega.{arith}
-use borrow.Author.Rules.{rules}
 use Rattle.builder_rules.specs.Blocks.{built_ec, used_peb, layout_vid}
 use Rattle.builder_rules.specs.Filling.{seq_in}
 use Rattle.builder_rules.proofs.Pebs.{used_length}

@@ -6,10 +6,8 @@ use native.Mathlib.Numerals.{add-one}
 use native.Mathlib.Omega.{arith}
 use borrow.Author.Rules.{rules}
 use lib.ListN.{length, take, drop}
-use Rattle.base.specs.Below.{sum_below}
 use Rattle.geometry.specs.Image.{peb_count_of}
 use Rattle.builder_rules.specs.Blocks.{BuildPlan, lebs_of, length_of, volume_of, volume_content, shape_of}
-use Rattle.builder_rules.specs.Filling.{Filled}
 use Rattle.builder_rules.proofs.Accepted.{volumes_few, pad_small, content_within}
 use Rattle.builder_fill.specs.Pebs.{plan_lent}
 use Rattle.builder_fill.proofs.Filled.{lent_content, last_within, volume_ready, volume_filled}
@@ -23,14 +21,14 @@ pub overflow_cast-v : goal.overflow_cast-v
 overflow_cast-v c =
     let pebs : ℕ = peb_count_of c.args.g c.args.image.now in
     let plan : BuildPlan = let a = c.args in plan_lent a.g a.ec.now a.table.now a.lengths.now a.content.now in
-        omega (arith, volumes_few plan pebs c.requires.1.0)
+    omega (arith, volumes_few plan pebs c.requires.1.0)
 
 pub shape_of-shape-requires-in-loop-v : goal.shape_of-shape-requires-in-loop-v
 unfolding volume_of
 shape_of-shape-requires-in-loop-v c =
     let pebs : ℕ = peb_count_of c.args.g c.args.image.now in
     let plan : BuildPlan = let a = c.args in plan_lent a.g a.ec.now a.table.now a.lengths.now a.content.now in
-        let b = plan in let n = pebs in let h = c.requires.1.0 in let l = c.loop-v in
+    let b = plan in let n = pebs in let h = c.requires.1.0 in let l = c.loop-v in
     let k : l.v < b.volumes = omega arith in (
       omega (arith, volumes_few b n h),
       (
@@ -48,13 +46,13 @@ pub overflow_add-end : goal.overflow_add-end
 overflow_add-end c =
     let pebs : ℕ = peb_count_of c.args.g c.args.image.now in
     let plan : BuildPlan = let a = c.args in plan_lent a.g a.ec.now a.table.now a.lengths.now a.content.now in
-        omega (arith, content_within plan pebs c.requires.1.0 c.loop-v.v (omega arith))
+    omega (arith, content_within plan pebs c.requires.1.0 c.loop-v.v (omega arith))
 
 pub slice_bounds-fill_volume-end : goal.slice_bounds-fill_volume-end
 slice_bounds-fill_volume-end c =
     let pebs : ℕ = peb_count_of c.args.g c.args.image.now in
     let plan : BuildPlan = let a = c.args in plan_lent a.g a.ec.now a.table.now a.lengths.now a.content.now in
-        omega (arith, content_within plan pebs c.requires.1.0 c.loop-v.v (omega arith))
+    omega (arith, content_within plan pebs c.requires.1.0 c.loop-v.v (omega arith))
 
 pub fill_volume-requires : goal.fill_volume-requires
 unfolding volume_of lebs_of
@@ -68,7 +66,7 @@ fill_volume-requires c =
     plan l.v) l.invariant.0.1.1 refl in
     let shape_is : c.shape_of-shape.result ≡ shape_of plan c.loop-v.v = c.shape_of-shape.ensures in
     let whole : pebs * c.args.g.peb_size ≤ length c.args.image.now = omega (arith, div-add-mod' (length c.args.image.now) c.args.g.peb_size) in
-        let l = c.loop-v in (
+    let l = c.loop-v in (
       rw (shape_is, content_is, l.invariant.0.1.0)
           (volume_ready plan pebs c.requires.1.0 l.v (omega arith) l.image (omega (arith, whole))),
       c.requires.0,
@@ -80,7 +78,7 @@ overflow_add-p c =
     let plan : BuildPlan = let a = c.args in plan_lent a.g a.ec.now a.table.now a.lengths.now a.content.now in
     let shape_is : c.shape_of-shape.result ≡ shape_of plan c.loop-v.v = c.shape_of-shape.ensures in
     let pebs : ℕ = peb_count_of c.args.g c.args.image.now in
-        omega (
+    omega (
       arith,
       ap (λ x. x.lebs) shape_is,
       last_within plan
@@ -99,7 +97,7 @@ loop-v-preserved c =
     plan l.v) l.invariant.0.1.1 refl in
     let shape_is : c.shape_of-shape.result ≡ shape_of plan c.loop-v.v = c.shape_of-shape.ensures in
     let whole : pebs * c.args.g.peb_size ≤ length c.args.image.now = omega (arith, div-add-mod' (length c.args.image.now) c.args.g.peb_size) in
-        let l = c.loop-v in let b = plan in
+    let l = c.loop-v in let b = plan in
     let m = ap (λ x. x.lebs) shape_is in (
       (omega arith, (rw add-one (omega arith), rw add-one (omega arith))),
       (

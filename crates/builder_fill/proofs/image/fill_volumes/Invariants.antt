@@ -1,18 +1,11 @@
 -- `builder_fill::image::fill_volumes` meets its contract: the volumes before the v-th are stored. Assumes nothing.
-use mathlib.Core.Path.{◌≡◌, refl, ap}
-use Prim.Native.Nat.{ℕ, ◌+◌, ◌-◌, ◌*◌, ◌≤◌, ◌<◌}
-use native.Mathlib.Nat.{div-add-mod'}
-use native.Mathlib.Numerals.{add-one}
-use native.Mathlib.Omega.{arith}
-use borrow.Author.Rules.{rules}
-use lib.ListN.{length, take, drop}
+use mathlib.Core.Path.{◌≡◌}
+use Prim.Native.Nat.{◌+◌, ◌-◌, ◌≤◌}
+use lib.ListN.{length}
 use Rattle.base.specs.Below.{sum_below}
-use Rattle.geometry.specs.Image.{peb_count_of}
-use Rattle.builder_rules.specs.Blocks.{BuildPlan, lebs_of, length_of, volume_of, volume_content, shape_of}
+use Rattle.builder_rules.specs.Blocks.{lebs_of, length_of}
 use Rattle.builder_rules.specs.Filling.{Filled}
-use Rattle.builder_rules.proofs.Accepted.{volumes_few, pad_small, content_within}
 use Rattle.builder_fill.specs.Pebs.{plan_lent}
-use Rattle.builder_fill.proofs.Filled.{lent_content, last_within, volume_ready, volume_filled}
 use Rattle.builder_fill.proofs.image.fill_volumes.Given as goal
 
 abbrev pub invariant-loop-v : goal.invariant-loop-v

@@ -16,7 +16,7 @@ pub fill_layout-requires : goal.fill_layout-requires
 fill_layout-requires c =
     let pebs : ℕ = peb_count_of c.args.g c.args.image.now in
     let plan : BuildPlan = let a = c.args in plan_lent a.g a.ec.now a.table.now a.lengths.now a.content.now in
-        let a = c.requires.1.0 in (
+    let a = c.requires.1.0 in (
       omega (arith, mul-le-mul_right c.args.g.peb_size a.pebs_least, c.requires.1.1),
       ((a.placed, c.requires.0), table_fits plan pebs a),
     )
@@ -26,8 +26,7 @@ fill_volumes-end-requires c =
     let pebs : ℕ = peb_count_of c.args.g c.args.image.now in
     let after-layout : peb_count_of c.args.g c.fill_layout.new.image ≡ pebs = let e : length c.fill_layout.new.image ≡ length c.args.image.now = search rules in
     ap (λ (m : ℕ). m / c.args.g.peb_size) e in
-    let plan : BuildPlan = let a = c.args in plan_lent a.g a.ec.now a.table.now a.lengths.now a.content.now in
-        (
+    let plan : BuildPlan = let a = c.args in plan_lent a.g a.ec.now a.table.now a.lengths.now a.content.now in (
       c.requires.0,
       (
         rw after-layout c.requires.1.0,
@@ -41,7 +40,7 @@ free_from-requires c =
     let after-volumes : length c.fill_volumes-end.new.image ≡ length c.args.image.now = search rules in
     let pebs : ℕ = peb_count_of c.args.g c.args.image.now in
     let plan : BuildPlan = let a = c.args in plan_lent a.g a.ec.now a.table.now a.lengths.now a.content.now in
-        let a = c.requires.1.0 in
+    let a = c.requires.1.0 in
     let e = after-volumes in
     let n : length c.fill_volumes-end.new.image / c.args.g.peb_size ≡ pebs = ap (λ
     (m : ℕ). m / c.args.g.peb_size) e in (
@@ -54,7 +53,7 @@ returns c =
     let after-volumes : length c.fill_volumes-end.new.image ≡ length c.args.image.now = search rules in
     let pebs : ℕ = peb_count_of c.args.g c.args.image.now in
     let plan : BuildPlan = let a = c.args in plan_lent a.g a.ec.now a.table.now a.lengths.now a.content.now in
-        let e = after-volumes in
+    let e = after-volumes in
     let n : length c.fill_volumes-end.new.image / c.args.g.peb_size ≡ pebs = ap (λ
     (m : ℕ). m / c.args.g.peb_size) e in
     all_filled plan pebs c.requires.1.0 c.fill_volumes-end.new.image (e ∙ c.requires.1.1) (rw c.fill_volumes-end.ensures.end at c.fill_volumes-end.ensures.image)

@@ -6,8 +6,6 @@ use native.Mathlib.Nat.{mul-le-mul_right}
 use native.Mathlib.Omega.{arith}
 use borrow.Author.Rules.{rules}
 use lib.ListN.{length}
-use Rattle.base.specs.Below.{concat_below}
-use Rattle.base.specs.Lists.{put}
 use Rattle.base.proofs.Rows.{rows_next}
 use Rattle.base.proofs.Stores.{put_none}
 use Rattle.builder_rules.specs.Blocks.{built_ec, free_peb}
@@ -28,7 +26,7 @@ pub store_free-requires : goal.store_free-requires
 store_free-requires c =
     let there : c.loop-p.p * c.args.g.peb_size + c.args.g.peb_size ≤ length c.args.image.now = let a = c.args in
     let h : c.loop-p.p < a.n = omega arith in omega (arith, mul-le-mul_right a.g.peb_size h, c.requires.1.1) in
-        (omega (arith, there), c.requires.0.0)
+    (omega (arith, there), c.requires.0.0)
 
 pub loop-p-smaller : goal.loop-p-smaller
 loop-p-smaller c =
@@ -38,7 +36,7 @@ pub loop-p-preserved : goal.loop-p-preserved
 loop-p-preserved c =
     let there : c.loop-p.p * c.args.g.peb_size + c.args.g.peb_size ≤ length c.args.image.now = let a = c.args in
     let h : c.loop-p.p < a.n = omega arith in omega (arith, mul-le-mul_right a.g.peb_size h, c.requires.1.1) in
-        let a = c.args in let l = c.loop-p in
+    let a = c.args in let l = c.loop-p in
     let k = l.p - a.first in
     let e : a.first + k ≡ l.p = omega arith in
     let q : l.p + 1 - a.first ≡ k + 1 = omega arith in

@@ -1,18 +1,11 @@
 -- `builder_fill::image::free_from` meets its contract: the PEBs before p are stored. Assumes nothing.
-use mathlib.Core.Path.{◌≡◌, refl, sym, ap, ◌∙◌}
-use mathlib.Core.List.{List}
-use Prim.Native.Nat.{ℕ, ◌+◌, ◌-◌, ◌*◌, ◌≤◌, ◌<◌}
-use native.Mathlib.Nat.{mul-le-mul_right}
-use native.Mathlib.Omega.{arith}
-use borrow.Author.Rules.{rules}
+use mathlib.Core.Path.{◌≡◌}
+use Prim.Native.Nat.{ℕ, ◌-◌, ◌*◌, ◌≤◌}
 use lib.ListN.{length}
 use Rattle.base.specs.Below.{concat_below}
 use Rattle.base.specs.Lists.{put}
-use Rattle.base.proofs.Rows.{rows_next}
-use Rattle.base.proofs.Stores.{put_none}
 use Rattle.builder_rules.specs.Blocks.{built_ec, free_peb}
 use Rattle.builder_rules.specs.Filling.{seq_in}
-use Rattle.builder_rules.proofs.Pebs.{free_length}
 use Rattle.builder_fill.proofs.image.free_from.Given as goal
 
 abbrev pub invariant-loop-p : goal.invariant-loop-p

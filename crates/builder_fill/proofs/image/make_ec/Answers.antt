@@ -1,5 +1,4 @@
 -- `builder_fill::image::make_ec` meets its contract. Assumes nothing.
-use borrow.Author.Rules.{rules}
 use Rattle.builder_rules.specs.Blocks.{built_ec}
 use Rattle.builder_rules.proofs.Headers.{ec_good_holds}
 use Rattle.builder_fill.proofs.Stores.{ec_made}

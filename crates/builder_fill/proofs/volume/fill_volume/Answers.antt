@@ -5,8 +5,6 @@ use native.Mathlib.Nat.{mul-le-mul_right}
 use native.Mathlib.Omega.{arith}
 use borrow.Author.Rules.{rules}
 use lib.ListN.{length, take, drop}
-use Rattle.base.specs.Below.{concat_below}
-use Rattle.base.specs.Lists.{put}
 use Rattle.base.proofs.Rows.{rows_next}
 use Rattle.base.proofs.Stores.{put_none}
 use Rattle.builder_rules.specs.Blocks.{built_ec, used_peb}
@@ -21,18 +19,17 @@ overflow_sub-room c =
     omega (arith, c.requires.0.pad)
 
 pub loop-l-init : goal.loop-l-init
-loop-l-init c =
+loop-l-init c = (
+  omega arith,
+  (
+    λ h. omega arith,
     (
-      omega arith,
-      (
-        λ h. omega arith,
-        (
-          refl,
-          sym (put_none (c.args.first * c.args.g.peb_size)
-              c.args.image.now),
-        ),
-      ),
-    )
+      refl,
+      sym (put_none (c.args.first * c.args.g.peb_size)
+          c.args.image.now),
+    ),
+  ),
+)
 
 pub leb_end-end-requires : goal.leb_end-end-requires
 leb_end-end-requires c =
@@ -61,7 +58,7 @@ store_used-requires c =
     ≡ bytes_of c.args.g c.args.v c.args.content.now c.loop-l.l = let a = c.args in
     lent_bytes a.g a.v a.content.now c.loop-l.l c.loop-l.from c.leb_end-end.result
     start_is c.leb_end-end.ensures in
-        let a = c.args in let l = c.loop-l in
+    let a = c.args in let l = c.loop-l in
     let e = bytes_are in
     let h = c.requires.0.shaped l.l c.loop-l-test.true in (
       (omega (arith, there), rw e (bytes_small a.g a.v a.content.now l.l)),
@@ -95,7 +92,7 @@ loop-l-preserved c =
     c.args.image.now = let a = c.args in
     let h : a.first + c.loop-l.l < a.first + a.v.lebs = omega arith in
     omega (arith, mul-le-mul_right a.g.peb_size h, c.requires.0.there) in
-        let a = c.args in let l = c.loop-l in
+    let a = c.args in let l = c.loop-l in
     let ec = built_ec a.g (seq_in a.ec.now) in (
       omega arith,
       (

@@ -1,5 +1,4 @@
 -- `builder_fill::volume::leb_header` meets its contract. Assumes nothing.
-use borrow.Author.Rules.{rules}
 use borrow.Author.Tests.{eq-eqb, ne_eqb}
 use Rattle.builder_rules.specs.Blocks.{user_vid}
 use Rattle.builder_fill.proofs.volume.leb_header.Goals as goal

@@ -1,7 +1,6 @@
 -- `builder_fill::volume::shape_of` meets its contract. Assumes nothing.
 use mathlib.Core.Path.{◌≡◌}
 use native.Mathlib.Omega.{arith}
-use borrow.Author.Rules.{rules}
 use Rattle.base.proofs.Lists.{lent_part}
 use Rattle.volume_record.specs.Record.{record_of}
 use Rattle.volume_table.specs.Table.{record_at}
@@ -23,5 +22,5 @@ pub returns : goal.returns
 unfolding record_of
 returns c =
     let pad : c.get_field-data_pad.result ≡ (record_of (record_at c.args.table.now c.args.v)).data_pad = rw lent_part at c.get_field-data_pad.ensures.0 in
-        let t = rw lent_part at c.get_field.ensures.0 in let q = pad in
+    let t = rw lent_part at c.get_field.ensures.0 in let q = pad in
     rw (c.lebs_for.ensures, q, t)

@@ -2,7 +2,6 @@
 use mathlib.Core.Path.{◌≡◌}
 use native.Mathlib.Nat.{mod-zero}
 use native.Mathlib.Omega.{arith}
-use borrow.Author.Rules.{rules}
 use Rattle.builder_table.proofs.records.pad_of.Goals as goal
 
 pub returns-then-alignment-eq0 : goal.returns-then-alignment-eq0

@@ -1,6 +1,5 @@
 -- `builder_table::records::padded_name` meets its contract. Assumes nothing.
 use mathlib.Core.Path.{◌∙◌}
-use borrow.Author.Rules.{rules}
 use Rattle.builder_table.proofs.Laws.{name_padded}
 use Rattle.builder_table.proofs.records.padded_name.Goals as goal
 

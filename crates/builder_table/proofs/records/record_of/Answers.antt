@@ -1,6 +1,5 @@
 -- `builder_table::records::record_of` meets its contract. Assumes nothing.
 use native.Mathlib.Omega.{arith}
-use borrow.Author.Rules.{rules}
 use Rattle.builder_rules.specs.Table.{record_of_field}
 use Rattle.builder_table.proofs.Laws.{name_is}
 use Rattle.builder_table.proofs.records.record_of.Goals as goal

@@ -1,7 +1,6 @@
 -- `builder_table::records::store_record` meets its contract. Assumes nothing.
 use Prim.Native.Nat.{◌*◌}
 use native.Mathlib.Omega.{arith}
-use borrow.Author.Rules.{rules}
 use Rattle.builder_table.proofs.Laws.{record_stored}
 use Rattle.builder_table.proofs.records.store_record.Goals as goal
 

@@ -1,15 +1,10 @@
 -- `builder_table::table::fill_table` meets its contract: the records before the i-th are stored. Assumes nothing.
-use mathlib.Core.Path.{◌≡◌, refl, sym, ap, ◌∙◌}
+use mathlib.Core.Path.{◌≡◌}
 use mathlib.Core.List.{◌++◌}
 use Prim.Native.Nat.{◌-◌, ◌*◌, ◌≤◌}
-use native.Mathlib.Omega.{arith}
-use borrow.Author.Rules.{rules}
 use lib.ListN.{length, drop}
 use Rattle.base.specs.Below.{concat_below}
-use Rattle.volume_table.proofs.Tables.{count_small}
 use Rattle.builder_rules.specs.Table.{record_from}
-use Rattle.builder_rules.proofs.Fields.{empty_long, row_empty}
-use Rattle.builder_table.proofs.Laws.{row_more, rows_again, whole_table}
 use Rattle.builder_table.proofs.table.fill_table.Given as goal
 
 abbrev pub invariant-loop-i : goal.invariant-loop-i

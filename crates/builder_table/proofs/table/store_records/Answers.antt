@@ -1,11 +1,9 @@
 -- `builder_table::table::store_records` meets its contract: the records before the i-th are stored. Assumes nothing.
 use mathlib.Core.Path.{◌≡◌, refl, ap, ◌∙◌}
-use mathlib.Core.List.{◌++◌}
-use Prim.Native.Nat.{◌+◌, ◌-◌, ◌*◌, ◌≤◌}
+use Prim.Native.Nat.{◌+◌, ◌-◌}
 use native.Mathlib.Omega.{arith}
 use borrow.Author.Rules.{rules}
-use lib.ListN.{length, drop}
-use Rattle.base.specs.Below.{concat_below}
+use lib.ListN.{length}
 use Rattle.volume_record.specs.Record.{record_bytes}
 use Rattle.builder_rules.specs.Slip.{field_start, volume_field}
 use Rattle.builder_rules.specs.Table.{record_of_field, record_from}
@@ -26,7 +24,7 @@ pub store_record-requires : goal.store_record-requires
 store_record-requires c =
     let value : c.value_at-value.result.now ≡ volume_field c.args.slip.now c.loop-i.i = value_is c.args.slip.now c.loop-i.at c.loop-i.i c.loop-i.invariant.1.0
     c.value_at-value.ensures in
-        let a = c.args in let l = c.loop-i in
+    let a = c.args in let l = c.loop-i in
     let v = field_sized a.leb_size a.slip.now c.requires.0.1 l.i (omega arith) in let e = value in
     ((omega (arith, ap length e), omega (arith, ap length e)), (omega arith, omega arith))
 
@@ -36,7 +34,7 @@ overflow_add-at-in-loop-i c =
     c.value_at-value.ensures in
     let next : c.loop-i.at + (3 + length c.value_at-value.result.now) ≡ field_start c.args.slip.now
     (c.loop-i.i + 1) = rw (value, c.loop-i.invariant.1.0) (next_value c.args.slip.now c.loop-i.i (omega arith)) in
-        omega (arith, next, next_within c.args.slip.now c.loop-i.i (omega arith))
+    omega (arith, next, next_within c.args.slip.now c.loop-i.i (omega arith))
 
 pub loop-i-preserved : goal.loop-i-preserved
 loop-i-preserved c =
@@ -47,7 +45,7 @@ loop-i-preserved c =
     rw (value, row_field a.leb_size a.slip.now c.requires.0.1 c.loop-i.i (omega arith)) in
     let next : c.loop-i.at + (3 + length c.value_at-value.result.now) ≡ field_start c.args.slip.now
     (c.loop-i.i + 1) = rw (value, c.loop-i.invariant.1.0) (next_value c.args.slip.now c.loop-i.i (omega arith)) in
-        let a = c.args in let l = c.loop-i in
+    let a = c.args in let l = c.loop-i in
     let e = c.store_record.ensures in (
       omega arith,
       (

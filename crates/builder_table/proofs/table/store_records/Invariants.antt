@@ -1,17 +1,11 @@
 -- `builder_table::table::store_records` meets its contract: the records before the i-th are stored. Assumes nothing.
-use mathlib.Core.Path.{◌≡◌, refl, ap, ◌∙◌}
+use mathlib.Core.Path.{◌≡◌}
 use mathlib.Core.List.{◌++◌}
 use Prim.Native.Nat.{◌+◌, ◌-◌, ◌*◌, ◌≤◌}
-use native.Mathlib.Omega.{arith}
-use borrow.Author.Rules.{rules}
 use lib.ListN.{length, drop}
 use Rattle.base.specs.Below.{concat_below}
-use Rattle.volume_record.specs.Record.{record_bytes}
-use Rattle.builder_rules.specs.Slip.{field_start, volume_field}
-use Rattle.builder_rules.specs.Table.{record_of_field, record_from}
-use Rattle.builder_slip.proofs.Laws.{first_start, field_held}
-use Rattle.builder_rules.proofs.Fields.{field_sized, row_field}
-use Rattle.builder_table.proofs.Laws.{value_is, next_value, next_within, row_more}
+use Rattle.builder_rules.specs.Slip.{field_start}
+use Rattle.builder_rules.specs.Table.{record_from}
 use Rattle.builder_table.proofs.table.store_records.Given as goal
 
 abbrev pub invariant-loop-i : goal.invariant-loop-i

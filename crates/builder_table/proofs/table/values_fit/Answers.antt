@@ -1,14 +1,11 @@
 -- `builder_table::table::values_fit` meets its contract: the values before the i-th fit. Assumes nothing.
 use mathlib.Core.Path.{◌≡◌, refl, ap, ◌∙◌}
-use mathlib.Core.Bool.{true}
-use Prim.Native.Nat.{◌+◌, ◌-◌, ◌≤◌}
+use Prim.Native.Nat.{◌+◌, ◌-◌}
 use native.Mathlib.Omega.{arith}
-use borrow.Author.Rules.{rules}
 use lib.ListN.{length}
-use Rattle.base.specs.Below.{all_below}
 use Rattle.builder_rules.specs.Slip.{field_start, volume_field}
 use Rattle.builder_slip.proofs.Laws.{first_start, field_held}
-use Rattle.builder_table.proofs.Laws.{fit, value_is, next_value, next_within, too_few, too_many, fit_more}
+use Rattle.builder_table.proofs.Laws.{value_is, next_value, next_within, too_few, too_many, fit_more}
 use Rattle.builder_table.proofs.Laws.{all_fit}
 use Rattle.builder_table.proofs.table.values_fit.Goals as goal
 
@@ -24,13 +21,13 @@ pub returns-then-len-lt-MIN_VALUE : goal.returns-then-len-lt-MIN_VALUE
 returns-then-len-lt-MIN_VALUE c =
     let value : c.value_at-len.result.now ≡ volume_field c.args.slip.now c.loop-i.i = value_is c.args.slip.now c.loop-i.at c.loop-i.i c.loop-i.invariant.1.0
     c.value_at-len.ensures in
-        too_few c.args.slip.now c.loop-i.i (omega arith) (omega (arith, ap length value))
+    too_few c.args.slip.now c.loop-i.i (omega arith) (omega (arith, ap length value))
 
 pub returns-then-len-gt-MAX_VALUE : goal.returns-then-len-gt-MAX_VALUE
 returns-then-len-gt-MAX_VALUE c =
     let value : c.value_at-len.result.now ≡ volume_field c.args.slip.now c.loop-i.i = value_is c.args.slip.now c.loop-i.at c.loop-i.i c.loop-i.invariant.1.0
     c.value_at-len.ensures in
-        too_many c.args.slip.now c.loop-i.i (omega arith) (omega (arith, ap length value))
+    too_many c.args.slip.now c.loop-i.i (omega arith) (omega (arith, ap length value))
 
 pub overflow_add-at-in-loop-i : goal.overflow_add-at-in-loop-i
 overflow_add-at-in-loop-i c =
@@ -38,7 +35,7 @@ overflow_add-at-in-loop-i c =
     c.value_at-len.ensures in
     let next : c.loop-i.at + (3 + length c.value_at-len.result.now) ≡ field_start c.args.slip.now
     (c.loop-i.i + 1) = rw (value, c.loop-i.invariant.1.0) (next_value c.args.slip.now c.loop-i.i (omega arith)) in
-        omega (arith, next, next_within c.args.slip.now c.loop-i.i (omega arith))
+    omega (arith, next, next_within c.args.slip.now c.loop-i.i (omega arith))
 
 pub loop-i-preserved : goal.loop-i-preserved
 loop-i-preserved c =
@@ -46,7 +43,7 @@ loop-i-preserved c =
     c.value_at-len.ensures in
     let next : c.loop-i.at + (3 + length c.value_at-len.result.now) ≡ field_start c.args.slip.now
     (c.loop-i.i + 1) = rw (value, c.loop-i.invariant.1.0) (next_value c.args.slip.now c.loop-i.i (omega arith)) in
-        let s = c.args.slip.now in let e = value in let l = c.loop-i in (
+    let s = c.args.slip.now in let e = value in let l = c.loop-i in (
       omega arith,
       (
         next,

@@ -1,8 +1,7 @@
 -- `builder_table::table::volumes_good` meets its contract. Assumes nothing.
 use mathlib.Core.Path.{refl}
 use native.Mathlib.Omega.{arith}
-use borrow.Author.Rules.{rules}
-use Rattle.base.proofs.Answers.{value_is, clash, was_false, was_true}
+use Rattle.base.proofs.Answers.{value_is, clash}
 use Rattle.builder_table.proofs.Laws.{not_fit, too_many_volumes, table_decides}
 use Rattle.builder_table.proofs.table.volumes_good.Goals as goal
 
@@ -23,5 +22,8 @@ fill_table-requires c =
 pub returns : goal.returns
 returns c =
     let a = c.args in
-    record { good = table_decides a.g a.peb_count a.slip.now (value_is c.values_fit.ensures c.if-not-values_fit.false) (omega arith)
-          c.fill_table.ensures c.table_good.ensures; table = λ e. c.fill_table.ensures }
+    record {
+      good = table_decides a.g a.peb_count a.slip.now (value_is c.values_fit.ensures c.if-not-values_fit.false) (omega arith)
+          c.fill_table.ensures c.table_good.ensures;
+      table = λ e. c.fill_table.ensures;
+    }

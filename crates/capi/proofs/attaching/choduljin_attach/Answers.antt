@@ -1,7 +1,6 @@
 -- `capi::attaching::choduljin_attach` meets its contract. Assumes nothing.
 use mathlib.Core.Path.{refl}
 use borrow.Author.Tests.{lt-ltb, le-ltb}
-use borrow.Author.Rules.{rules}
 use Rattle.base.specs.Answers.{Answer}
 use Rattle.report.specs.declared.Report.{Report}
 use Rattle.capi_words.specs.Structs.{report_words, answer_words}

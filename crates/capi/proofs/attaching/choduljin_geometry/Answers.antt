@@ -1,7 +1,6 @@
 -- `capi::attaching::choduljin_geometry` meets its contract. Assumes nothing.
 use mathlib.Core.Path.{refl}
 use borrow.Author.Tests.{lt-ltb, le-ltb}
-use borrow.Author.Rules.{rules}
 use Rattle.base.specs.Answers.{Answer}
 use Rattle.geometry.specs.declared.Geometry.{Geometry}
 use Rattle.capi_words.specs.Structs.{geometry_words}

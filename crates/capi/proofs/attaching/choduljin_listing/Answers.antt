@@ -1,11 +1,11 @@
 -- `capi::attaching::choduljin_listing` meets its contract. Assumes nothing.
 use mathlib.Core.Path.{refl}
-use mathlib.Core.List.{[], ◌∷◌}
+use mathlib.Core.List.{◌∷◌}
 use Prim.Native.Nat.{ℕ}
 use borrow.Author.Tests.{lt-ltb, le-ltb}
 use borrow.Author.Rules.{rules}
 use Rattle.base.specs.Answers.{Answer}
-use Rattle.base.proofs.Answers.{value_is, was_false, was_true}
+use Rattle.base.proofs.Answers.{value_is}
 use Rattle.report.specs.Attach.{lent, over}
 use Rattle.report.specs.declared.Report.{Report}
 use Rattle.listing_text.specs.Render.{rendering, out_after}

@@ -1,7 +1,6 @@
 -- `capi::headers::choduljin_read_ec` meets its contract. Assumes nothing.
 use mathlib.Core.Path.{refl}
 use borrow.Author.Tests.{lt-ltb, le-ltb}
-use borrow.Author.Rules.{rules}
 use Rattle.base.specs.Answers.{Answer}
 use Rattle.header.specs.Fields.{Verdict}
 use Rattle.header.specs.declared.EcHeader.{EcHeader}

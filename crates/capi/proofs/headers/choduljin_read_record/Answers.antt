@@ -1,7 +1,6 @@
 -- `capi::headers::choduljin_read_record` meets its contract. Assumes nothing.
 use mathlib.Core.Path.{refl}
 use borrow.Author.Tests.{lt-ltb, le-ltb}
-use borrow.Author.Rules.{rules}
 use Rattle.capi.proofs.Laws.{record_told}
 use Rattle.capi.proofs.headers.choduljin_read_record.Goals as goal
 

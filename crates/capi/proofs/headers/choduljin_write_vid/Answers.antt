@@ -1,8 +1,7 @@
 -- `capi::headers::choduljin_write_vid` meets its contract. Assumes nothing.
 use mathlib.Core.Path.{refl, ap, ◌∙◌}
 use borrow.Author.Tests.{lt-ltb, le-ltb}
-use borrow.Author.Rules.{rules}
-use Rattle.base.proofs.Answers.{value_is, was_false, was_true}
+use Rattle.base.proofs.Answers.{value_is}
 use Rattle.header.specs.Vid.{vid_written, vid_out}
 use Rattle.header.specs.declared.VidHeader.{VidHeader}
 use Rattle.capi_words.specs.Structs.{vid_most}

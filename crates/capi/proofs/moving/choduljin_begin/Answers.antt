@@ -1,7 +1,6 @@
 -- `capi::moving::choduljin_begin` meets its contract. Assumes nothing.
 use mathlib.Core.Path.{refl}
 use borrow.Author.Tests.{lt-ltb, le-ltb}
-use borrow.Author.Rules.{rules}
 use Rattle.base.specs.Answers.{Answer}
 use Rattle.mover_rules.specs.declared.Plan.{Plan}
 use Rattle.capi_words.specs.Structs.{plan_words, answer_words}

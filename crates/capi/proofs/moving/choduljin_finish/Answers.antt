@@ -1,8 +1,7 @@
 -- `capi::moving::choduljin_finish` meets its contract. Assumes nothing.
 use mathlib.Core.Path.{refl}
 use borrow.Author.Tests.{lt-ltb, le-ltb}
-use borrow.Author.Rules.{rules}
-use Rattle.base.proofs.Answers.{value_is, was_false, was_true}
+use Rattle.base.proofs.Answers.{value_is}
 use Rattle.capi_words.specs.Structs.{plan_most}
 use Rattle.capi_words.proofs.Laws.{within}
 use Rattle.capi.proofs.Laws.{finished_told}

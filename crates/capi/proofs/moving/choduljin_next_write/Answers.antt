@@ -1,8 +1,7 @@
 -- `capi::moving::choduljin_next_write` meets its contract. Assumes nothing.
 use mathlib.Core.Path.{refl, ap, ◌∙◌}
 use borrow.Author.Tests.{lt-ltb, le-ltb}
-use borrow.Author.Rules.{rules}
-use Rattle.base.proofs.Answers.{value_is, was_false, was_true}
+use Rattle.base.proofs.Answers.{value_is}
 use Rattle.mover_rules.specs.declared.Plan.{Plan}
 use Rattle.mover_next.specs.Upcoming.{next_write}
 use Rattle.mover_next.specs.declared.NextWrite.{NextWrite}

@@ -1,9 +1,8 @@
 -- `capi::moving::choduljin_step` meets its contract. Assumes nothing.
 use mathlib.Core.Path.{refl}
 use borrow.Author.Tests.{lt-ltb, le-ltb}
-use borrow.Author.Rules.{rules}
 use Rattle.base.specs.Answers.{Answer}
-use Rattle.base.proofs.Answers.{value_is, was_false, was_true}
+use Rattle.base.proofs.Answers.{value_is}
 use Rattle.job.specs.Job.{Progress, stepping}
 use Rattle.mover_rules.specs.Step.{mover_job}
 use Rattle.mover_rules.specs.declared.Plan.{Plan}

@@ -1,14 +1,11 @@
 -- `capi::moving::run_steps` meets its contract. Assumes nothing.
 use native.Mathlib.Omega.{arith}
-use mathlib.Core.Path.{◌≡◌, refl, sym, ap, ◌∙◌}
+use mathlib.Core.Path.{refl, sym, ap, ◌∙◌}
 use Prim.Native.Nat.{◌-◌}
-use borrow.Author.Rules.{rules}
-use lib.ListN.{length}
 use Rattle.job.proofs.Finish.{fewer, left_on}
-use Rattle.mover_rules.specs.Write.{step_count}
 use Rattle.mover_rules.specs.Step.{mover_job, stepped_answer}
 use Rattle.mover_rules.proofs.Steps.{mover_lawful}
-use Rattle.capi.proofs.Laws.{to_last, last_done, last_refused}
+use Rattle.capi.proofs.Laws.{last_done, last_refused}
 use Rattle.capi.proofs.moving.run_steps.Goals as goal
 
 pub loop-next-init : goal.loop-next-init
@@ -23,8 +20,7 @@ loop-next-smaller c =
 
 pub loop-next-preserved : goal.loop-next-preserved
 loop-next-preserved c =
-    let l = c.loop-next in
-    (
+    let l = c.loop-next in (
       omega arith,
       (
         l.invariant.1.0,

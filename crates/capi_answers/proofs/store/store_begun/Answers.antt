@@ -1,5 +1,4 @@
 -- `capi_answers::store::store_begun` meets its contract. Assumes nothing.
-use borrow.Author.Rules.{rules}
 use Rattle.capi_answers.proofs.store.store_begun.Goals as goal
 
 pub returns-in-Planned : goal.returns-in-Planned

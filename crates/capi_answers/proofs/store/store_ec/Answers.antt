@@ -1,6 +1,5 @@
 -- `capi_answers::store::store_ec` meets its contract. Assumes nothing.
 use mathlib.Core.Path.{refl}
-use borrow.Author.Rules.{rules}
 use Rattle.capi_answers.proofs.store.store_ec.Goals as goal
 
 pub returns-in-Good : goal.returns-in-Good

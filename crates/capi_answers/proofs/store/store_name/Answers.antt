@@ -1,6 +1,5 @@
 -- `capi_answers::store::store_name` meets its contract. Assumes nothing.
 use native.Mathlib.Nat.{zero-add}
-use borrow.Author.Rules.{rules}
 use Rattle.capi_answers.proofs.store.store_name.Goals as goal
 
 pub returns : goal.returns

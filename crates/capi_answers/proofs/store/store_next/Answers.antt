@@ -1,5 +1,4 @@
 -- `capi_answers::store::store_next` meets its contract. Assumes nothing.
-use borrow.Author.Rules.{rules}
 use Rattle.capi_answers.proofs.store.store_next.Goals as goal
 
 pub returns-in-Store : goal.returns-in-Store

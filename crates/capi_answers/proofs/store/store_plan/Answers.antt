@@ -1,6 +1,5 @@
 -- `capi_answers::store::store_plan` meets its contract. Assumes nothing.
 use mathlib.Core.Path.{refl}
-use borrow.Author.Rules.{rules}
 use Rattle.capi_answers.proofs.store.store_plan.Goals as goal
 
 pub returns : goal.returns

@@ -1,5 +1,4 @@
 -- `capi_words::read::attached_fits` meets its contract. Assumes nothing.
-use borrow.Author.Rules.{rules}
 use mathlib.Core.Path.{◌∙◌}
 use borrow.Author.Tests.{eq-eqb, ne_eqb}
 use Rattle.capi_words.specs.Structs.{attached_fits}

@@ -1,11 +1,8 @@
 -- `capi_words::fits` meets its contract: what is left to compare gives the answer of the whole. Assumes nothing.
-use mathlib.Core.Path.{◌≡◌, refl, sym, ◌∙◌}
+use mathlib.Core.Path.{◌≡◌}
 use Prim.Native.Nat.{◌≤◌, ◌-◌}
-use native.Mathlib.Omega.{arith}
-use borrow.Author.Rules.{rules}
 use lib.ListN.{length, drop}
 use Rattle.capi_words.specs.Lent.{fits}
-use Rattle.capi_words.proofs.Laws.{fits_go, fits_stop, fits_end, fits_short}
 use Rattle.capi_words.proofs.read.fits.Given as goal
 
 abbrev pub invariant-loop-i : goal.invariant-loop-i

@@ -1,6 +1,5 @@
 -- `capi_words::read::plan_in` meets its contract. Assumes nothing.
-use borrow.Author.Rules.{rules}
-use mathlib.Core.List.{[], ◌∷◌, ◌++◌}
+use mathlib.Core.List.{◌∷◌, ◌++◌}
 use Rattle.capi_words.specs.Structs.{plan_in, plan_front, vid_most, ec_most, most32}
 use Rattle.capi_words.proofs.Laws.{part_within}
 use Rattle.capi_words.proofs.read.plan_in.Goals as goal

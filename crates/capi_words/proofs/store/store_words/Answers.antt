@@ -1,10 +1,8 @@
 -- `capi_words::store_words` meets its contract: after i turns the first i words are stored. Assumes nothing.
 use mathlib.Core.Path.{◌≡◌, refl, ◌∙◌}
-use Prim.Native.Nat.{◌≤◌, ◌-◌}
+use Prim.Native.Nat.{◌-◌}
 use native.Mathlib.Omega.{arith}
-use borrow.Author.Rules.{rules}
-use mathlib.Core.List.{◌++◌}
-use lib.ListN.{length, take, drop, length-set}
+use lib.ListN.{length, length-set}
 use Rattle.capi_words.proofs.Laws.{store_more, store_all}
 use Rattle.capi_words.proofs.store.store_words.Goals as goal
 

@@ -1,11 +1,8 @@
 -- `capi_words::store_words` meets its contract: after i turns the first i words are stored. Assumes nothing.
-use mathlib.Core.Path.{◌≡◌, refl, ◌∙◌}
+use mathlib.Core.Path.{◌≡◌}
 use Prim.Native.Nat.{◌≤◌, ◌-◌}
-use native.Mathlib.Omega.{arith}
-use borrow.Author.Rules.{rules}
 use mathlib.Core.List.{◌++◌}
-use lib.ListN.{length, take, drop, length-set}
-use Rattle.capi_words.proofs.Laws.{store_more, store_all}
+use lib.ListN.{length, take, drop}
 use Rattle.capi_words.proofs.store.store_words.Given as goal
 
 abbrev pub invariant-loop-i : goal.invariant-loop-i

@@ -1,5 +1,4 @@
 -- `capi_words::write::plan_words` meets its contract. Assumes nothing.
-use borrow.Author.Rules.{rules}
 use mathlib.Core.Path.{refl}
 use Rattle.capi_words.specs.Structs.{plan_words}
 use Rattle.capi_words.proofs.write.plan_words.Goals as goal

@@ -1,5 +1,4 @@
 -- `capi_words::write::report_words` meets its contract. Assumes nothing.
-use borrow.Author.Rules.{rules}
 use Rattle.capi_words.specs.Structs.{report_words}
 use Rattle.capi_words.proofs.write.report_words.Goals as goal
 

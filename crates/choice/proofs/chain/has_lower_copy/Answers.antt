@@ -1,12 +1,12 @@
 -- `choice::chain::has_lower_copy` meets its contract: no PEB from `above` on has the LEB. Assumes nothing.
 use mathlib.Core.Path.{◌≡◌, sym, ◌∙◌}
 use mathlib.Core.Bool.{false}
-use Prim.Native.Nat.{◌≤◌, ◌<◌, ℕ}
+use Prim.Native.Nat.{ℕ}
 use native.Mathlib.Omega.{arith}
 use borrow.Author.Rules.{rules}
 use Rattle.base.proofs.Below.{any_intro, none_intro}
 use Rattle.choice.specs.Keyed.{same_leb}
-use Rattle.choice.proofs.Chains.{Along, along_from, along_next, walk_on, walk_end, other_leb}
+use Rattle.choice.proofs.Chains.{along_from, along_next, walk_on, walk_end, other_leb}
 use Rattle.choice.proofs.chain.has_lower_copy.Goals as goal
 
 abbrev Other : goal.Start → ℕ → Type 0

@@ -1,12 +1,9 @@
 -- `choice::chain::has_lower_copy` meets its contract: no PEB from `above` on has the LEB. Assumes nothing.
-use mathlib.Core.Path.{◌≡◌, sym, ◌∙◌}
+use mathlib.Core.Path.{◌≡◌}
 use mathlib.Core.Bool.{false}
 use Prim.Native.Nat.{◌≤◌, ◌<◌, ℕ}
-use native.Mathlib.Omega.{arith}
-use borrow.Author.Rules.{rules}
-use Rattle.base.proofs.Below.{any_intro, none_intro}
 use Rattle.choice.specs.Keyed.{same_leb}
-use Rattle.choice.proofs.Chains.{Along, along_from, along_next, walk_on, walk_end, other_leb}
+use Rattle.choice.proofs.Chains.{Along}
 use Rattle.choice.proofs.chain.has_lower_copy.Given as goal
 
 abbrev pub invariant-loop-j : goal.invariant-loop-j

@@ -5,14 +5,14 @@ use native.Mathlib.Omega.{arith}
 use borrow.Author.Rules.{rules}
 use lib.Dec.{lit≤}
 use lib.ListN.{length}
-use Rattle.choice.specs.Chain.{buckets, Chains}
+use Rattle.choice.specs.Chain.{buckets}
 use Rattle.choice.proofs.Chains.{relinked_none, chains_on, no_heads}
 use Rattle.choice.proofs.chain.link_copies.Goals as goal
 
 pub loop-i-init : goal.loop-i-init
 loop-i-init c =
     let sized : length c.fill_words.new.words ≡ length c.args.heads.now = search rules in
-        let h = sized in (
+    let h = sized in (
       omega arith,
       record {
         chained = no_heads c.args.heads.now buckets c.fill_words.ensures h (lit≤ tt) c.requires.1.1 c.requires.0
@@ -42,6 +42,6 @@ shape_of-heads c =
 pub returns : goal.returns
 returns c =
     let sized : length c.fill_words.new.words ≡ length c.args.heads.now = search rules in
-        let e : c.loop-i.i ≡ c.args.n = omega arith in
+    let e : c.loop-i.i ≡ c.args.n = omega arith in
     let o = rw e at c.loop-i.invariant.1 in
     record { chained = o.chained; relinked = o.relinked; heads_size = o.heads_size ∙ sized }

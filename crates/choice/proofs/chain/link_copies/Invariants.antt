@@ -1,12 +1,6 @@
 -- `choice::chain::link_copies` meets its contract: the PEBs passed are linked. Assumes nothing.
-use mathlib.Core.Path.{◌≡◌, refl, ◌∙◌}
 use Prim.Native.Nat.{◌≤◌, ◌-◌}
-use native.Mathlib.Omega.{arith}
-use borrow.Author.Rules.{rules}
-use lib.Dec.{lit≤}
-use lib.ListN.{length}
-use Rattle.choice.specs.Chain.{buckets, Chains}
-use Rattle.choice.proofs.Chains.{relinked_none, chains_on, no_heads}
+use Rattle.choice.specs.Chain.{Chains}
 use Rattle.choice.proofs.chain.link_copies.Given as goal
 
 abbrev pub invariant-loop-i : goal.invariant-loop-i

@@ -1,6 +1,5 @@
 -- `choice::chain::link_peb` meets its contract. Assumes nothing.
 use mathlib.Core.Path.{sym, ap₂, ◌∙◌}
-use borrow.Author.Rules.{rules}
 use Rattle.choice.specs.Chain.{bucket_of}
 use Rattle.choice.proofs.Chains.{chain_other, chain_copy}
 use Rattle.choice.proofs.chain.link_peb.Goals as goal

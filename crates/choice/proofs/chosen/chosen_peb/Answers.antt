@@ -4,10 +4,9 @@ use mathlib.Core.Path.{sym, ◌∙◌}
 use mathlib.Core.Logic.{inl, inr}
 use native.Mathlib.Omega.{arith}
 use Rattle.copies.proofs.Copies.{sequence_fits}
-use Rattle.choice.specs.Keyed.{sequence_at}
 use Rattle.choice.proofs.Words.{within}
 use Rattle.choice.proofs.Chains.{head_near}
-use Rattle.choice.proofs.ChosenCopy.{NoneAbove, has_copy, chosen_here, highest_met, next_met, lowest}
+use Rattle.choice.proofs.ChosenCopy.{has_copy, chosen_here, highest_met, next_met, lowest}
 use Rattle.choice.proofs.chosen.chosen_peb.Goals as goal
 
 pub head-top-requires : goal.head-top-requires
@@ -67,11 +66,10 @@ is_sound-requires c =
     }
 
 pub returns-then-is_sound : goal.returns-then-is_sound
-returns-then-is_sound c =
-    (
-      chosen_here c.requires.0 c.loop-g.invariant (inl (sym c.is_sound.ensures ∙ c.if-is_sound.true)),
-      c.loop-g.invariant.below,
-    )
+returns-then-is_sound c = (
+  chosen_here c.requires.0 c.loop-g.invariant (inl (sym c.is_sound.ensures ∙ c.if-is_sound.true)),
+  c.loop-g.invariant.below,
+)
 
 pub loop-g-smaller : goal.loop-g-smaller
 loop-g-smaller c =

@@ -1,13 +1,7 @@
 -- `choice::chosen::chosen_peb` meets its contract: no copy above the one at hand is sound, and each turn lowers its
 -- sequence. Assumes nothing.
-use mathlib.Core.Path.{sym, ◌∙◌}
-use mathlib.Core.Logic.{inl, inr}
-use native.Mathlib.Omega.{arith}
-use Rattle.copies.proofs.Copies.{sequence_fits}
 use Rattle.choice.specs.Keyed.{sequence_at}
-use Rattle.choice.proofs.Words.{within}
-use Rattle.choice.proofs.Chains.{head_near}
-use Rattle.choice.proofs.ChosenCopy.{NoneAbove, has_copy, chosen_here, highest_met, next_met, lowest}
+use Rattle.choice.proofs.ChosenCopy.{NoneAbove}
 use Rattle.choice.proofs.chosen.chosen_peb.Given as goal
 
 abbrev pub invariant-loop-g : goal.invariant-loop-g

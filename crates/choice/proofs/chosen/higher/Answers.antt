@@ -1,6 +1,6 @@
 -- `choice::chosen::higher` meets its contract. Assumes nothing.
 use native.Mathlib.Omega.{arith}
-use borrow.Author.Tests.{eq-eqb, ne_eqb, lt-ltb, le-ltb, le-leb, lt-leb, not-true, not-false}
+use borrow.Author.Tests.{eq-eqb, ne_eqb, lt-ltb, le-ltb, le-leb, lt-leb, not-false}
 use Rattle.choice.proofs.Words.{within}
 use Rattle.choice.proofs.chosen.higher.Goals as goal
 

@@ -1,9 +1,6 @@
 -- `choice::chosen::highest_up_to` meets its contract: `best` is the highest from `above` on. Assumes nothing.
-use native.Mathlib.Omega.{arith}
-use borrow.Author.Rules.{rules}
 use Rattle.choice.specs.Keyed.{Highest}
-use Rattle.choice.proofs.Chains.{Along, along_next}
-use Rattle.choice.proofs.ChosenCopy.{highest_none, highest_more, highest_all}
+use Rattle.choice.proofs.Chains.{Along}
 use Rattle.choice.proofs.chosen.highest_up_to.Given as goal
 
 abbrev pub invariant-loop-j : goal.invariant-loop-j

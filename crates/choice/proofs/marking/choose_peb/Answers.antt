@@ -1,7 +1,6 @@
 -- `choice::marking::choose_peb` meets its contract. Assumes nothing.
 use mathlib.Core.Path.{refl, sym, ◌∙◌}
 use native.Mathlib.Omega.{arith}
-use borrow.Author.Rules.{rules}
 use Rattle.choice.proofs.Marks.{marked_other, marked_lower, marked_one}
 use Rattle.choice.proofs.marking.choose_peb.Goals as goal
 

@@ -1,13 +1,10 @@
 -- `choice::marking::mark_chosen` meets its contract: the LEBs of the PEBs passed are marked. Assumes nothing.
-use mathlib.Core.Path.{◌≡◌, refl, ◌∙◌}
+use mathlib.Core.Path.{◌≡◌}
 use Prim.Native.Nat.{◌≤◌, ◌-◌}
-use native.Mathlib.Omega.{arith}
-use borrow.Author.Rules.{rules}
 use lib.ListN.{length, drop}
 use Rattle.words.specs.Words.{peb_words_needed}
 use Rattle.report.specs.View.{medium_of}
 use Rattle.choice.specs.Marking.{MarkedTo}
-use Rattle.choice.proofs.Marks.{marked_all}
 use Rattle.choice.proofs.marking.mark_chosen.Given as goal
 
 abbrev pub invariant-loop-i : goal.invariant-loop-i

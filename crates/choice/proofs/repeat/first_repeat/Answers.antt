@@ -1,6 +1,6 @@
 -- `choice::repeat::first_repeat` meets its contract: the PEBs passed repeat no lower one. Assumes nothing.
 use mathlib.Core.Path.{◌≡◌}
-use Prim.Native.Nat.{◌≤◌, ◌<◌, ◌-◌, ℕ}
+use Prim.Native.Nat.{◌-◌, ℕ}
 use native.Mathlib.Omega.{arith}
 use borrow.Author.Rules.{rules}
 use mathlib.Core.Bool.{false}
@@ -10,7 +10,7 @@ use Rattle.report.specs.View.{views_of, copies}
 use Rattle.report.specs.Choice.{repeats}
 use Rattle.base.proofs.Below.{one_more}
 use Rattle.choice.proofs.Words.{within, repeats_told}
-use Rattle.choice.proofs.Chains.{Along, along_from, along_next, walk_on, walk_end, other_copy}
+use Rattle.choice.proofs.Chains.{along_from, along_next, walk_on, walk_end, other_copy}
 use Rattle.choice.proofs.Repeats.{Fresh, no_repeat, a_repeat}
 use Rattle.choice.proofs.repeat.first_repeat.Goals as goal
 

@@ -1,17 +1,8 @@
 -- `choice::repeat::first_repeat` meets its contract: the PEBs passed repeat no lower one. Assumes nothing.
-use mathlib.Core.Path.{◌≡◌}
 use Prim.Native.Nat.{◌≤◌, ◌<◌, ◌-◌, ℕ}
-use native.Mathlib.Omega.{arith}
-use borrow.Author.Rules.{rules}
-use mathlib.Core.Bool.{false}
-use mathlib.Core.List.{List}
-use Rattle.geometry.specs.declared.Geometry.{Geometry}
 use Rattle.report.specs.View.{views_of, copies}
-use Rattle.report.specs.Choice.{repeats}
-use Rattle.base.proofs.Below.{one_more}
-use Rattle.choice.proofs.Words.{within, repeats_told}
-use Rattle.choice.proofs.Chains.{Along, along_from, along_next, walk_on, walk_end, other_copy}
-use Rattle.choice.proofs.Repeats.{Fresh, no_repeat, a_repeat}
+use Rattle.choice.proofs.Chains.{Along}
+use Rattle.choice.proofs.Repeats.{Fresh}
 use Rattle.choice.proofs.repeat.first_repeat.Given as goal
 
 abbrev pub invariant-loop-j : goal.invariant-loop-j

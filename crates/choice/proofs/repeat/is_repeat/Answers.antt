@@ -1,6 +1,5 @@
 -- `choice::repeat::is_repeat` meets its contract. Assumes nothing.
-use borrow.Author.Rules.{rules}
-use borrow.Author.Tests.{eq-eqb, ne_eqb, not-true, not-false}
+use borrow.Author.Tests.{eq-eqb, ne_eqb}
 use Rattle.choice.proofs.repeat.is_repeat.Goals as goal
 
 pub returns-then-volume_word : goal.returns-then-volume_word

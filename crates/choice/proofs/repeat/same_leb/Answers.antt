@@ -1,6 +1,5 @@
 -- `choice::repeat::same_leb` meets its contract. Assumes nothing.
 use mathlib.Core.Bool.{and-true, and-false}
-use borrow.Author.Rules.{rules}
 use borrow.Author.Tests.{eq-eqb, ne_eqb}
 use Rattle.choice.proofs.repeat.same_leb.Goals as goal
 

@@ -4,7 +4,6 @@ use Rattle.crc32.specs.Crc.{crc_from}
 use Prim.Native.Nat.{ℕ}
 use native.Mathlib.Omega.{arith}
 use mathlib.Core.Path.{ap, ◌∙◌}
-use borrow.Author.Rules.{rules}
 use Rattle.crc32.proofs.fold.by_folding.Goals as goal
 
 pub returns : goal.returns

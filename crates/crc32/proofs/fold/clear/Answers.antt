@@ -2,11 +2,10 @@
 use Rattle.crc32.proofs.Pending.{clear_turn}
 use Rattle.crc32.specs.Fold.{zeros}
 use mathlib.Core.Path.{◌≡◌, sym}
-use Prim.Native.Nat.{◌+◌, ◌-◌, ◌≤◌}
+use Prim.Native.Nat.{◌-◌}
 use native.Mathlib.Omega.{arith}
-use lib.ListN.{length, take, length-set}
-use mathlib.Core.List.{◌++◌, append-nil}
-use borrow.Author.Rules.{rules}
+use lib.ListN.{take, length-set}
+use mathlib.Core.List.{append-nil}
 use Rattle.crc32.proofs.fold.clear.Goals as goal
 
 pub loop-j-init : goal.loop-j-init

@@ -1,12 +1,9 @@
 -- `crc32::fold::clear` meets its contract: zeros from the 137th word on. Assumes nothing.
-use Rattle.crc32.proofs.Pending.{clear_turn}
 use Rattle.crc32.specs.Fold.{zeros}
-use mathlib.Core.Path.{◌≡◌, sym}
+use mathlib.Core.Path.{◌≡◌}
 use Prim.Native.Nat.{◌+◌, ◌-◌, ◌≤◌}
-use native.Mathlib.Omega.{arith}
-use lib.ListN.{length, take, length-set}
-use mathlib.Core.List.{◌++◌, append-nil}
-use borrow.Author.Rules.{rules}
+use lib.ListN.{length, take}
+use mathlib.Core.List.{◌++◌}
 use Rattle.crc32.proofs.fold.clear.Given as goal
 
 abbrev pub invariant-loop-j : goal.invariant-loop-j

@@ -1,13 +1,8 @@
 -- `crc32::fold::fold_block` meets its contract: what is pending now, with the rest of the bytes, gives the whole.
 -- Assumes nothing.
 use mathlib.Core.Path.{◌≡◌, refl, ◌∙◌}
-use Prim.Native.Nat.{◌*◌, ◌%◌, ◌-◌, ◌≤◌}
+use Prim.Native.Nat.{◌-◌}
 use native.Mathlib.Omega.{arith}
-use lib.ListN.{length, drop}
-use Rattle.base.specs.Lists.{part}
-use Rattle.crc32.specs.Crc.{crc_from}
-use Rattle.crc32.specs.Fold.{exponents, pending}
-use borrow.Author.Rules.{rules}
 use Rattle.crc32.proofs.fold.fold_block.Goals as goal
 
 pub loop-j-init : goal.loop-j-init

@@ -1,13 +1,11 @@
 -- `crc32::fold::fold_block` meets its contract: what is pending now, with the rest of the bytes, gives the whole.
 -- Assumes nothing.
-use mathlib.Core.Path.{◌≡◌, refl, ◌∙◌}
+use mathlib.Core.Path.{◌≡◌}
 use Prim.Native.Nat.{◌*◌, ◌%◌, ◌-◌, ◌≤◌}
-use native.Mathlib.Omega.{arith}
 use lib.ListN.{length, drop}
 use Rattle.base.specs.Lists.{part}
 use Rattle.crc32.specs.Crc.{crc_from}
 use Rattle.crc32.specs.Fold.{exponents, pending}
-use borrow.Author.Rules.{rules}
 use Rattle.crc32.proofs.fold.fold_block.Given as goal
 
 abbrev pub invariant-loop-j : goal.invariant-loop-j

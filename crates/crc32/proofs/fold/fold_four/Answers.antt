@@ -1,7 +1,6 @@
 -- `crc32::fold::fold_four` meets its contract. Assumes nothing.
 use Rattle.crc32.proofs.Folding.{fold_turn}
 use lib.ListN.{length-set}
-use borrow.Author.Rules.{rules}
 use Rattle.crc32.proofs.fold.fold_four.Goals as goal
 
 pub returns : goal.returns

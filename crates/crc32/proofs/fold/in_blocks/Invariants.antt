@@ -1,15 +1,9 @@
 -- `crc32::fold::in_blocks` meets its contract. Assumes nothing.
-use Rattle.crc32.proofs.Folding.{block_done}
-use Rattle.crc32.proofs.Pending.{cleared}
 use Rattle.crc32.specs.Fold.{exponents, pending}
-use lib.ListN.{length, drop, take, length-drop}
-use lib.Seq.{length-take-le}
-use Rattle.base.proofs.Lists.{to_end_lem}
+use lib.ListN.{length, drop, take}
 use Rattle.crc32.specs.Crc.{crc_from}
-use native.Mathlib.Omega.{arith}
 use Prim.Native.Nat.{◌+◌, ◌-◌, ◌≤◌}
-use mathlib.Core.Path.{◌≡◌, refl, ap₂, ◌∙◌}
-use borrow.Author.Rules.{rules}
+use mathlib.Core.Path.{◌≡◌}
 use Rattle.crc32.proofs.fold.in_blocks.Given as goal
 
 abbrev pub invariant-loop-i : goal.invariant-loop-i

@@ -5,13 +5,11 @@ use Rattle.crc32.proofs.Pending.{pending_end}
 use Rattle.base.specs.Lists.{Bytes}
 use Rattle.base.proofs.Lists.{to_end_lem}
 use mathlib.Core.Path.{◌≡◌, refl, ◌∙◌}
-use Prim.Native.Nat.{◌+◌, ◌*◌, ◌%◌, ◌-◌, ◌≤◌}
+use Prim.Native.Nat.{◌+◌, ◌-◌}
 use native.Mathlib.Omega.{arith}
-use lib.ListN.{drop, take}
+use lib.ListN.{take}
 use lib.Bits.{bit_xor, xor_zero_l, xor_zero_r}
-use Rattle.crc32.specs.Crc.{crc_bits, crc_from}
-use Rattle.crc32.specs.Fold.{exponents, pending}
-use borrow.Author.Rules.{rules}
+use Rattle.crc32.specs.Crc.{crc_bits}
 use Rattle.crc32.proofs.fold.reduce.Goals as goal
 
 pub loop-j-init : goal.loop-j-init

@@ -1,17 +1,11 @@
 -- `crc32::fold::reduce` meets its contract: what is pending now, with the rest of the bytes, gives the whole. Assumes
 -- nothing.
-use Rattle.crc32.proofs.Folding.{reduce_turn}
-use Rattle.crc32.proofs.Pending.{pending_end}
-use Rattle.base.specs.Lists.{Bytes}
-use Rattle.base.proofs.Lists.{to_end_lem}
-use mathlib.Core.Path.{◌≡◌, refl, ◌∙◌}
-use Prim.Native.Nat.{◌+◌, ◌*◌, ◌%◌, ◌-◌, ◌≤◌}
-use native.Mathlib.Omega.{arith}
+use mathlib.Core.Path.{◌≡◌}
+use Prim.Native.Nat.{◌*◌, ◌%◌, ◌-◌, ◌≤◌}
 use lib.ListN.{drop, take}
-use lib.Bits.{bit_xor, xor_zero_l, xor_zero_r}
-use Rattle.crc32.specs.Crc.{crc_bits, crc_from}
+use lib.Bits.{bit_xor}
+use Rattle.crc32.specs.Crc.{crc_from}
 use Rattle.crc32.specs.Fold.{exponents, pending}
-use borrow.Author.Rules.{rules}
 use Rattle.crc32.proofs.fold.reduce.Given as goal
 
 abbrev pub invariant-loop-j : goal.invariant-loop-j

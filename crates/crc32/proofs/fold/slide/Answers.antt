@@ -1,11 +1,9 @@
 -- `crc32::fold::slide` meets its contract. Assumes nothing.
 use Rattle.crc32.proofs.Pending.{slide_low, slide_rest}
 use mathlib.Core.Path.{◌≡◌, refl}
-use Prim.Native.Nat.{◌-◌, ◌≤◌}
+use Prim.Native.Nat.{◌-◌}
 use native.Mathlib.Omega.{arith}
-use lib.ListN.{length, take, drop, length-set}
-use Rattle.base.specs.Lists.{part}
-use borrow.Author.Rules.{rules}
+use lib.ListN.{length-set}
 use Rattle.crc32.proofs.fold.slide.Goals as goal
 
 pub loop-j-init : goal.loop-j-init

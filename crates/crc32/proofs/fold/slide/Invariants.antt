@@ -1,11 +1,8 @@
 -- `crc32::fold::slide` meets its contract. Assumes nothing.
-use Rattle.crc32.proofs.Pending.{slide_low, slide_rest}
-use mathlib.Core.Path.{◌≡◌, refl}
+use mathlib.Core.Path.{◌≡◌}
 use Prim.Native.Nat.{◌-◌, ◌≤◌}
-use native.Mathlib.Omega.{arith}
-use lib.ListN.{length, take, drop, length-set}
+use lib.ListN.{length, take, drop}
 use Rattle.base.specs.Lists.{part}
-use borrow.Author.Rules.{rules}
 use Rattle.crc32.proofs.fold.slide.Given as goal
 
 abbrev pub invariant-loop-j : goal.invariant-loop-j

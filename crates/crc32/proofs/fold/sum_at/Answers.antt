@@ -4,7 +4,6 @@ use lib.ListN.{get_or}
 use native.Mathlib.Nat.{mod-eq_of_lt}
 use native.Mathlib.Omega.{arith}
 use Prim.Native.Nat.{◌+◌, ◌^◌, ◌<◌}
-use borrow.Author.Rules.{rules}
 use Rattle.crc32.proofs.fold.sum_at.Goals as goal
 
 pub returns : goal.returns

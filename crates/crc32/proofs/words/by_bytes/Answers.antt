@@ -2,13 +2,12 @@
 -- nothing.
 use Rattle.crc32.proofs.LookUp.{two_halves}
 use mathlib.Core.Path.{◌∙◌, ◌≡◌}
-use Prim.Native.Nat.{◌≤◌, ◌-◌}
+use Prim.Native.Nat.{◌-◌}
 use native.Mathlib.Omega.{arith}
-use lib.ListN.{length, drop}
+use lib.ListN.{length}
 use lib.Seq.{drop-length}
 use Rattle.crc32.specs.Crc.{crc_from}
 use Rattle.crc32.proofs.Laws.{crc_from_step}
-use borrow.Author.Rules.{rules}
 use Rattle.crc32.proofs.words.by_bytes.Goals as goal
 
 pub loop-i-preserved : goal.loop-i-preserved

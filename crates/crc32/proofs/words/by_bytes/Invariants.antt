@@ -1,14 +1,9 @@
 -- `crc32::words::by_bytes` meets its contract: the rest of the bytes, from the state now, gives the whole. Assumes
 -- nothing.
-use Rattle.crc32.proofs.LookUp.{two_halves}
-use mathlib.Core.Path.{◌∙◌, ◌≡◌}
+use mathlib.Core.Path.{◌≡◌}
 use Prim.Native.Nat.{◌≤◌, ◌-◌}
-use native.Mathlib.Omega.{arith}
 use lib.ListN.{length, drop}
-use lib.Seq.{drop-length}
 use Rattle.crc32.specs.Crc.{crc_from}
-use Rattle.crc32.proofs.Laws.{crc_from_step}
-use borrow.Author.Rules.{rules}
 use Rattle.crc32.proofs.words.by_bytes.Given as goal
 
 abbrev pub invariant-loop-i : goal.invariant-loop-i

@@ -1,12 +1,8 @@
 -- `crc32::words::by_words` meets its contract. Assumes nothing.
-use Rattle.crc32.proofs.LookUp.{crc_from_three}
 use Rattle.crc32.specs.Crc.{crc_from}
-use Rattle.base.proofs.Lists.{to_end_lem}
 use lib.ListN.{length, drop}
-use native.Mathlib.Omega.{arith}
 use Prim.Native.Nat.{◌≤◌, ◌-◌}
-use mathlib.Core.Path.{◌≡◌, ◌∙◌}
-use borrow.Author.Rules.{rules}
+use mathlib.Core.Path.{◌≡◌}
 use Rattle.crc32.proofs.words.by_words.Given as goal
 
 abbrev pub invariant-loop-i : goal.invariant-loop-i

@@ -2,7 +2,6 @@
 use Prim.Native.Nat.{◌%◌}
 use native.Mathlib.Omega.{arith}
 use Rattle.crc32.proofs.LookUp.{table_rule}
-use borrow.Author.Rules.{rules}
 use Rattle.crc32.proofs.words.entry.Goals as goal
 
 pub returns : goal.returns

@@ -2,13 +2,12 @@
 -- Assumes nothing.
 use Rattle.crc32.proofs.Sparse.{crc_bits_zero}
 use lib.Pow.{shr_lt}
-use lib.Bits.{xor_zero_l, xor_zero_r, bit_xor}
-use Prim.Native.Nat.{◌-◌, ◌+◌, ◌*◌, ◌^◌, ◌≤◌, ◌<◌}
+use lib.Bits.{xor_zero_l, xor_zero_r}
+use Prim.Native.Nat.{◌-◌, ◌+◌, ◌*◌}
 use mathlib.Core.Path.{◌∙◌, ◌≡◌}
 use native.Mathlib.Omega.{arith}
 use Rattle.crc32.specs.Crc.{crc_bits}
 use Rattle.crc32.proofs.LookUp.{nibble_more}
-use borrow.Author.Rules.{rules}
 use Rattle.crc32.proofs.words.four.Goals as goal
 
 pub loop-k-init : goal.loop-k-init

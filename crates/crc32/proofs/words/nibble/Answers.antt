@@ -1,7 +1,6 @@
 -- `crc32::words::nibble` meets its contract. Assumes nothing.
 use mathlib.Core.Path.{sym, ◌∙◌}
 use Rattle.crc32.proofs.Laws.{crc_bits_split}
-use borrow.Author.Rules.{rules}
 use Rattle.crc32.proofs.words.nibble.Goals as goal
 
 pub returns : goal.returns

@@ -1,7 +1,6 @@
 -- `crc32::words::read_four` meets its contract. Assumes nothing.
 use native.Mathlib.Omega.{arith}
 use Rattle.crc32.proofs.LookUp.{four_at}
-use borrow.Author.Rules.{rules}
 use Rattle.crc32.proofs.words.read_four.Goals as goal
 
 pub returns : goal.returns

@@ -1,6 +1,5 @@
 -- `crc32::words::three` meets its contract. Assumes nothing.
 use Rattle.crc32.proofs.LookUp.{three_words}
-use borrow.Author.Rules.{rules}
 use Rattle.crc32.proofs.words.three.Goals as goal
 
 pub returns : goal.returns

@@ -1,7 +1,6 @@
 -- `geometry::image::image_fits` meets its contract. Assumes nothing.
 use mathlib.Core.Path.{sym}
 use mathlib.Core.Bool.{and-true}
-use borrow.Author.Rules.{rules}
 use borrow.Author.Tests.{eq-eqb, ne_eqb, lt-leb, le-leb}
 use Rattle.base.proofs.Answers.{one_broken}
 use Rattle.geometry.specs.Image.{image_rules}

@@ -3,10 +3,9 @@
 use mathlib.Core.Path.{◌≡◌}
 use Prim.Native.Nat.{◌<◌}
 use native.Mathlib.Omega.{arith}
-use borrow.Author.Rules.{rules}
 use mathlib.Core.Bool.{true}
 use borrow.Author.Tests.{lt-leb, ne_eqb}
-use Rattle.base.proofs.Answers.{value_is, was_false, was_true}
+use Rattle.base.proofs.Answers.{value_is}
 use Rattle.geometry.specs.Geometry.{good_unit, geometry_rules}
 use Rattle.geometry.proofs.Laws.{unit_range, outside, inside, too_short}
 use Rattle.geometry.proofs.rules.check_geometry.Goals as goal
@@ -69,7 +68,7 @@ round_up-data_start-requires c =
     let unit-good : good_unit c.args.unit ≡ true = value_is c.is_unit.ensures c.if-not-is_unit.false in
     let unit-small : (0 < c.args.unit) ×
     (c.args.unit < 8192) = unit_range c.args.unit unit-good in
-        omega (arith, sub-unit-small, unit-small)
+    omega (arith, sub-unit-small, unit-small)
 
 pub overflow_add-data_start : goal.overflow_add-data_start
 overflow_add-data_start c =
@@ -78,7 +77,7 @@ overflow_add-data_start c =
     let unit-good : good_unit c.args.unit ≡ true = value_is c.is_unit.ensures c.if-not-is_unit.false in
     let unit-small : (0 < c.args.unit) ×
     (c.args.unit < 8192) = unit_range c.args.unit unit-good in
-        omega (arith, sub-unit-small, unit-small)
+    omega (arith, sub-unit-small, unit-small)
 
 pub returns-then-peb_size-data_start : goal.returns-then-peb_size-data_start
 returns-then-peb_size-data_start c =
@@ -90,7 +89,7 @@ pub returns : goal.returns
 returns c =
     let sub-unit-good : good_unit c.args.sub_unit ≡ true = value_is c.is_unit-2.ensures c.if-not-is_unit-2.false in
     let unit-good : good_unit c.args.unit ≡ true = value_is c.is_unit.ensures c.if-not-is_unit.false in
-        let a = c.args in
+    let a = c.args in
     inside a.peb_size a.unit a.sub_unit c.round_up-vid_start.result c.round_up-data_start.result
     unit-good sub-unit-good c.if-unit-sub_unit.false c.if-peb_size-lt1024.false c.if-peb_size-gt262144.false
     c.if-peb_size-unit-ne0.false c.round_up-vid_start.ensures.0 c.round_up-data_start.ensures.0

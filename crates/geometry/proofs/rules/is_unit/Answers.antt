@@ -1,13 +1,11 @@
 -- `geometry::rules::is_unit` meets its contract: no power of two below the k-th is n. Assumes nothing.
 use mathlib.Core.Path.{◌≡◌, sym}
-use Prim.Native.Nat.{ℕ, ◌≤◌, ◌-◌, ◌+◌, ◌*◌, ◌^◌}
+use Prim.Native.Nat.{◌-◌, ◌+◌, ◌*◌, ◌^◌}
 use native.Mathlib.Omega.{arith}
-use borrow.Author.Rules.{rules}
 use native.Mathlib.Nat.{pow-suc, pow-le-pow_right}
 use native.Mathlib.Numerals.{add-one}
 use mathlib.Core.Bool.{false}
-use lib.Dec.{eqb, lit<}
-use Rattle.base.specs.Below.{any_below}
+use lib.Dec.{lit<}
 use Rattle.geometry.specs.Geometry.{good_unit}
 use Rattle.geometry.proofs.Laws.{power_more, power_found}
 use Rattle.geometry.proofs.rules.is_unit.Goals as goal

@@ -1,7 +1,6 @@
 -- `geometry::rules::round_up` meets its contract. Assumes nothing.
 use mathlib.Core.Path.{refl}
 use native.Mathlib.Omega.{arith}
-use borrow.Author.Rules.{rules}
 use Rattle.geometry.specs.Geometry.{round_up}
 use Rattle.geometry.proofs.Laws.{round_below}
 use Rattle.geometry.proofs.rules.round_up.Goals as goal

@@ -1,7 +1,6 @@
 -- `geometry::slip::ends_at` meets its contract. Assumes nothing.
 use mathlib.Core.Path.{◌∙◌}
 use native.Mathlib.Omega.{arith}
-use borrow.Author.Rules.{rules}
 use lib.ListN.{drop_of_length-le}
 use Rattle.base.specs.Lists.{eqs}
 use Rattle.base.proofs.Lists.{to_end_lem}

@@ -1,8 +1,7 @@
 -- `geometry::slip::has_head` meets its contract: one field that is not the next one of a head is enough. Assumes
 -- nothing.
-use borrow.Author.Rules.{rules}
 use borrow.Author.Tests.{lt-leb}
-use Rattle.base.proofs.Answers.{value_is, was_false, was_true}
+use Rattle.base.proofs.Answers.{value_is}
 use Rattle.field.specs.Be.{to_be_on}
 use Rattle.geometry.specs.Slip.{has_field, head_rules}
 use Rattle.geometry.proofs.Laws.{no_head, last_field}

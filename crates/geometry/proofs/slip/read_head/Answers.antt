@@ -3,10 +3,9 @@ use mathlib.Core.Path.{◌≡◌, ◌∙◌}
 use mathlib.Core.Bool.{true}
 use Prim.Native.Nat.{◌≤◌}
 use native.Mathlib.Omega.{arith}
-use borrow.Author.Rules.{rules}
 use lib.ListN.{length}
 use Rattle.base.specs.Answers.{all_of}
-use Rattle.base.proofs.Answers.{value_is, was_false, was_true}
+use Rattle.base.proofs.Answers.{value_is}
 use Rattle.geometry.specs.Slip.{value_at, head_rules, head_read}
 use Rattle.geometry.proofs.Laws.{head_length}
 use Rattle.geometry.proofs.slip.read_head.Goals as goal
@@ -38,5 +37,5 @@ pub returns : goal.returns
 unfolding head_read value_at
 returns c =
     let headed : all_of (head_rules c.args.slip.now) ≡ true = value_is c.has_head.ensures c.if-not-has_head.false in
-        c.check_geometry.ensures
+    c.check_geometry.ensures
     ∙ rw (headed, c.read-peb_size.ensures.0, c.read-unit.ensures.0, c.read-sub_unit.ensures.0)

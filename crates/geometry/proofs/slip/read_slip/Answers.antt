@@ -1,7 +1,6 @@
 -- `geometry::slip::read_slip` meets its contract. Assumes nothing.
 use mathlib.Core.Path.{◌∙◌}
-use borrow.Author.Rules.{rules}
-use Rattle.base.proofs.Answers.{value_is, was_false, was_true}
+use Rattle.base.proofs.Answers.{value_is}
 use Rattle.geometry.proofs.Laws.{no_tail, head_decides}
 use Rattle.geometry.proofs.slip.read_slip.Goals as goal
 

@@ -1,5 +1,4 @@
 -- `header::fields::begin` meets its contract. Assumes nothing.
-use borrow.Author.Rules.{rules}
 use Rattle.header.specs.Stores.{header_begun}
 use Rattle.header.proofs.fields.begin.Goals as goal
 

@@ -1,5 +1,4 @@
 -- `header::fields::finish` meets its contract. Assumes nothing.
-use borrow.Author.Rules.{rules}
 use Rattle.header.specs.Stores.{crc_stored}
 use Rattle.header.proofs.fields.finish.Goals as goal
 

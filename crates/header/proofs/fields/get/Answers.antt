@@ -1,5 +1,4 @@
 -- `header::fields::get` meets its contract. Assumes nothing.
-use borrow.Author.Rules.{rules}
 use Rattle.header.proofs.fields.get.Goals as goal
 
 pub returns : goal.returns

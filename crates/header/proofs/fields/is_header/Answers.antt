@@ -1,6 +1,5 @@
 -- `header::fields::is_header` meets its contract. Assumes nothing.
-use borrow.Author.Rules.{rules}
-use Rattle.base.proofs.Answers.{value_is, was_false, was_true}
+use Rattle.base.proofs.Answers.{value_is}
 use Rattle.header.specs.Fields.{crc_matches}
 use Rattle.header.proofs.fields.is_header.Goals as goal
 

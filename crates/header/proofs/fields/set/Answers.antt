@@ -1,5 +1,4 @@
 -- `header::fields::set` meets its contract. Assumes nothing.
-use borrow.Author.Rules.{rules}
 use Rattle.header.proofs.fields.set.Goals as goal
 
 pub returns : goal.returns

@@ -1,6 +1,5 @@
 -- `listing::program::judge` meets its contract. Assumes nothing.
 use mathlib.Core.Path.{sym, ◌∙◌}
-use borrow.Author.Rules.{rules}
 use lib.Seq.{length-take-le}
 use Rattle.listing.proofs.Texts.{long_judged, short_judged, rest_is}
 use Rattle.listing.proofs.program.judge.Goals as goal

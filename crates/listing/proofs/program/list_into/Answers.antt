@@ -1,5 +1,4 @@
 -- `listing::program::list_into` meets its contract. Assumes nothing.
-use borrow.Author.Rules.{rules}
 use Rattle.listing.proofs.Texts.{listed_by}
 use Rattle.listing.proofs.program.list_into.Goals as goal
 

@@ -1,5 +1,4 @@
 -- `listing::program::slip_end` meets its contract. Assumes nothing.
-use borrow.Author.Rules.{rules}
 use Rattle.listing.proofs.Texts.{short_split}
 use Rattle.listing.proofs.program.slip_end.Goals as goal
 

@@ -1,5 +1,4 @@
 -- `listing::program::too_much_lem` meets its contract. Assumes nothing.
-use borrow.Author.Rules.{rules}
 use Rattle.listing.proofs.program.too_much.Goals as goal
 
 pub returns : goal.returns

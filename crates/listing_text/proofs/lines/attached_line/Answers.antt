@@ -1,5 +1,4 @@
 -- `listing_text::lines::attached_line` meets its contract. Assumes nothing.
-use borrow.Author.Rules.{rules}
 use Rattle.listing_text.proofs.Laws.{both_written}
 use Rattle.listing_text.proofs.lines.attached_line.Goals as goal
 

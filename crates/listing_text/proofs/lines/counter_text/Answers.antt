@@ -1,6 +1,5 @@
 -- `listing_text::lines::counter_text` meets its contract. Assumes nothing.
 use native.Mathlib.Omega.{arith}
-use borrow.Author.Rules.{rules}
 use borrow.Author.Tests.{eq-eqb, ne_eqb}
 use Rattle.words.specs.Words.{no_word}
 use Rattle.listing_text.specs.Text.{counter_text, labelled}

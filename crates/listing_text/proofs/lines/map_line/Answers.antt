@@ -1,6 +1,5 @@
 -- `listing_text::lines::map_line` meets its contract. Assumes nothing.
 use native.Mathlib.Omega.{arith}
-use borrow.Author.Rules.{rules}
 use Rattle.listing_text.proofs.Laws.{both_written}
 use Rattle.listing_text.specs.Text.{map_line, pair, labelled}
 use Rattle.listing_text.proofs.lines.map_line.Goals as goal

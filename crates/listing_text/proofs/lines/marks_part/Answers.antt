@@ -1,6 +1,5 @@
 -- `listing_text::lines::marks_part` meets its contract. Assumes nothing.
 use native.Mathlib.Omega.{arith}
-use borrow.Author.Rules.{rules}
 use Rattle.listing_text.proofs.Laws.{both_written}
 use Rattle.listing_text.specs.Text.{marks_part, pair, labelled}
 use Rattle.listing_text.proofs.lines.marks_part.Goals as goal

@@ -7,5 +7,8 @@ use Rattle.listing_text.proofs.lines.numbers_part.Goals as goal
 pub returns : goal.returns
 unfolding numbers_part pair labelled
 returns c =
-    record { text = both_written c.pair-a.ensures.text
-      c.pair.ensures.text; end = search rules }
+    record {
+      text = both_written c.pair-a.ensures.text
+          c.pair.ensures.text;
+      end = search rules;
+    }

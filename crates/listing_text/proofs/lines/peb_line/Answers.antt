@@ -1,6 +1,5 @@
 -- `listing_text::lines::peb_line` meets its contract. Assumes nothing.
 use native.Mathlib.Omega.{arith}
-use borrow.Author.Rules.{rules}
 use Rattle.listing_text.proofs.Laws.{both_written}
 use Rattle.listing_text.specs.Text.{peb_line, pair, labelled}
 use Rattle.listing_text.proofs.lines.peb_line.Goals as goal

@@ -1,11 +1,7 @@
 -- `listing_text::lines::peb_lines` meets its contract. Assumes nothing.
-use mathlib.Core.Path.{◌≡◌}
 use Prim.Native.Nat.{◌≤◌, ◌-◌, ◌+◌, ◌*◌}
-use native.Mathlib.Omega.{arith}
-use borrow.Author.Rules.{rules}
-use Rattle.listing_text.specs.Written.{Written, peb_line_at}
+use Rattle.listing_text.specs.Written.{Written}
 use Rattle.listing_text.specs.Text.{peb_lines}
-use Rattle.listing_text.proofs.Laws.{written_none, next_written, written_length}
 use Rattle.listing_text.proofs.lines.peb_lines.Given as goal
 
 abbrev pub invariant-loop-i : goal.invariant-loop-i

@@ -1,5 +1,4 @@
 -- `listing_text::lines::refused_line` meets its contract. Assumes nothing.
-use borrow.Author.Rules.{rules}
 use Rattle.listing_text.proofs.Laws.{both_written}
 use Rattle.listing_text.specs.Text.{refused_text, pair, labelled}
 use Rattle.listing_text.proofs.lines.refused_line.Goals as goal

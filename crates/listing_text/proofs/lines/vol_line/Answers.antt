@@ -1,6 +1,5 @@
 -- `listing_text::lines::vol_line` meets its contract. Assumes nothing.
 use native.Mathlib.Omega.{arith}
-use borrow.Author.Rules.{rules}
 use borrow.Author.Tests.{eq-eqb, ne_eqb}
 use Rattle.listing_text.proofs.Laws.{both_written, written_none}
 use Rattle.listing_text.specs.Text.{vol_line, pair, labelled}

@@ -1,9 +1,8 @@
 -- `listing_text::lines::vol_lines` meets its contract. Assumes nothing.
 use mathlib.Core.Path.{◌≡◌}
-use Prim.Native.Nat.{◌≤◌, ◌-◌, ◌+◌, ◌*◌}
+use Prim.Native.Nat.{◌-◌}
 use native.Mathlib.Omega.{arith}
-use borrow.Author.Rules.{rules}
-use Rattle.listing_text.specs.Written.{Written, vol_line_at}
+use Rattle.listing_text.specs.Written.{vol_line_at}
 use Rattle.listing_text.specs.Text.{vol_lines}
 use Rattle.listing_text.proofs.Laws.{written_none, next_written, written_length}
 use Rattle.listing_text.proofs.lines.vol_lines.Goals as goal

@@ -1,8 +1,6 @@
 -- `listing_text::text::render` meets its contract. Assumes nothing.
 use mathlib.Core.Path.{sym, ◌∙◌}
 use native.Mathlib.Omega.{arith}
-use borrow.Author.Rules.{rules}
-use borrow.Author.Tests.{not-true, not-false}
 use Rattle.report.specs.Attach.{lent, attached_answer}
 use Rattle.listing_text.proofs.Texts.{not_held, too_short, has_room_lem}
 use Rattle.listing_text.proofs.Laws.{written_length}

@@ -1,5 +1,4 @@
 -- `listing_text::text::report_held` meets its contract. Assumes nothing.
-use borrow.Author.Rules.{rules}
 use mathlib.Core.Bool.{and-false, and-true}
 use borrow.Author.Tests.{le-leb, lt-leb}
 use Rattle.listing_text.proofs.text.report_held.Goals as goal

@@ -1,6 +1,5 @@
 -- `listing_text::text::tables_hold` meets its contract. Assumes nothing.
 use mathlib.Core.Path.{sym, ap, ◌∙◌}
-use borrow.Author.Rules.{rules}
 use Rattle.report.specs.declared.Attached.{Attached}
 use Rattle.report.specs.Attach.{lent, attached_answer}
 use Rattle.listing_text.specs.Render.{tables_hold}

@@ -1,5 +1,4 @@
 -- `listing_text::text::write_report` meets its contract. Assumes nothing.
-use borrow.Author.Rules.{rules}
 use Rattle.listing_text.proofs.Laws.{both_written}
 use Rattle.listing_text.specs.Text.{report_text}
 use Rattle.listing_text.proofs.text.write_report.Goals as goal

@@ -1,7 +1,6 @@
 -- `listing_text::text::write_text` meets its contract. Assumes nothing.
 use mathlib.Core.Path.{◌≡◌, sym, subst}
 use mathlib.Core.Bool.{true}
-use borrow.Author.Rules.{rules}
 use Rattle.report.specs.declared.Attached.{Attached}
 use Rattle.report.specs.Attach.{lent, attached_answer}
 use Rattle.listing_text.specs.Text.{text_of}

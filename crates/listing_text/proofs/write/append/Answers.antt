@@ -2,7 +2,6 @@
 use mathlib.Core.Path.{sym}
 use Prim.Native.Nat.{◌-◌}
 use native.Mathlib.Omega.{arith}
-use borrow.Author.Rules.{rules}
 use Rattle.listing_text.proofs.Laws.{stored_whole, stored_part, stored_nothing}
 use lib.ListN.{length, length-take}
 use lib.Seq.{length-take-le}

@@ -1,6 +1,5 @@
 -- `listing_text::write::labelled` meets its contract. Assumes nothing.
 use native.Mathlib.Omega.{arith}
-use borrow.Author.Rules.{rules}
 use Rattle.listing_text.proofs.Laws.{both_written}
 use Rattle.listing_text.proofs.write.labelled.Goals as goal
 

@@ -1,6 +1,5 @@
 -- `listing_text::write::number` meets its contract. Assumes nothing.
 use native.Mathlib.Omega.{arith}
-use borrow.Author.Rules.{rules}
 use Rattle.listing_text.proofs.Laws.{number_written, decimal_short, twenty_digits}
 use Rattle.listing_text.proofs.write.number.Goals as goal
 

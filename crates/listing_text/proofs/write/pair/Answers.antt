@@ -5,5 +5,8 @@ use Rattle.listing_text.proofs.write.pair.Goals as goal
 
 pub returns : goal.returns
 returns c =
-    record { text = both_written c.labelled-after.ensures.text
-      c.labelled.ensures.text; end = search rules }
+    record {
+      text = both_written c.labelled-after.ensures.text
+          c.labelled.ensures.text;
+      end = search rules;
+    }

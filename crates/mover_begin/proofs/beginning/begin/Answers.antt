@@ -4,7 +4,6 @@ use native.Mathlib.Omega.{arith}
 use Rattle.report.specs.Attach.{request, lent, long_enough, attaching_into, attached_answer}
 use Rattle.mover_rules.specs.Begin.{beginning}
 use Rattle.mover_begin.proofs.Attached.{begins, begun, refused_too}
-use borrow.Author.Rules.{rules}
 use Rattle.mover_begin.proofs.beginning.begin.Goals as goal
 
 pub plan_move-requires : goal.plan_move-requires

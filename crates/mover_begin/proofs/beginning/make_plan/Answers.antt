@@ -1,5 +1,4 @@
 -- `mover_begin::beginning::make_plan` meets its contract. Assumes nothing.
-use borrow.Author.Rules.{rules}
 use Rattle.mover_begin.proofs.beginning.make_plan.Goals as goal
 
 pub returns : goal.returns

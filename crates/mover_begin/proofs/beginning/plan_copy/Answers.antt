@@ -2,7 +2,6 @@
 use mathlib.Core.Path.{sym, ap, ◌∙◌}
 use Rattle.mover_rules.specs.Begin.{begun_answer}
 use Rattle.mover_begin.proofs.Begins.{fits, mean_is, damaged_refused, target_refused, highest_refused, counter_refused, planned}
-use borrow.Author.Rules.{rules}
 use Rattle.mover_begin.proofs.beginning.plan_copy.Goals as goal
 
 pub examine-found-requires : goal.examine-found-requires

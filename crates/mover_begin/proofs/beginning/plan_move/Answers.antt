@@ -2,7 +2,6 @@
 use mathlib.Core.Path.{sym, ap, ◌∙◌}
 use Rattle.lookup.specs.Lookup.{place_answer}
 use Rattle.mover_begin.proofs.Begins.{read_only_refused, standing_refused, unmapped_refused, found_planned, found_copy}
-use borrow.Author.Rules.{rules}
 use Rattle.mover_begin.proofs.beginning.plan_move.Goals as goal
 
 pub returns-then-report : goal.returns-then-report

@@ -1,11 +1,8 @@
 -- `mover_checks::block::any_to_delete` meets its contract. Assumes nothing.
-use mathlib.Core.Path.{◌≡◌, sym, ◌∙◌}
+use mathlib.Core.Path.{◌≡◌}
 use Prim.Native.Nat.{◌≤◌, ◌<◌, ◌-◌}
-use native.Mathlib.Omega.{arith}
-use borrow.Author.Rules.{rules}
 use Prim.Native.Nat.{ℕ}
 use mathlib.Core.Bool.{false}
-use Rattle.base.proofs.Below.{one_more, none_intro, any_intro}
 use Rattle.report.specs.View.{views_of, copies}
 use Rattle.report.specs.Report.{is_internal}
 use Rattle.mover_checks.proofs.block.any_to_delete.Given as goal

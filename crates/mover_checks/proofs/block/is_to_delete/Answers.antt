@@ -3,7 +3,6 @@ use mathlib.Core.Path.{sym, ap, ◌∙◌}
 use Rattle.report.specs.View.{VidView, copy_of, good_vid}
 use Rattle.report.specs.Report.{is_internal}
 use Rattle.peb_scan.specs.Seen.{vid_seen}
-use borrow.Author.Rules.{rules}
 use Rattle.mover_checks.proofs.block.is_to_delete.Goals as goal
 
 pub returns-in-Good : goal.returns-in-Good

@@ -3,7 +3,6 @@ use mathlib.Core.Path.{◌∙◌}
 use Rattle.report.specs.View.{medium_of}
 use Rattle.mover_rules.proofs.Bounds.{counter_most}
 use Rattle.mover_checks.proofs.Words.{counter_lost, counter_there}
-use borrow.Author.Rules.{rules}
 use Rattle.mover_checks.proofs.block.old_counter.Goals as goal
 
 pub returns-then-counter : goal.returns-then-counter

@@ -1,12 +1,8 @@
 -- `mover_steps::step_finish::finish` meets its contract. Assumes nothing.
 use native.Mathlib.Omega.{arith}
-use mathlib.Core.Path.{◌≡◌, refl, sym, ap, ◌∙◌}
+use mathlib.Core.Path.{refl, sym, ap, ◌∙◌}
 use Prim.Native.Nat.{◌-◌}
-use borrow.Author.Rules.{rules}
-use lib.ListN.{length}
-use Rattle.job.specs.Course.{finishing}
 use Rattle.job.proofs.Finish.{fewer, finish_on, finish_last}
-use Rattle.mover_rules.specs.Write.{step_count}
 use Rattle.mover_rules.specs.Step.{mover_job, stepped_answer}
 use Rattle.mover_rules.proofs.Steps.{mover_lawful}
 use mathlib.Core.Logic.{inl, inr}
@@ -24,8 +20,7 @@ loop-next-smaller c =
 
 pub loop-next-preserved : goal.loop-next-preserved
 loop-next-preserved c =
-    let l = c.loop-next in
-    (
+    let l = c.loop-next in (
       omega arith,
       finish_on mover_job mover_lawful l.p c.in-On.next l.image (sym (ap stepped_answer c.in-On.is) ∙ c.step-s.ensures.answer)
           c.step-s.ensures.image

@@ -1,14 +1,10 @@
 -- `mover_steps::step_finish::finish` meets its contract. Assumes nothing.
-use mathlib.Core.Path.{◌≡◌, refl, sym, ap, ◌∙◌}
+use mathlib.Core.Path.{◌≡◌}
 use Prim.Native.Nat.{◌-◌}
-use borrow.Author.Rules.{rules}
 use lib.ListN.{length}
 use Rattle.job.specs.Course.{finishing}
-use Rattle.job.proofs.Finish.{fewer, finish_on, finish_last}
 use Rattle.mover_rules.specs.Write.{step_count}
-use Rattle.mover_rules.specs.Step.{mover_job, stepped_answer}
-use Rattle.mover_rules.proofs.Steps.{mover_lawful}
-use mathlib.Core.Logic.{inl, inr}
+use Rattle.mover_rules.specs.Step.{mover_job}
 use Rattle.mover_steps.proofs.step_finish.finish.Given as goal
 
 abbrev pub invariant-loop-next : goal.invariant-loop-next

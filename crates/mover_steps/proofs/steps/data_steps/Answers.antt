@@ -1,6 +1,5 @@
 -- `mover_steps::steps::data_steps` meets its contract. Assumes nothing.
 use mathlib.Core.Path.{refl}
-use borrow.Author.Rules.{rules}
 use Rattle.mover_rules.specs.Write.{data_steps}
 use Rattle.mover_steps.proofs.Rules.{steps_most}
 use Rattle.mover_steps.proofs.steps.data_steps.Goals as goal

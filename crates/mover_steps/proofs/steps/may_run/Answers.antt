@@ -1,6 +1,5 @@
 -- `mover_steps::steps::may_run` meets its contract. Assumes nothing.
-use borrow.Author.Rules.{rules}
-use Rattle.base.proofs.Answers.{value_is, was_false, was_true}
+use Rattle.base.proofs.Answers.{value_is}
 use Rattle.mover_steps.proofs.Rules.{not_fitting, old_absent, target_absent, one_peb, vid_not_good, last_rule}
 use Rattle.mover_steps.proofs.steps.may_run.Goals as goal
 

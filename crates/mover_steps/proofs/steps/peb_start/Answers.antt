@@ -1,7 +1,6 @@
 -- `mover_steps::steps::peb_start` meets its contract. Assumes nothing.
 use Prim.Native.Nat.{◌≤◌, ◌*◌}
 use native.Mathlib.Omega.{arith}
-use borrow.Author.Rules.{rules}
 use native.Mathlib.Nat.{mul-le-mul}
 use Rattle.mover_steps.proofs.steps.peb_start.Goals as goal
 

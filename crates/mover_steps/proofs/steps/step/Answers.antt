@@ -1,6 +1,5 @@
 -- `mover_steps::steps::step` meets its contract. Assumes nothing.
 use mathlib.Core.Path.{sym, ap, ◌∙◌}
-use borrow.Author.Rules.{rules}
 use Rattle.geometry.specs.Geometry.{geometry_read}
 use Rattle.mover_rules.proofs.Rules.{measured}
 use Rattle.mover_steps.proofs.Rules.{outside}

@@ -1,8 +1,7 @@
 -- `mover_steps::steps::step_measured` meets its contract. Assumes nothing.
 use mathlib.Core.Path.{◌≡◌}
 use mathlib.Core.Bool.{true}
-use borrow.Author.Rules.{rules}
-use Rattle.base.proofs.Answers.{value_is, was_false, was_true}
+use Rattle.base.proofs.Answers.{value_is}
 use Rattle.mover_rules.specs.Write.{step_count}
 use Rattle.mover_rules.specs.Step.{runnable, one_on}
 use Rattle.mover_rules.specs.Running.{Running}
@@ -25,7 +24,7 @@ pub returns-then-data_steps-plan : goal.returns-then-data_steps-plan
 unfolding step_count
 returns-then-data_steps-plan c =
     let may : let a = c.args in runnable a.plan a.image.now ≡ true = value_is c.may_run.ensures c.if-not-may_run.false in
-        let a = c.args in
+    let a = c.args in
     let q = step_done a.plan a.image.now may (rw (← c.data_steps.ensures.0) c.if-data_steps-plan.true) in record { answer = q.0; image = q.1 }
 
 pub write_next-requires : goal.write_next-requires
@@ -33,12 +32,12 @@ unfolding step_count
 write_next-requires c =
     let may : let a = c.args in runnable a.plan a.image.now ≡ true = value_is c.may_run.ensures c.if-not-may_run.false in
     let runs : let a = c.args in Running a.g a.plan a.image.now = running c.args.g c.args.plan c.requires c.args.image.now may in
-        (runs, rw (← c.data_steps.ensures.0) c.if-data_steps-plan.false)
+    (runs, rw (← c.data_steps.ensures.0) c.if-data_steps-plan.false)
 
 pub returns : goal.returns
 unfolding step_count one_on
 returns c =
     let may : let a = c.args in runnable a.plan a.image.now ≡ true = value_is c.may_run.ensures c.if-not-may_run.false in
-        let a = c.args in
+    let a = c.args in
     let q = step_on a.plan a.image.now may (rw (← c.data_steps.ensures.0) c.if-data_steps-plan.false)
     c.write_next.ensures in record { answer = q.0; image = q.1 }

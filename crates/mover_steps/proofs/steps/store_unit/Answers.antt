@@ -1,7 +1,6 @@
 -- `mover_steps::steps::store_unit` meets its contract. Assumes nothing.
 use Prim.Native.Nat.{◌+◌, ◌*◌, ◌≤◌, ◌<◌}
 use native.Mathlib.Omega.{arith}
-use borrow.Author.Rules.{rules}
 use Rattle.mover_rules.proofs.Steps.{unit_within}
 use Rattle.mover_steps.proofs.Units.{at_within, copyable, unit_stored}
 use Rattle.mover_steps.proofs.steps.store_unit.Goals as goal
@@ -40,7 +39,7 @@ overflow_add-from c =
       unit_within a.g a.plan a.image.now c.requires.0 a.j c.requires.1,
       at_within a.g a.plan a.image.now c.requires.0 a.j c.requires.1,
     ) in
-        omega (arith, unit.1, c.peb_start.ensures, c.requires.0.old_room)
+    omega (arith, unit.1, c.peb_start.ensures, c.requires.0.old_room)
 
 pub overflow_add-to : goal.overflow_add-to
 overflow_add-to c =
@@ -49,7 +48,7 @@ overflow_add-to c =
       unit_within a.g a.plan a.image.now c.requires.0 a.j c.requires.1,
       at_within a.g a.plan a.image.now c.requires.0 a.j c.requires.1,
     ) in
-        omega (arith, unit.1, c.peb_start-2.ensures, c.requires.0.target_room)
+    omega (arith, unit.1, c.peb_start-2.ensures, c.requires.0.target_room)
 
 pub copy_run-requires : goal.copy_run-requires
 copy_run-requires c =

@@ -1,5 +1,4 @@
 -- `mover_steps::steps::write_next` meets its contract. Assumes nothing.
-use borrow.Author.Rules.{rules}
 use Rattle.mover_steps.proofs.Whole.{left_vid, left_unit, left_erase, left_ec}
 use Rattle.mover_steps.proofs.steps.write_next.Goals as goal
 

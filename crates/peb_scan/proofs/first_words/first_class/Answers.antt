@@ -1,5 +1,4 @@
 -- `peb_scan::first_words::first_class` meets its contract. Assumes nothing.
-use borrow.Author.Rules.{rules}
 use Rattle.report.specs.View.{copy_of}
 use Rattle.peb_scan.proofs.first_words.first_class.Goals as goal
 

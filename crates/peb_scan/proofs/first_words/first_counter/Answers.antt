@@ -1,6 +1,5 @@
 -- `peb_scan::first_words::first_counter` meets its contract. Assumes nothing.
 use native.Mathlib.Omega.{arith}
-use borrow.Author.Rules.{rules}
 use Rattle.peb_scan.proofs.first_words.first_counter.Goals as goal
 
 pub overflow_cast-result : goal.overflow_cast-result

@@ -1,5 +1,4 @@
 -- `peb_scan::first_words::good_class` meets its contract. Assumes nothing.
-use borrow.Author.Rules.{rules}
 use borrow.Author.Tests.{ne_eqb}
 use Rattle.peb_scan.proofs.first_words.good_class.Goals as goal
 

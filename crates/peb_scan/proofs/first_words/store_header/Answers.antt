@@ -1,5 +1,4 @@
 -- `peb_scan::first_words::store_header` meets its contract. Assumes nothing.
-use borrow.Author.Rules.{rules}
 use Rattle.peb_scan.proofs.first_words.store_header.Goals as goal
 
 pub returns-then-is_mappable : goal.returns-then-is_mappable

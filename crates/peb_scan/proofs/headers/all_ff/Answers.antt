@@ -1,10 +1,8 @@
 -- `peb_scan::headers::all_ff` meets its contract: what is left to test gives the answer of the whole. Assumes nothing.
 use mathlib.Core.Path.{◌≡◌, sym, ◌∙◌}
-use Prim.Native.Nat.{◌≤◌, ◌-◌}
+use Prim.Native.Nat.{◌-◌}
 use native.Mathlib.Omega.{arith}
-use borrow.Author.Rules.{rules}
-use lib.ListN.{length, drop}
-use Rattle.report.specs.View.{all_ff}
+use lib.ListN.{length}
 use Rattle.peb_scan.proofs.Laws.{ff_go, ff_stop, ff_end}
 use Rattle.peb_scan.proofs.headers.all_ff.Goals as goal
 

@@ -1,5 +1,4 @@
 -- `peb_scan::headers::blank_or_lost` meets its contract. Assumes nothing.
-use borrow.Author.Rules.{rules}
 use Rattle.peb_scan.proofs.headers.blank_or_lost.Goals as goal
 
 pub returns-then-all_ff : goal.returns-then-all_ff

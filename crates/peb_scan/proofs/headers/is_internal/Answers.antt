@@ -1,5 +1,4 @@
 -- `peb_scan::headers::is_internal` meets its contract. Assumes nothing.
-use borrow.Author.Rules.{rules}
 use Rattle.peb_scan.proofs.headers.is_internal.Goals as goal
 
 pub returns-then-is_mappable : goal.returns-then-is_mappable

@@ -1,6 +1,5 @@
 -- `peb_scan::headers::see_ec` meets its contract. Assumes nothing.
 use mathlib.Core.Path.{◌≡◌, ◌∙◌}
-use borrow.Author.Rules.{rules}
 use lib.ListN.{take}
 use Rattle.report.specs.View.{all_ff, view_of}
 use Rattle.peb_scan.proofs.Laws.{ec_from, ec_from_lem, ec_long}

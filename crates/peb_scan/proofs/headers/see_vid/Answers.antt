@@ -1,6 +1,5 @@
 -- `peb_scan::headers::see_vid` meets its contract. Assumes nothing.
 use mathlib.Core.Path.{◌≡◌, ◌∙◌}
-use borrow.Author.Rules.{rules}
 use Rattle.base.proofs.Lists.{lent_part}
 use Rattle.report.specs.View.{all_ff, view_of, vid_part}
 use Rattle.peb_scan.proofs.Laws.{vid_from, vid_from_lem, vid_long}
@@ -34,7 +33,7 @@ returns-in-Bad c =
     ≡ (view_of a.g a.p.now).vid = let a = c.args in
     vid_from_lem a.g a.p.now _ (vid_long c.requires.0 a.p.now c.requires.1) c.read_vid-r.result
     (rw (lent_part a.g.vid_start 64 a.p.now) at c.read_vid-r.ensures) in
-        let a = c.args in
+    let a = c.args in
     rw (lent_part a.g.vid_start 64 a.p.now) at (c.blank_or_bad.ensures a.g a.p.now)
     ∙ rw c.in-Bad.is at from
 

@@ -5,10 +5,9 @@ use Prim.Native.Nat.{◌≤◌, ◌-◌, ◌+◌, ◌*◌}
 use native.Mathlib.Nat.{mul-le-mul, mul-le-mul_right}
 use native.Mathlib.Omega.{arith}
 use borrow.Author.Rules.{rules}
-use lib.ListN.{length}
 use Rattle.words.specs.Words.{most_pebs}
 use Rattle.report.specs.View.{views_of, medium_of}
-use Rattle.scan.proofs.Passes.{Passing, passing_none, pass_on, pass_refused, pass_whole}
+use Rattle.scan.proofs.Passes.{passing_none, pass_on, pass_refused, pass_whole}
 use Rattle.scan.proofs.run.pass.Goals as goal
 
 pub loop-i-init : goal.loop-i-init
@@ -29,7 +28,7 @@ overflow_add-at c =
     let small-place : let a = c.args in
     c.loop-i.i * a.g.peb_size ≤ most_pebs * 262144 = let p = c.requires in
     mul-le-mul {n₁ = c.loop-i.i} {n₂ = most_pebs} (omega arith) p.placed.peb_most in
-        let p = c.requires in
+    let p = c.requires in
     record { fits = omega (arith, small-place, p.placed.peb_most) }
 
 pub slice_bounds-pass_peb-end : goal.slice_bounds-pass_peb-end

@@ -1,14 +1,10 @@
 -- `scan::run::pass` meets its contract: the PEBs passed so far have given no refusal, and their totals and words are
 -- there. Assumes nothing.
-use mathlib.Core.Path.{◌≡◌, refl}
-use Prim.Native.Nat.{◌≤◌, ◌-◌, ◌+◌, ◌*◌}
-use native.Mathlib.Nat.{mul-le-mul, mul-le-mul_right}
-use native.Mathlib.Omega.{arith}
-use borrow.Author.Rules.{rules}
+use mathlib.Core.Path.{◌≡◌}
+use Prim.Native.Nat.{◌≤◌, ◌-◌}
 use lib.ListN.{length}
-use Rattle.words.specs.Words.{most_pebs}
-use Rattle.report.specs.View.{views_of, medium_of}
-use Rattle.scan.proofs.Passes.{Passing, passing_none, pass_on, pass_refused, pass_whole}
+use Rattle.report.specs.View.{medium_of}
+use Rattle.scan.proofs.Passes.{Passing}
 use Rattle.scan.proofs.run.pass.Given as goal
 
 abbrev pub invariant-loop-i : goal.invariant-loop-i

@@ -1,5 +1,4 @@
 -- `scan::run::pass_peb` meets its contract. Assumes nothing.
-use borrow.Author.Rules.{rules}
 use Rattle.report.specs.View.{view_of}
 use Rattle.scan.proofs.OnePeb.{small_view, EcPassed, VidPassed, ec_refused, vid_refused, peb_passed}
 use Rattle.scan.proofs.run.pass_peb.Goals as goal
@@ -13,10 +12,10 @@ returns-then-ec_number-ne0 c =
     let at-ec : let a = c.args in
     EcPassed a.g (view_of a.g a.p.now) a.s c.see_ec-e.result c.with_ec-ec.result
     c.ec_refusal-ec_number.result = record {
-  seen = c.see_ec-e.ensures;
-  totals = c.with_ec-ec.ensures;
-  number = c.ec_refusal-ec_number.ensures;
-} in
+      seen = c.see_ec-e.ensures;
+      totals = c.with_ec-ec.ensures;
+      number = c.ec_refusal-ec_number.ensures;
+    } in
     ec_refused at-ec c.if-ec_number-ne0.true
 
 pub returns-then-vid_number-ne0 : goal.returns-then-vid_number-ne0
@@ -27,11 +26,11 @@ returns-then-vid_number-ne0 c =
     let at-ec : let a = c.args in
     EcPassed a.g (view_of a.g a.p.now) a.s c.see_ec-e.result c.with_ec-ec.result
     c.ec_refusal-ec_number.result = record {
-  seen = c.see_ec-e.ensures;
-  totals = c.with_ec-ec.ensures;
-  number = c.ec_refusal-ec_number.ensures;
-} in
-        vid_refused at-ec c.if-ec_number-ne0.false at-vid
+      seen = c.see_ec-e.ensures;
+      totals = c.with_ec-ec.ensures;
+      number = c.ec_refusal-ec_number.ensures;
+    } in
+    vid_refused at-ec c.if-ec_number-ne0.false at-vid
     c.if-vid_number-ne0.true
 
 pub first_counter-requires : goal.first_counter-requires
@@ -47,11 +46,11 @@ returns c =
     let at-ec : let a = c.args in
     EcPassed a.g (view_of a.g a.p.now) a.s c.see_ec-e.result c.with_ec-ec.result
     c.ec_refusal-ec_number.result = record {
-  seen = c.see_ec-e.ensures;
-  totals = c.with_ec-ec.ensures;
-  number = c.ec_refusal-ec_number.ensures;
-} in
-        let a = c.args in
+      seen = c.see_ec-e.ensures;
+      totals = c.with_ec-ec.ensures;
+      number = c.ec_refusal-ec_number.ensures;
+    } in
+    let a = c.args in
     peb_passed at-ec c.if-ec_number-ne0.false at-vid c.if-vid_number-ne0.false
     (c.first_class-class.ensures a.g a.p.now) c.first_counter.ensures
     c.is_idle.ensures (c.with_vid-vid.ensures a.g a.p.now) c.store_peb.ensures

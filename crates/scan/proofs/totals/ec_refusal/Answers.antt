@@ -1,5 +1,4 @@
 -- `scan::totals::ec_refusal` meets its contract. Assumes nothing.
-use borrow.Author.Rules.{rules}
 use Rattle.scan.proofs.totals.ec_refusal.Goals as goal
 
 pub returns-in-Good : goal.returns-in-Good

@@ -1,6 +1,5 @@
 -- `scan::totals::good_ec_refusal` meets its contract. Assumes nothing.
 use mathlib.Core.Path.{◌≡◌, sym, ◌∙◌}
-use borrow.Author.Rules.{rules}
 use borrow.Author.Tests.{eq-eqb, ne_eqb}
 use Rattle.report.specs.View.{ec_good}
 use Rattle.report.specs.Scan.{when, ec_refusal}

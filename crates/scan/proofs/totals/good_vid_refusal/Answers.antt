@@ -1,5 +1,4 @@
 -- `scan::totals::good_vid_refusal` meets its contract. Assumes nothing.
-use borrow.Author.Rules.{rules}
 use Rattle.scan.proofs.totals.good_vid_refusal.Goals as goal
 
 pub returns-then-is_internal : goal.returns-then-is_internal

@@ -1,5 +1,4 @@
 -- `scan::totals::vid_refusal` meets its contract. Assumes nothing.
-use borrow.Author.Rules.{rules}
 use Rattle.report.specs.View.{copy_of}
 use Rattle.scan.proofs.totals.vid_refusal.Goals as goal
 

@@ -1,5 +1,4 @@
 -- `scan::totals::with_ec` meets its contract. Assumes nothing.
-use borrow.Author.Rules.{rules}
 use Rattle.scan.proofs.totals.with_ec.Goals as goal
 
 pub with_good_ec-requires : goal.with_good_ec-requires

@@ -1,5 +1,4 @@
 -- `scan::totals::with_good_ec` meets its contract. Assumes nothing.
-use borrow.Author.Rules.{rules}
 use Rattle.scan.proofs.totals.with_good_ec.Goals as goal
 
 pub returns : goal.returns

@@ -1,5 +1,4 @@
 -- `scan::totals::with_sequence` meets its contract. Assumes nothing.
-use borrow.Author.Rules.{rules}
 use Rattle.scan.proofs.totals.with_sequence.Goals as goal
 
 pub returns : goal.returns

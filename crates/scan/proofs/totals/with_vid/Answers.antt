@@ -1,5 +1,4 @@
 -- `scan::totals::with_vid` meets its contract. Assumes nothing.
-use borrow.Author.Rules.{rules}
 use Rattle.report.specs.View.{copy_of}
 use Rattle.scan.proofs.totals.with_vid.Goals as goal
 

@@ -1,6 +1,5 @@
 -- `summary::tables::refuse` meets its contract. Assumes nothing.
 use mathlib.Core.Path.{refl}
-use borrow.Author.Rules.{rules}
 use Rattle.words.specs.Words.{peb_words_needed, map_words_needed, state_words_needed}
 use Rattle.summary.proofs.Ends.{filled, lent_same}
 use Rattle.summary.proofs.tables.refuse.Goals as goal

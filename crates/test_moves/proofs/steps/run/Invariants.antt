@@ -1,5 +1,5 @@
 -- `test_moves::steps::run` is safe and ends. Assumes nothing.
-use Rattle.std.proofs.Common.{◌≡◌, ◌-◌, length, rules}
+use Rattle.std.proofs.Common.{◌≡◌, ◌-◌, length}
 use Rattle.test_moves.proofs.steps.run.Given as goal
 
 abbrev pub invariant-loop : goal.invariant-loop

@@ -1,6 +1,5 @@
 -- `volume_record::fields::field_bytes` meets its contract. Assumes nothing.
 use native.Mathlib.Nat.{add-sub_cancel_left}
-use borrow.Author.Rules.{rules}
 use Rattle.volume_record.proofs.fields.field_bytes.Goals as goal
 
 pub returns : goal.returns

@@ -1,7 +1,6 @@
 -- `volume_record::fields::field_of` meets its contract: the constant is the table, and every field fits. Assumes
 -- nothing.
 use mathlib.Core.Path.{refl}
-use borrow.Author.Rules.{rules}
 use Rattle.volume_record.proofs.Records.{fits}
 use Rattle.volume_record.proofs.fields.field_of.Goals as goal
 

@@ -1,6 +1,5 @@
 -- `volume_record::fields::get_field` meets its contract. Assumes nothing.
 use native.Mathlib.Omega.{arith}
-use borrow.Author.Rules.{rules}
 use Rattle.volume_record.proofs.Records.{fits}
 use Rattle.volume_record.proofs.fields.get_field.Goals as goal
 

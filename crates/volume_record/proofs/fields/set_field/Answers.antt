@@ -1,5 +1,4 @@
 -- `volume_record::fields::set_field` meets its contract. Assumes nothing.
-use borrow.Author.Rules.{rules}
 use Rattle.volume_record.proofs.fields.set_field.Goals as goal
 
 pub returns : goal.returns

@@ -1,5 +1,4 @@
 -- `volume_record::record::empty_record` meets its contract. Assumes nothing.
-use borrow.Author.Rules.{rules}
 use Rattle.volume_record.proofs.Records.{zeroes_summed}
 use Rattle.volume_record.proofs.record.empty_record.Goals as goal
 

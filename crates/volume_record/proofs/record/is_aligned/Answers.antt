@@ -1,6 +1,5 @@
 -- `volume_record::record::is_aligned` meets its contract. Assumes nothing.
 use native.Mathlib.Omega.{arith}
-use borrow.Author.Rules.{rules}
 use borrow.Author.Tests.{eq-eqb, ne_eqb}
 use Rattle.volume_record.proofs.Records.{not_aligned}
 use Rattle.volume_record.proofs.record.is_aligned.Goals as goal

@@ -1,5 +1,4 @@
 -- `volume_record::record::is_empty` meets its contract. Assumes nothing.
-use borrow.Author.Rules.{rules}
 use Rattle.volume_record.specs.Record.{is_empty}
 use Rattle.volume_record.proofs.record.is_empty.Goals as goal
 

@@ -1,5 +1,4 @@
 -- `volume_record::record::is_good` meets its contract: the CRC, then the rules. Assumes nothing.
-use borrow.Author.Rules.{rules}
 use Rattle.volume_record.proofs.Records.{not_summed, rules_decide}
 use Rattle.volume_record.proofs.record.is_good.Goals as goal
 

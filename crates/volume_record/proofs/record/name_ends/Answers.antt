@@ -1,11 +1,9 @@
 -- `volume_record::record::name_ends` meets its contract: none of the first i bytes is zero. Assumes nothing.
 use mathlib.Core.Path.{◌≡◌}
 use mathlib.Core.Bool.{true}
-use Prim.Native.Nat.{◌≤◌, ◌-◌}
+use Prim.Native.Nat.{◌-◌}
 use native.Mathlib.Omega.{arith}
-use borrow.Author.Rules.{rules}
-use Rattle.base.specs.Below.{all_below}
-use Rattle.volume_record.proofs.Records.{named, name_more, name_cut, name_whole}
+use Rattle.volume_record.proofs.Records.{name_more, name_cut, name_whole}
 use Rattle.volume_record.proofs.record.name_ends.Goals as goal
 
 pub returns-then-name-i-eq0 : goal.returns-then-name-i-eq0

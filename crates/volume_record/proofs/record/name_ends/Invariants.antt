@@ -2,10 +2,8 @@
 use mathlib.Core.Path.{◌≡◌}
 use mathlib.Core.Bool.{true}
 use Prim.Native.Nat.{◌≤◌, ◌-◌}
-use native.Mathlib.Omega.{arith}
-use borrow.Author.Rules.{rules}
 use Rattle.base.specs.Below.{all_below}
-use Rattle.volume_record.proofs.Records.{named, name_more, name_cut, name_whole}
+use Rattle.volume_record.proofs.Records.{named}
 use Rattle.volume_record.proofs.record.name_ends.Given as goal
 
 abbrev pub invariant-loop-i : goal.invariant-loop-i

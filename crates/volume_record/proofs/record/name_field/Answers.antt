@@ -1,7 +1,6 @@
 -- `volume_record::record::name_field` meets its contract: the store covers the whole array. Assumes nothing.
 use mathlib.Core.Path.{◌≡◌, ◌∙◌}
 use native.Mathlib.Omega.{arith}
-use borrow.Author.Rules.{rules}
 use lib.ListN.{length}
 use Rattle.base.proofs.Lists.{length_part}
 use Rattle.base.proofs.Stores.{put_all}

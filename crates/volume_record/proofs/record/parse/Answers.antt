@@ -1,5 +1,4 @@
 -- `volume_record::record::parse` meets its contract. Assumes nothing.
-use borrow.Author.Rules.{rules}
 use Rattle.volume_record.specs.Record.{record_of}
 use Rattle.volume_record.proofs.record.parse.Goals as goal
 

@@ -1,5 +1,4 @@
 -- `volume_record::record::read_record` meets its contract. Assumes nothing.
-use borrow.Author.Rules.{rules}
 use Rattle.volume_record.proofs.Records.{read_short, read_empty, read_good, read_bad}
 use Rattle.volume_record.proofs.record.read_record.Goals as goal
 

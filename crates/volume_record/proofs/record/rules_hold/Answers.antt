@@ -1,7 +1,6 @@
 -- `volume_record::record::rules_hold` meets its contract: one broken rule is enough. Assumes nothing.
-use borrow.Author.Rules.{rules}
 use borrow.Author.Tests.{lt-leb, ne_eqb}
-use Rattle.base.proofs.Answers.{value_is, was_false, was_true}
+use Rattle.base.proofs.Answers.{value_is}
 use Rattle.base.proofs.Below.{not_above}
 use Rattle.volume_record.specs.Record.{record_rules}
 use Rattle.volume_record.proofs.Records.{broken, flags_decide}

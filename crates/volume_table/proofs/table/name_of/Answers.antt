@@ -1,5 +1,4 @@
 -- `volume_table::table::name_of` meets its contract. Assumes nothing.
-use borrow.Author.Rules.{rules}
 use Rattle.volume_table.proofs.Tables.{name_whole_field, name_front}
 use Rattle.volume_table.proofs.table.name_of.Goals as goal
 

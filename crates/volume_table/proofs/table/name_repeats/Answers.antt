@@ -2,11 +2,9 @@
 -- nothing.
 use mathlib.Core.Path.{◌≡◌, sym, ◌∙◌}
 use mathlib.Core.Bool.{false}
-use Prim.Native.Nat.{◌*◌, ◌≤◌, ◌-◌}
+use Prim.Native.Nat.{◌*◌, ◌-◌}
 use native.Mathlib.Nat.{add-sub_cancel_left}
 use native.Mathlib.Omega.{arith}
-use borrow.Author.Rules.{rules}
-use Rattle.base.specs.Below.{any_below}
 use Rattle.base.proofs.Below.{any_intro, any_more}
 use Rattle.base.proofs.Lists.{lent_length}
 use Rattle.volume_table.proofs.Tables.{empty_at, repeats, none_repeats, repeats_as}
@@ -34,7 +32,7 @@ returns-then-names_clash c =
     c.names_clash.result ≡ repeats a.t.now a.j c.loop-i.i = let a = c.args in
     repeats_as a.t.now a.j c.loop-i.i (empty_at (172 * a.j) a.t.now c.is_empty.ensures)
     c.if-is_empty.false (rw (add-sub_cancel_left, add-sub_cancel_left) at c.names_clash.ensures) in
-        let a = c.args in
+    let a = c.args in
     sym (any_intro a.j (repeats a.t.now a.j) c.loop-i.i (omega arith)
     (sym judged ∙ c.if-names_clash.true))
 
@@ -44,7 +42,7 @@ loop-i-preserved c =
     c.names_clash.result ≡ repeats a.t.now a.j c.loop-i.i = let a = c.args in
     repeats_as a.t.now a.j c.loop-i.i (empty_at (172 * a.j) a.t.now c.is_empty.ensures)
     c.if-is_empty.false (rw (add-sub_cancel_left, add-sub_cancel_left) at c.names_clash.ensures) in
-        let a = c.args in
+    let a = c.args in
     (omega arith, any_more (repeats a.t.now a.j) c.loop-i.i c.loop-i.invariant.1 (sym judged ∙ c.if-names_clash.false))
 
 pub returns : goal.returns

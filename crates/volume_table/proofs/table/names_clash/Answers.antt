@@ -1,8 +1,7 @@
 -- `volume_table::table::names_clash` meets its contract. Assumes nothing.
 use mathlib.Core.Path.{ap₂, ◌∙◌}
-use borrow.Author.Rules.{rules}
 use Rattle.base.specs.Lists.{eqs}
-use Rattle.base.proofs.Answers.{value_is, was_false, was_true}
+use Rattle.base.proofs.Answers.{value_is}
 use Rattle.volume_table.proofs.Tables.{other_name, one_name}
 use Rattle.volume_table.proofs.table.names_clash.Goals as goal
 

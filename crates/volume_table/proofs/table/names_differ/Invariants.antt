@@ -1,11 +1,8 @@
 -- `volume_table::table::names_differ` meets its contract: none of the first j records repeats a name. Assumes nothing.
-use mathlib.Core.Path.{◌≡◌, sym, ◌∙◌}
+use mathlib.Core.Path.{◌≡◌}
 use mathlib.Core.Bool.{false}
 use Prim.Native.Nat.{ℕ, ◌≤◌, ◌-◌}
-use native.Mathlib.Omega.{arith}
-use borrow.Author.Rules.{rules}
 use Rattle.base.specs.Below.{any_below}
-use Rattle.base.proofs.Below.{any_intro, any_more}
 use Rattle.volume_table.proofs.Tables.{repeats}
 use Rattle.volume_table.proofs.table.names_differ.Given as goal
 

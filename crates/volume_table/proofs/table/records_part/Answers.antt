@@ -1,6 +1,5 @@
 -- `volume_table::table::records_part` meets its contract. Assumes nothing.
 use native.Mathlib.Omega.{arith}
-use borrow.Author.Rules.{rules}
 use Rattle.volume_table.proofs.Tables.{count_small, part_short, part_long}
 use Rattle.volume_table.proofs.table.records_part.Goals as goal
 

@@ -1,7 +1,6 @@
 -- `volume_table::table::table_good` meets its contract: one broken rule is enough. Assumes nothing.
 use Prim.Native.Nat.{◌*◌, ◌≤◌}
 use native.Mathlib.Omega.{arith}
-use borrow.Author.Rules.{rules}
 use borrow.Author.Tests.{not-true, not-false}
 use lib.ListN.{length}
 use Rattle.volume_table.proofs.Tables.{count_small, all_there, no_records, too_short, Summed, not_fine, too_many}
@@ -28,13 +27,13 @@ pub tally-sum-requires : goal.tally-sum-requires
 tally-sum-requires c =
     let whole : 172 * c.record_count-n.result ≤ length c.records_part-t.result.now = all_there c.args.leb_size c.args.content.now c.record_count-n.ensures
     c.records_part-t.ensures c.if-content-n.false in
-        (omega (arith, count_small c.args.leb_size), (whole, c.empty_record-empty.ensures))
+    (omega (arith, count_small c.args.leb_size), (whole, c.empty_record-empty.ensures))
 
 pub returns-then-not-sum : goal.returns-then-not-sum
 returns-then-not-sum c =
     let summed : let a = c.args in
     Summed a.leb_size a.unit a.content.now c.record_count-n.result c.records_part-t.result.now c.tally-sum.result = record { count = c.record_count-n.ensures; records = c.records_part-t.ensures; sums = c.tally-sum.ensures } in
-        let a = c.args in
+    let a = c.args in
     not_fine a.leb_size a.unit a.peb_count a.content.now summed
     (not-true c.tally-sum.result.good c.if-not-sum.true)
 
@@ -42,7 +41,7 @@ pub returns-then-sum-gt1 : goal.returns-then-sum-gt1
 returns-then-sum-gt1 c =
     let summed : let a = c.args in
     Summed a.leb_size a.unit a.content.now c.record_count-n.result c.records_part-t.result.now c.tally-sum.result = record { count = c.record_count-n.ensures; records = c.records_part-t.ensures; sums = c.tally-sum.ensures } in
-        let a = c.args in
+    let a = c.args in
     too_many a.leb_size a.unit a.peb_count a.content.now summed
     (not-false c.tally-sum.result.good c.if-not-sum.false) c.if-sum-gt1.true
 
@@ -50,7 +49,7 @@ pub returns-then-most_reserved-sum : goal.returns-then-most_reserved-sum
 returns-then-most_reserved-sum c =
     let summed : let a = c.args in
     Summed a.leb_size a.unit a.content.now c.record_count-n.result c.records_part-t.result.now c.tally-sum.result = record { count = c.record_count-n.ensures; records = c.records_part-t.ensures; sums = c.tally-sum.ensures } in
-        let a = c.args in
+    let a = c.args in
     too_much_lem a.leb_size a.unit a.peb_count a.content.now summed
     (not-false c.tally-sum.result.good c.if-not-sum.false)
     (rw c.most_reserved.ensures at c.if-most_reserved-sum.true)
@@ -59,7 +58,7 @@ pub names_differ-requires : goal.names_differ-requires
 names_differ-requires c =
     let whole : 172 * c.record_count-n.result ≤ length c.records_part-t.result.now = all_there c.args.leb_size c.args.content.now c.record_count-n.ensures
     c.records_part-t.ensures c.if-content-n.false in
-        (omega (arith, count_small c.args.leb_size), (whole, c.empty_record-empty.ensures))
+    (omega (arith, count_small c.args.leb_size), (whole, c.empty_record-empty.ensures))
 
 pub returns : goal.returns
 returns c =
@@ -67,7 +66,7 @@ returns c =
     Summed a.leb_size a.unit a.content.now c.record_count-n.result c.records_part-t.result.now c.tally-sum.result = record { count = c.record_count-n.ensures; records = c.records_part-t.ensures; sums = c.tally-sum.ensures } in
     let whole : 172 * c.record_count-n.result ≤ length c.records_part-t.result.now = all_there c.args.leb_size c.args.content.now c.record_count-n.ensures
     c.records_part-t.ensures c.if-content-n.false in
-        let a = c.args in
+    let a = c.args in
     names_decide a.leb_size a.unit a.peb_count a.content.now summed
     (not-false c.tally-sum.result.good c.if-not-sum.false)
     c.if-n-eq0.false whole c.if-sum-gt1.false

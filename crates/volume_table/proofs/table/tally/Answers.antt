@@ -2,13 +2,12 @@
 -- good. Assumes nothing.
 use mathlib.Core.Path.{◌≡◌, refl}
 use mathlib.Core.Bool.{true}
-use Prim.Native.Nat.{◌*◌, ◌^◌, ◌≤◌, ◌-◌}
+use Prim.Native.Nat.{◌*◌, ◌-◌}
 use native.Mathlib.Nat.{add-sub_cancel_left}
 use native.Mathlib.Omega.{arith}
-use borrow.Author.Rules.{rules}
 use borrow.Author.Tests.{not-true, not-false}
 use Rattle.base.proofs.Lists.{lent_length}
-use Rattle.volume_table.specs.Sums.{tallied, TallyOf}
+use Rattle.volume_table.specs.Sums.{tallied}
 use Rattle.volume_table.specs.Table.{record_at}
 use Rattle.volume_table.proofs.Tables.{tally_none, tally_more, tally_stop}
 use Rattle.volume_table.proofs.table.tally.Goals as goal
@@ -27,7 +26,7 @@ pub returns-then-not-sum : goal.returns-then-not-sum
 returns-then-not-sum c =
     let next : let a = c.args in
     c.tally_record-sum.result ≡ tallied a.leb_size a.unit c.loop-i.sum (record_at a.t.now c.loop-i.i) = rw add-sub_cancel_left at c.tally_record-sum.ensures.0 in
-        let a = c.args in
+    let a = c.args in
     let l = c.loop-i in
     tally_stop a.leb_size a.unit a.t.now l.i l.sum c.tally_record-sum.result
     next a.n (omega arith)
@@ -37,7 +36,7 @@ pub loop-i-preserved : goal.loop-i-preserved
 loop-i-preserved c =
     let next : let a = c.args in
     c.tally_record-sum.result ≡ tallied a.leb_size a.unit c.loop-i.sum (record_at a.t.now c.loop-i.i) = rw add-sub_cancel_left at c.tally_record-sum.ensures.0 in
-        let a = c.args in
+    let a = c.args in
     let l = c.loop-i in let f = not-false c.tally_record-sum.result.good c.if-not-sum.false in
     let r = c.tally_record-sum.result in
     let s = tally_more a.leb_size a.unit a.t.now l.i l.sum r next in

@@ -1,6 +1,5 @@
 -- `volume_table::table::tally_record` meets its contract. Assumes nothing.
 use native.Mathlib.Omega.{arith}
-use borrow.Author.Rules.{rules}
 use lib.Bits.{and_le_r}
 use Rattle.volume_table.proofs.Tables.{fine_empty, fine_other, tallied_as}
 use Rattle.volume_table.proofs.table.tally_record.Goals as goal

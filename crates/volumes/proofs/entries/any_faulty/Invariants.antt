@@ -1,11 +1,8 @@
 -- `volumes::entries::any_faulty` meets its contract: no entry passed is one at fault. Assumes nothing.
-use mathlib.Core.Path.{◌≡◌, sym, ◌∙◌}
-use mathlib.Core.Bool.{Bool, false}
+use mathlib.Core.Path.{◌≡◌}
+use mathlib.Core.Bool.{false}
 use Prim.Native.Nat.{◌≤◌, ◌<◌, ◌-◌, ℕ}
-use native.Mathlib.Omega.{arith}
-use borrow.Author.Rules.{rules}
 use Rattle.volumes.specs.Sorted.{fault_at}
-use Rattle.base.proofs.Below.{one_more, any_intro, none_intro}
 use Rattle.volumes.proofs.entries.any_faulty.Given as goal
 
 abbrev pub invariant-loop-k : goal.invariant-loop-k

@@ -1,11 +1,8 @@
 -- `volumes::entries::entries_of` meets its contract: the number found is that of the entries passed. Assumes nothing.
 use mathlib.Core.Path.{◌≡◌, refl}
-use Prim.Native.Nat.{◌≤◌, ◌-◌}
+use Prim.Native.Nat.{◌-◌}
 use native.Mathlib.Numerals.{add-one}
 use native.Mathlib.Omega.{arith}
-use borrow.Author.Rules.{rules}
-use Rattle.base.specs.Below.{count_below}
-use Rattle.volumes.specs.Sorted.{is_of}
 use Rattle.volumes.proofs.entries.entries_of.Goals as goal
 
 pub loop-k-init : goal.loop-k-init

@@ -1,5 +1,4 @@
 -- `volumes::entries::fault_at` meets its contract. Assumes nothing.
-use borrow.Author.Rules.{rules}
 use borrow.Author.Tests.{eq-eqb, ne_eqb}
 use Rattle.volumes.proofs.entries.fault_at.Goals as goal
 

@@ -1,8 +1,7 @@
 -- `volumes::entries::first_of` meets its contract: no entry passed is one of the volume. Assumes nothing.
 use mathlib.Core.Path.{◌≡◌, sym, ◌∙◌}
-use Prim.Native.Nat.{◌≤◌, ◌<◌, ◌-◌, ℕ}
+use Prim.Native.Nat.{◌-◌, ℕ}
 use native.Mathlib.Omega.{arith}
-use borrow.Author.Rules.{rules}
 use Rattle.base.proofs.Below.{one_more}
 use Rattle.words.specs.Words.{volume_word}
 use Rattle.volumes.proofs.entries.first_of.Goals as goal

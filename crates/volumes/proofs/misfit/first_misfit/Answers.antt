@@ -1,12 +1,9 @@
 -- `volumes::misfit::first_misfit` meets its contract: refusal 12 names no entry of the volumes passed. Assumes nothing.
 use mathlib.Core.Path.{◌≡◌}
 use mathlib.Core.Option.{none}
-use Prim.Native.Nat.{◌≤◌, ◌<◌, ◌-◌, ℕ}
+use Prim.Native.Nat.{◌-◌, ℕ}
 use native.Mathlib.Omega.{arith}
-use borrow.Author.Rules.{rules}
-use Rattle.report.specs.View.{medium_of}
 use Rattle.report.specs.Volumes.{misfit_in}
-use Rattle.report.specs.Report.{faces, records}
 use Rattle.base.proofs.Below.{one_more}
 use Rattle.volumes.proofs.Words.{fs, rs}
 use Rattle.volumes.proofs.Misfits.{refused_here, not_refused}

@@ -2,14 +2,9 @@
 use mathlib.Core.Path.{◌≡◌}
 use mathlib.Core.Option.{none}
 use Prim.Native.Nat.{◌≤◌, ◌<◌, ◌-◌, ℕ}
-use native.Mathlib.Omega.{arith}
-use borrow.Author.Rules.{rules}
 use Rattle.report.specs.View.{medium_of}
 use Rattle.report.specs.Volumes.{misfit_in}
 use Rattle.report.specs.Report.{faces, records}
-use Rattle.base.proofs.Below.{one_more}
-use Rattle.volumes.proofs.Words.{fs, rs}
-use Rattle.volumes.proofs.Misfits.{refused_here, not_refused}
 use Rattle.volumes.proofs.misfit.first_misfit.Given as goal
 
 abbrev pub invariant-loop-volume : goal.invariant-loop-volume

@@ -1,6 +1,5 @@
 -- `volumes::misfit::misfit_at` meets its contract. Assumes nothing.
 use native.Mathlib.Omega.{arith}
-use borrow.Author.Rules.{rules}
 use borrow.Author.Tests.{eq-eqb, ne_eqb}
 use Rattle.volumes.proofs.misfit.misfit_at.Goals as goal
 

@@ -1,9 +1,8 @@
 -- `volumes::misfit::misfit_in` meets its contract: refusal 12 names no entry passed of the volume. Assumes nothing.
 use mathlib.Core.Path.{◌≡◌, sym, ◌∙◌}
 use mathlib.Core.Bool.{false}
-use Prim.Native.Nat.{◌≤◌, ◌<◌, ◌-◌, ℕ}
+use Prim.Native.Nat.{◌-◌, ℕ}
 use native.Mathlib.Omega.{arith}
-use borrow.Author.Rules.{rules}
 use Rattle.volumes.specs.Sorted.{misfit_entry}
 use Rattle.base.proofs.Below.{one_more}
 use borrow.Author.Tests.{ne_eqb}

@@ -1,5 +1,4 @@
 -- `volumes::misfit::misfits` meets its contract. Assumes nothing.
-use borrow.Author.Rules.{rules}
 use borrow.Author.Tests.{eq-eqb, ne_eqb}
 use Rattle.volumes.specs.Sorted.{misfit_by}
 use Rattle.volumes.proofs.misfit.misfits.Goals as goal

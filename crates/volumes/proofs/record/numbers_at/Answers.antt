@@ -1,5 +1,4 @@
 -- `volumes::record::numbers_at` meets its contract. Assumes nothing.
-use borrow.Author.Rules.{rules}
 use Rattle.base.proofs.Lists.{lent_part}
 use Rattle.volume_record.specs.Record.{record_of}
 use Rattle.volumes.specs.Sorted.{numbers_of}

@@ -1,7 +1,6 @@
 -- `volumes::record::record_numbers` meets its contract: past the table's end all numbers are 0. Assumes nothing.
 use native.Mathlib.Omega.{arith}
 use Prim.Native.Nat.{◌*◌}
-use borrow.Author.Rules.{rules}
 use lib.ListN.{drop_of_length-le}
 use Rattle.field.specs.Be.{be_from}
 use Rattle.volume_record.specs.Record.{record_of}

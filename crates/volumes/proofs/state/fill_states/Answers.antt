@@ -1,11 +1,8 @@
 -- `volumes::state::fill_states` meets its contract: the states of the volumes passed are stored. Assumes nothing.
 use mathlib.Core.Path.{◌≡◌, refl}
-use mathlib.Core.List.{◌++◌}
-use Prim.Native.Nat.{◌≤◌, ◌-◌}
+use Prim.Native.Nat.{◌-◌}
 use native.Mathlib.Omega.{arith}
-use borrow.Author.Rules.{rules}
-use lib.ListN.{length-set, length, drop}
-use Rattle.base.specs.Lists.{table}
+use lib.ListN.{length-set}
 use Rattle.base.proofs.Lists.{fill_more}
 use Rattle.report.specs.View.{medium_of}
 use Rattle.report.specs.Report.{state_at}

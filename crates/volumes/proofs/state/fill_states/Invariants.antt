@@ -1,15 +1,11 @@
 -- `volumes::state::fill_states` meets its contract: the states of the volumes passed are stored. Assumes nothing.
-use mathlib.Core.Path.{◌≡◌, refl}
+use mathlib.Core.Path.{◌≡◌}
 use mathlib.Core.List.{◌++◌}
 use Prim.Native.Nat.{◌≤◌, ◌-◌}
-use native.Mathlib.Omega.{arith}
-use borrow.Author.Rules.{rules}
-use lib.ListN.{length-set, length, drop}
+use lib.ListN.{length, drop}
 use Rattle.base.specs.Lists.{table}
-use Rattle.base.proofs.Lists.{fill_more}
 use Rattle.report.specs.View.{medium_of}
 use Rattle.report.specs.Report.{state_at}
-use Rattle.report.specs.Attach.{state_words}
 use Rattle.volumes.proofs.state.fill_states.Given as goal
 
 abbrev pub invariant-loop-volume : goal.invariant-loop-volume

@@ -1,6 +1,5 @@
 -- `volumes::state::lacks_leb` meets its contract. Assumes nothing.
 use native.Mathlib.Omega.{arith}
-use borrow.Author.Rules.{rules}
 use borrow.Author.Tests.{lt-ltb, le-ltb}
 use Rattle.volumes.proofs.state.lacks_leb.Goals as goal
 

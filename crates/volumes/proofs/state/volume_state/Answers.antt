@@ -1,9 +1,4 @@
 -- `volumes::state::volume_state` meets its contract. Assumes nothing.
-use mathlib.Core.Path.{◌≡◌}
-use mathlib.Core.Bool.{Bool, cond}
-use borrow.Author.Rules.{rules}
-use Rattle.report.specs.View.{medium_of}
-use Rattle.report.specs.Report.{state_at}
 use Rattle.volumes.proofs.Words.{table_long, entries_there}
 use Rattle.volumes.proofs.States.{state_none, state_marked, state_faulty, state_dynamic, state_static}
 use Rattle.volumes.proofs.state.volume_state.Goals as goal
