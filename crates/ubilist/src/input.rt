@@ -1,7 +1,10 @@
 // The dump from standard input.
-ghost use Rattle.std.specs.Prelude.{◌≡◌};
+ghost use Rattle.std.specs.Prelude.{◌≡◌, ◌≢◌, ◌+◌, ◌<◌, ◌≤◌, IfOk};
 ghost use Rattle.ubilist.specs.Input.{input_of, within};
 
+use crate::calls;
+use std::io;
+use std::io::Read;
 use transfer::Transfer;
 
 // The bytes that the program holds: 60 KiB.
@@ -20,16 +23,18 @@ pub enum Input {
     Failed,
 }
 
-// Reads into the buffer up to the end of the input.
-pub fn read(held: &mut [u8]) -> Input
-    ensures { within result 61440 }
+// Reads into the buffer up to the end of the input. Where a call fails, the error is the last call's.
+pub fn read(stdin: &mut impl Read, held: &mut [u8]) -> io::Result<Input>
+    ensures within { IfOk result (λ i. within i 61440) }
+    ensures told { IfOk result (λ i. i ≢ Input.Failed) }
 {
     let mut p = transfer::begin();
     loop {
-        let got = read_some(held, p.moved);
-        let t = transfer::after_call(p, MOST, got, os::errno() == libc::EINTR);
+        let got = read_some(stdin, held, p.moved);
+        let t = calls::after(p, MOST, &got);
         let Transfer::On(next) = t else {
-            return input_of(t);
+            got?;
+            return Ok(input_of(t));
         };
         p = next;
     }
@@ -47,11 +52,14 @@ fn input_of(t: Transfer) -> Input
     }
 }
 
-// One call: for the rest of the buffer or, where that is full, for the byte beyond.
-fn read_some(held: &mut [u8], at: usize) -> isize {
-    if at < held.len() {
-        return libc::read(libc::STDIN_FILENO, &mut held[at..]);
+// One call: for the rest of what is held or, where that is full, for the byte beyond.
+fn read_some(stdin: &mut impl Read, held: &mut [u8], at: usize) -> io::Result<usize>
+    ensures { IfOk result (λ n. at < 61441 → at + n ≤ 61441) }
+{
+    let end = held.len().min(HELD);
+    if at < end {
+        return stdin.read(&mut held[at..end]);
     }
     let mut beyond = [0u8; 1];
-    libc::read(libc::STDIN_FILENO, &mut beyond)
+    stdin.read(&mut beyond)
 }

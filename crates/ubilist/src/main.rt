@@ -2,28 +2,35 @@
 // on standard error says so.
 #![tactic(auto)]
 
+mod calls;
 mod input;
 mod output;
 
 use input::Input;
 use listing_text::Rendered;
+use std::io;
 
-fn main() {
+fn main(rt: HostRuntime) -> io::Result<()> {
     let mut held = [0u8; input::HELD];
     let mut out = [0u8; 16384];
-    let i = input::read(&mut held);
-    match i {
-        Input::Whole(n) => print_listing(&held[0..n], false, &mut out),
-        Input::More => print_listing(&held, true, &mut out),
-        Input::Failed => os::fail(b"ubilist: standard input"),
+    match input::read(&mut rt.stdin(), &mut held) {
+        Ok(Input::Whole(n)) => print_listing(&rt, &held[0..n], false, &mut out),
+        Ok(Input::More) => print_listing(&rt, &held, true, &mut out),
+        Ok(Input::Failed) => unreachable!(),
+        Err(e) => output::fail(&rt, "standard input", &e),
     }
 }
 
 // No listing is longer than the buffer (listing_short of crates/listing/proofs/Bounds.antt); if one were, that would
 // be said.
-fn print_listing(input: &[u8], more: bool, out: &mut [u8]) {
+fn print_listing(
+    rt: &(impl Print + Eprint + AllocGlobal),
+    input: &[u8],
+    more: bool,
+    out: &mut [u8],
+) -> io::Result<()> {
     let Rendered::Text(n) = listing::list(input, more, out) else {
-        return output::say(b"ubilist: the listing is too long\n");
+        return output::say(rt, "the listing is too long");
     };
-    output::print(&out[0..n]);
+    output::print(rt, &out[0..n])
 }
