@@ -16,12 +16,6 @@ use Rattle.builder.proofs.Laws.{by_refusal_lem, by_plan, refused_20, refused_21,
 use Rattle.builder.proofs.Laws.{content_decides, pads, ready}
 use Rattle.builder.proofs.build_with.Goals as goal
 
-slip-bytes : (c : goal.After-shared_slice_known-1) → Bytes c.before.args.slip.now
-slip-bytes c k = omega (arith, c.shared-slice-known.given k)
-
-content_bytes : (c : goal.After-shared_slice_known-3-1) → Bytes c.before.before.before.args.content.now
-content_bytes c k = omega (arith, c.shared-slice-known3.given k)
-
 pub overflow_cast-n-2 : goal.overflow_cast-n-2
 overflow_cast-n-2 c =
     let a = c.args in
@@ -35,17 +29,18 @@ returns-then-not-volumes_good c =
 
 pub content_fits-requires : goal.content_fits-requires
 content_fits-requires c =
+    let slip_bytes : Bytes c.args.slip.now = λ k. omega (arith, c.type_inv.slip k) in
     let table_is : c.volumes_good.new.table ≡ slip_table c.args.g.leb_size c.args.slip.now = c.volumes_good.ensures.table (value_is refl c.if-not-volumes_good.false) in
     let good : all_of (volume_rules c.args.g (peb_count_of c.args.g c.args.image.now) c.args.slip.now) ≡ true = value_is c.volumes_good.ensures.good c.if-not-volumes_good.false in
     let a = c.args in let q = good in let m = peb_count_of a.g a.image.now in
-    let few = fields_few a.g m a.slip.now c.requires.0.0 (slip-bytes c) q in
-    let long = table_long a.g m a.slip.now c.requires.0.0 (slip-bytes c) q in (
+    let few = fields_few a.g m a.slip.now c.requires.0.0 slip_bytes q in
+    let long = table_long a.g m a.slip.now c.requires.0.0 slip_bytes q in (
       omega (arith, few, count_small a.g.leb_size),
       (
         omega (arith, few, long, ap length table_is),
         pads a.slip.now a.image_seq a.lengths.now a.content.now a.image.now a.g c.requires.1.0 q c.requires.0.1
             table_is c.requires.0.0
-            (slip-bytes c),
+            slip_bytes,
       ),
     )
 
@@ -62,6 +57,8 @@ returns-then-not-content_fits c =
 
 pub fill_image-requires : goal.fill_image-requires
 fill_image-requires c =
+    let slip_bytes : Bytes c.args.slip.now = λ k. omega (arith, c.type_inv.slip k) in
+    let content_bytes : Bytes c.args.content.now = λ k. omega (arith, c.type_inv.content k) in
     let good : all_of (volume_rules c.args.g (peb_count_of c.args.g c.args.image.now) c.args.slip.now) ≡ true = value_is c.volumes_good.ensures.good c.if-not-volumes_good.false in
     let table_is : c.volumes_good.new.table ≡ slip_table c.args.g.leb_size c.args.slip.now = c.volumes_good.ensures.table (value_is refl c.if-not-volumes_good.false) in
     let fits : let a = c.args in
@@ -70,8 +67,8 @@ fill_image-requires c =
     c.requires.0.1 table_is c.content_fits.ensures) c.if-not-content_fits.false in
     let a = c.args in (
       ready a.slip.now a.image_seq a.lengths.now a.content.now a.image.now a.g c.requires.1.0 good c.requires.0.1
-          table_is c.requires.0.0 (slip-bytes c) (omega arith)
-          (content_bytes c) fits,
+          table_is c.requires.0.0 slip_bytes (omega arith)
+          content_bytes fits,
       image_whole a.g a.image.now c.requires.1.0,
     )
 

@@ -1,4 +1,5 @@
 -- `capi::attaching::choduljin_listing` meets its contract. Assumes nothing.
+use mathlib.Core.List.{[]}
 use mathlib.Core.Path.{refl}
 use mathlib.Core.List.{◌∷◌}
 use Prim.Native.Nat.{ℕ}

@@ -1,4 +1,5 @@
 -- `capi_words::read::plan_in` meets its contract. Assumes nothing.
+use mathlib.Core.List.{[]}
 use mathlib.Core.List.{◌∷◌, ◌++◌}
 use Rattle.capi_words.specs.Structs.{plan_in, plan_front, vid_most, ec_most, most32}
 use Rattle.capi_words.proofs.Laws.{part_within}

@@ -1,4 +1,5 @@
 -- `capi_words::read::report_in` meets its contract. Assumes nothing.
+use mathlib.Core.List.{[]}
 use mathlib.Core.List.{◌∷◌}
 use Rattle.capi_words.specs.Structs.{report_in, geometry_most, report_rest}
 use Rattle.capi_words.proofs.Laws.{part_within}

@@ -2,6 +2,7 @@
 use mathlib.Core.Path.{◌≡◌, sym, ◌∙◌}
 use mathlib.Core.Bool.{false}
 use Prim.Native.Nat.{ℕ}
+use mathlib.Core.List.{List}
 use native.Mathlib.Omega.{arith}
 use borrow.Author.Rules.{rules}
 use Rattle.base.proofs.Below.{any_intro, none_intro}
@@ -9,8 +10,9 @@ use Rattle.choice.specs.Keyed.{same_leb}
 use Rattle.choice.proofs.Chains.{along_from, along_next, walk_on, walk_end, other_leb}
 use Rattle.choice.proofs.chain.has_lower_copy.Goals as goal
 
-abbrev Other : goal.Start → ℕ → Type 0
-Other d k = same_leb d.args.map.now d.args.i k ≡ false
+-- PEB k has another LEB than PEB i
+abbrev Other : List ℕ → ℕ → ℕ → Type 0
+Other map i k = same_leb map i k ≡ false
 
 pub loop-j-init : goal.loop-j-init
 loop-j-init c =
@@ -35,7 +37,7 @@ pub loop-j-preserved : goal.loop-j-preserved
 loop-j-preserved c =
     let v = c.loop-j.invariant in (
       rw c.link-j-in-loop-j.ensures (along_next v.0 c.requires.1.1.0 (omega arith) (omega arith)),
-      walk_on v.0 (Other c) v.1 (λ x _ f. other_leb c.args.map.now c.args.i x f c.requires.1.1.1)
+      walk_on v.0 (Other c.args.map.now c.args.i) v.1 (λ x _ f. other_leb c.args.map.now c.args.i x f c.requires.1.1.1)
           (sym c.same_leb.ensures ∙ c.if-same_leb.false),
     )
 
@@ -43,5 +45,5 @@ pub returns : goal.returns
 returns c =
     let v = c.loop-j.invariant in
     sym (none_intro c.args.i (same_leb c.args.map.now c.args.i)
-    (walk_end v.0 (Other c) v.1 (λ x _ f. other_leb c.args.map.now c.args.i x f c.requires.1.1.1)
+    (walk_end v.0 (Other c.args.map.now c.args.i) v.1 (λ x _ f. other_leb c.args.map.now c.args.i x f c.requires.1.1.1)
     (omega arith)))

@@ -1,6 +1,6 @@
 -- `choice::chosen::higher` meets its contract. Assumes nothing.
 use native.Mathlib.Omega.{arith}
-use borrow.Author.Tests.{eq-eqb, ne_eqb, lt-ltb, le-ltb, le-leb, lt-leb, not-false}
+use borrow.Author.Tests.{eq-eqb, ne_eqb, lt-ltb, le-ltb, le-leb, lt-leb}
 use Rattle.choice.proofs.Words.{within}
 use Rattle.choice.proofs.chosen.higher.Goals as goal
 
@@ -22,7 +22,7 @@ returns-then-most-s c =
     let s = c.same_leb in
     rw (
       ← s.ensures,
-      not-false s.result c.if-not-same_leb.false,
+      c.if-not-same_leb.false,
       ← c.header_field-s.ensures,
       lt-leb _ _ c.if-most-s.true,
     )
@@ -32,7 +32,7 @@ returns-then-best-n c =
     let s = c.same_leb in
     rw (
       ← s.ensures,
-      not-false s.result c.if-not-same_leb.false,
+      c.if-not-same_leb.false,
       ← c.header_field-s.ensures,
       le-leb _ _ c.if-most-s.false,
       eq-eqb _ _ c.if-best-n.true,
@@ -48,7 +48,7 @@ returns-then-header_field-s c =
     let s = c.same_leb in
     rw (
       ← s.ensures,
-      not-false s.result c.if-not-same_leb.false,
+      c.if-not-same_leb.false,
       ← c.header_field-s.ensures,
       le-leb _ _ c.if-most-s.false,
       ne_eqb _ _ c.if-best-n.false,
@@ -61,7 +61,7 @@ returns c =
     let s = c.same_leb in
     rw (
       ← s.ensures,
-      not-false s.result c.if-not-same_leb.false,
+      c.if-not-same_leb.false,
       ← c.header_field-s.ensures,
       le-leb _ _ c.if-most-s.false,
       ne_eqb _ _ c.if-best-n.false,

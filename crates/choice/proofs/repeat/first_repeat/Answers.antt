@@ -14,6 +14,7 @@ use Rattle.choice.proofs.Chains.{along_from, along_next, walk_on, walk_end, othe
 use Rattle.choice.proofs.Repeats.{Fresh, no_repeat, a_repeat}
 use Rattle.choice.proofs.repeat.first_repeat.Goals as goal
 
+-- PEB i does not repeat PEB m
 abbrev Apart : Geometry → List ℕ → ℕ → ℕ → Type 0
 Apart g image i m = repeats (copies (views_of g image) i) (copies (views_of g image) m) ≡ false
 
