@@ -18,7 +18,7 @@ pub peb_start-requires : goal.peb_start-requires
 peb_start-requires c =
     let may : let a = c.args in runnable a.plan a.image.now ≡ true = value_is c.may_run.ensures c.if-not-may_run.false in
     let runs : let a = c.args in Running a.g a.plan a.image.now = running c.args.g c.args.plan c.requires c.args.image.now may in
-    let r = runs in (r.target_below, r.decreases.placed.peb_most)
+    let r = runs in (r.target_below, r.measured.placed.peb_most)
 
 pub overflow_add-result : goal.overflow_add-result
 overflow_add-result c =
@@ -29,8 +29,8 @@ overflow_add-result c =
       arith,
       c.peb_start.ensures,
       r.target_room,
-      r.decreases.placed.leb_fills,
-      r.decreases.placed.data_after_vid,
+      r.measured.placed.leb_fills,
+      r.measured.placed.data_after_vid,
     )
 
 pub returns-then-plan-eq0 : goal.returns-then-plan-eq0
@@ -64,7 +64,7 @@ pub peb_start-at-requires : goal.peb_start-at-requires
 peb_start-at-requires c =
     let may : let a = c.args in runnable a.plan a.image.now ≡ true = value_is c.may_run.ensures c.if-not-may_run.false in
     let runs : let a = c.args in Running a.g a.plan a.image.now = running c.args.g c.args.plan c.requires c.args.image.now may in
-    let r = runs in (r.old_below, r.decreases.placed.peb_most)
+    let r = runs in (r.old_below, r.measured.placed.peb_most)
 
 pub returns-then-j-k-2 : goal.returns-then-j-k-2
 returns-then-j-k-2 c =
