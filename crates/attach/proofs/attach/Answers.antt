@@ -15,7 +15,7 @@ pub returns-in-Good : goal.returns-in-Good
 returns-in-Good c =
     let a = c.args in let q = promised a.slip.now a.image.now (lent a.pebs.now a.map.now a.states.now) (given c.in-Good.g)
     (sym (ap geometry_read c.in-Good.is) ∙ c.read_slip-r.ensures)
-    c.attach_image.ensures in record { answer = q.0; tables = c.in-Good.is }
+    c.attach_image.ensures in record { answer = q.0; tables = q.1 }
 
 pub returns-in-Malformed : goal.returns-in-Malformed
 returns-in-Malformed c =

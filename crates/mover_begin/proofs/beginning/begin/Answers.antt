@@ -25,4 +25,4 @@ unfolding beginning
 returns-in-Refused c =
     let a = c.args in
     let o = attaching_into (request a.slip.now) a.image.now (lent a.pebs.now a.map.now a.states.now) in
-    record { answer = refused_too o c.in-Refused.number r.0.1.0 a.volume a.lnum a.target (sym (ap attached_answer c.in-Refused.is) ∙ c.attach-r.ensures.answer); tables = c.attach-r.ensures.tables }
+    record { answer = refused_too o c.in-Refused.number c.in-Refused.place a.volume a.lnum a.target (sym (ap attached_answer c.in-Refused.is) ∙ c.attach-r.ensures.answer); tables = c.attach-r.ensures.tables }
