@@ -11,7 +11,7 @@ use Rattle.capi.proofs.attaching.choduljin_attach.Goals as goal
 
 pub returns-then-report-lt-REPORT_WORDS : goal.returns-then-report-lt-REPORT_WORDS
 returns-then-report-lt-REPORT_WORDS c =
-    let q = rw (lt-ltb _ _ c.if-report-lt-REPORT_WORDS.true) (refl, (refl, refl)) in record { answer = q.0; tables = q.1.0; report = q.1.1 }
+    rw (lt-ltb _ _ c.if-report-lt-REPORT_WORDS.true) (record { answer = refl; tables = refl; report = refl })
 
 pub returns : goal.returns
 returns c =
@@ -19,4 +19,4 @@ returns c =
     let u =
     told number_of (λ (x : Answer Report). over (answer_words report_words x) a.report.now)
     c.attach-a.ensures.answer (c.store_attached.ensures.answer, c.store_attached.ensures.words) in
-    let q = rw (le-ltb _ _ c.if-report-lt-REPORT_WORDS.false) (u.0, (c.attach-a.ensures.tables, u.1)) in record { answer = q.0; tables = q.1.0; report = q.1.1 }
+    rw (le-ltb _ _ c.if-report-lt-REPORT_WORDS.false) (record { answer = u.0; tables = c.attach-a.ensures.tables; report = u.1 })

@@ -11,11 +11,11 @@ use Rattle.capi.proofs.attaching.choduljin_geometry.Goals as goal
 
 pub returns-then-geometry-lt-GEOMETRY_WORDS : goal.returns-then-geometry-lt-GEOMETRY_WORDS
 returns-then-geometry-lt-GEOMETRY_WORDS c =
-    let q = rw (lt-ltb _ _ c.if-geometry-lt-GEOMETRY_WORDS.true) (refl, refl) in record { answer = q.0; geometry = q.1 }
+    rw (lt-ltb _ _ c.if-geometry-lt-GEOMETRY_WORDS.true) (record { answer = refl; geometry = refl })
 
 pub returns : goal.returns
 returns c =
     let a = c.args in
-    let q = rw (le-ltb _ _ c.if-geometry-lt-GEOMETRY_WORDS.false)
-    (told number_of (λ (x : Answer Geometry). over (given_words geometry_words x) a.geometry.now)
-    c.check_geometry-r.ensures (c.store_geometry.ensures.answer, c.store_geometry.ensures.words)) in record { answer = q.0; geometry = q.1 }
+    rw (le-ltb _ _ c.if-geometry-lt-GEOMETRY_WORDS.false)
+    (let q = told number_of (λ (x : Answer Geometry). over (given_words geometry_words x) a.geometry.now)
+    c.check_geometry-r.ensures (c.store_geometry.ensures.answer, c.store_geometry.ensures.words) in record { answer = q.0; geometry = q.1 })

@@ -16,16 +16,16 @@ use Rattle.capi.proofs.attaching.choduljin_listing.Goals as goal
 
 pub returns-then-report-lt-REPORT_WORDS : goal.returns-then-report-lt-REPORT_WORDS
 returns-then-report-lt-REPORT_WORDS c =
-    let q = rw (lt-ltb _ _ c.if-report-lt-REPORT_WORDS.true) (refl, (refl, refl)) in record { answer = q.0; out = q.1.0; length = q.1.1 }
+    rw (lt-ltb _ _ c.if-report-lt-REPORT_WORDS.true) (record { answer = refl; out = refl; length = refl })
 
 pub returns-then-count-lt1 : goal.returns-then-count-lt1
 returns-then-count-lt1 c =
-    let q = rw (le-ltb _ _ c.if-report-lt-REPORT_WORDS.false, lt-ltb _ _ c.if-count-lt1.true) (refl, (refl, refl)) in record { answer = q.0; out = q.1.0; length = q.1.1 }
+    rw (le-ltb _ _ c.if-report-lt-REPORT_WORDS.false, lt-ltb _ _ c.if-count-lt1.true) (record { answer = refl; out = refl; length = refl })
 
 pub returns-then-not-attached_fits : goal.returns-then-not-attached_fits
 returns-then-not-attached_fits c =
     let n = value_is c.attached_fits.ensures c.if-not-attached_fits.true in
-    let q = rw (le-ltb _ _ c.if-report-lt-REPORT_WORDS.false, le-ltb _ _ c.if-count-lt1.false, n) (refl, (refl, refl)) in record { answer = q.0; out = q.1.0; length = q.1.1 }
+    rw (le-ltb _ _ c.if-report-lt-REPORT_WORDS.false, le-ltb _ _ c.if-count-lt1.false, n) (record { answer = refl; out = refl; length = refl })
 
 pub attached_in-a-requires : goal.attached_in-a-requires
 attached_in-a-requires c =
@@ -42,4 +42,4 @@ returns c =
     told number_of (λ (x : Answer ℕ). over (given_words (λ (n : ℕ). n ∷ []) x) a.count.now) t.0
     (c.store_rendered.ensures.answer, c.store_rendered.ensures.words) in
     let y = value_is c.attached_fits.ensures c.if-not-attached_fits.false in
-    let q = rw (le-ltb _ _ c.if-report-lt-REPORT_WORDS.false, le-ltb _ _ c.if-count-lt1.false, y) (u.0, (t.1, u.1)) in record { answer = q.0; out = q.1.0; length = q.1.1 }
+    rw (le-ltb _ _ c.if-report-lt-REPORT_WORDS.false, le-ltb _ _ c.if-count-lt1.false, y) (record { answer = u.0; out = t.1; length = u.1 })

@@ -12,11 +12,11 @@ use Rattle.capi.proofs.headers.choduljin_read_ec.Goals as goal
 
 pub returns-then-ec-lt-EC_WORDS : goal.returns-then-ec-lt-EC_WORDS
 returns-then-ec-lt-EC_WORDS c =
-    let q = rw (lt-ltb _ _ c.if-ec-lt-EC_WORDS.true) (refl, refl) in record { answer = q.0; ec = q.1 }
+    rw (lt-ltb _ _ c.if-ec-lt-EC_WORDS.true) (record { answer = refl; ec = refl })
 
 pub returns : goal.returns
 returns c =
     let a = c.args in
-    let q = rw (le-ltb _ _ c.if-ec-lt-EC_WORDS.false)
-    (told verdict_number (λ (x : Answer (Verdict EcHeader)). over (verdict_words ec_words x) a.ec.now)
-    c.read_ec-r.ensures (c.store_ec.ensures.answer, c.store_ec.ensures.words)) in record { answer = q.0; ec = q.1 }
+    rw (le-ltb _ _ c.if-ec-lt-EC_WORDS.false)
+    (let q = told verdict_number (λ (x : Answer (Verdict EcHeader)). over (verdict_words ec_words x) a.ec.now)
+    c.read_ec-r.ensures (c.store_ec.ensures.answer, c.store_ec.ensures.words) in record { answer = q.0; ec = q.1 })

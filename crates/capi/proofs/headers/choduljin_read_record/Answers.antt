@@ -6,15 +6,15 @@ use Rattle.capi.proofs.headers.choduljin_read_record.Goals as goal
 
 pub returns-then-words-lt-RECORD_WORDS : goal.returns-then-words-lt-RECORD_WORDS
 returns-then-words-lt-RECORD_WORDS c =
-    let q = rw (lt-ltb _ _ c.if-words-lt-RECORD_WORDS.true) (refl, (refl, refl)) in record { answer = q.0; words = q.1.0; name = q.1.1 }
+    rw (lt-ltb _ _ c.if-words-lt-RECORD_WORDS.true) (record { answer = refl; words = refl; name = refl })
 
 pub returns-then-name-lt-NAME_BYTES : goal.returns-then-name-lt-NAME_BYTES
 returns-then-name-lt-NAME_BYTES c =
-    let q = rw (le-ltb _ _ c.if-words-lt-RECORD_WORDS.false, lt-ltb _ _ c.if-name-lt-NAME_BYTES.true) (refl, (refl, refl)) in record { answer = q.0; words = q.1.0; name = q.1.1 }
+    rw (le-ltb _ _ c.if-words-lt-RECORD_WORDS.false, lt-ltb _ _ c.if-name-lt-NAME_BYTES.true) (record { answer = refl; words = refl; name = refl })
 
 pub returns : goal.returns
 returns c =
     let a = c.args in
-    let q = rw (le-ltb _ _ c.if-words-lt-RECORD_WORDS.false, le-ltb _ _ c.if-name-lt-NAME_BYTES.false)
-    (record_told a.words.now a.name.now c.read_record-r.ensures.kind c.read_record-r.ensures.record
-    (c.store_record.ensures.answer, (c.store_record.ensures.words, c.store_record.ensures.name))) in record { answer = q.0; words = q.1.0; name = q.1.1 }
+    rw (le-ltb _ _ c.if-words-lt-RECORD_WORDS.false, le-ltb _ _ c.if-name-lt-NAME_BYTES.false)
+    (let q = record_told a.words.now a.name.now c.read_record-r.ensures.kind c.read_record-r.ensures.record
+    (c.store_record.ensures.answer, (c.store_record.ensures.words, c.store_record.ensures.name)) in record { answer = q.0; words = q.1.0; name = q.1.1 })

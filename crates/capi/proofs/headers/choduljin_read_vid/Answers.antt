@@ -12,11 +12,11 @@ use Rattle.capi.proofs.headers.choduljin_read_vid.Goals as goal
 
 pub returns-then-vid-lt-VID_WORDS : goal.returns-then-vid-lt-VID_WORDS
 returns-then-vid-lt-VID_WORDS c =
-    let q = rw (lt-ltb _ _ c.if-vid-lt-VID_WORDS.true) (refl, refl) in record { answer = q.0; vid = q.1 }
+    rw (lt-ltb _ _ c.if-vid-lt-VID_WORDS.true) (record { answer = refl; vid = refl })
 
 pub returns : goal.returns
 returns c =
     let a = c.args in
-    let q = rw (le-ltb _ _ c.if-vid-lt-VID_WORDS.false)
-    (told verdict_number (λ (x : Answer (Verdict VidHeader)). over (verdict_words vid_words x) a.vid.now)
-    c.read_vid-r.ensures (c.store_vid.ensures.answer, c.store_vid.ensures.words)) in record { answer = q.0; vid = q.1 }
+    rw (le-ltb _ _ c.if-vid-lt-VID_WORDS.false)
+    (let q = told verdict_number (λ (x : Answer (Verdict VidHeader)). over (verdict_words vid_words x) a.vid.now)
+    c.read_vid-r.ensures (c.store_vid.ensures.answer, c.store_vid.ensures.words) in record { answer = q.0; vid = q.1 })

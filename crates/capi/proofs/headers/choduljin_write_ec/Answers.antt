@@ -12,11 +12,11 @@ use Rattle.capi.proofs.headers.choduljin_write_ec.Goals as goal
 
 pub returns-then-ec-lt-EC_WORDS : goal.returns-then-ec-lt-EC_WORDS
 returns-then-ec-lt-EC_WORDS c =
-    let q = rw (lt-ltb _ _ c.if-ec-lt-EC_WORDS.true) (refl, refl) in record { answer = q.0; out = q.1 }
+    rw (lt-ltb _ _ c.if-ec-lt-EC_WORDS.true) (record { answer = refl; out = refl })
 
 pub returns-then-not-ec_fits : goal.returns-then-not-ec_fits
 returns-then-not-ec_fits c =
-    let q = rw (le-ltb _ _ c.if-ec-lt-EC_WORDS.false, value_is c.ec_fits.ensures c.if-not-ec_fits.true) (refl, refl) in record { answer = q.0; out = q.1 }
+    rw (le-ltb _ _ c.if-ec-lt-EC_WORDS.false, value_is c.ec_fits.ensures c.if-not-ec_fits.true) (record { answer = refl; out = refl })
 
 pub ec_in-h-requires : goal.ec_in-h-requires
 ec_in-h-requires c =
@@ -28,5 +28,4 @@ returns c =
     let t =
     told (λ (h : EcHeader). ec_written h a.out.now) (λ (h : EcHeader). ec_out h a.out.now)
     c.ec_in-h.ensures c.write_ec-w.ensures in
-    let q = rw (le-ltb _ _ c.if-ec-lt-EC_WORDS.false, value_is c.ec_fits.ensures c.if-not-ec_fits.false)
-    (c.written_number.ensures ∙ ap number_of t.0, t.1) in record { answer = q.0; out = q.1 }
+    rw (le-ltb _ _ c.if-ec-lt-EC_WORDS.false, value_is c.ec_fits.ensures c.if-not-ec_fits.false) (record { answer = c.written_number.ensures ∙ ap number_of t.0; out = t.1 })

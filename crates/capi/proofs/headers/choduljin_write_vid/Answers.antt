@@ -12,12 +12,11 @@ use Rattle.capi.proofs.headers.choduljin_write_vid.Goals as goal
 
 pub returns-then-vid-lt-VID_WORDS : goal.returns-then-vid-lt-VID_WORDS
 returns-then-vid-lt-VID_WORDS c =
-    let q = rw (lt-ltb _ _ c.if-vid-lt-VID_WORDS.true) (refl, refl) in record { answer = q.0; out = q.1 }
+    rw (lt-ltb _ _ c.if-vid-lt-VID_WORDS.true) (record { answer = refl; out = refl })
 
 pub returns-then-not-vid_fits : goal.returns-then-not-vid_fits
 returns-then-not-vid_fits c =
-    let q = rw (le-ltb _ _ c.if-vid-lt-VID_WORDS.false, value_is c.vid_fits.ensures c.if-not-vid_fits.true)
-    (refl, refl) in record { answer = q.0; out = q.1 }
+    rw (le-ltb _ _ c.if-vid-lt-VID_WORDS.false, value_is c.vid_fits.ensures c.if-not-vid_fits.true) (record { answer = refl; out = refl })
 
 pub vid_in-h-requires : goal.vid_in-h-requires
 vid_in-h-requires c =
@@ -30,5 +29,4 @@ returns c =
     told (λ (h : VidHeader). vid_written a.leb_size h a.out.now)
     (λ (h : VidHeader). vid_out a.leb_size h a.out.now)
     c.vid_in-h.ensures c.write_vid-w.ensures in
-    let q = rw (le-ltb _ _ c.if-vid-lt-VID_WORDS.false, value_is c.vid_fits.ensures c.if-not-vid_fits.false)
-    (c.written_number.ensures ∙ ap number_of t.0, t.1) in record { answer = q.0; out = q.1 }
+    rw (le-ltb _ _ c.if-vid-lt-VID_WORDS.false, value_is c.vid_fits.ensures c.if-not-vid_fits.false) (record { answer = c.written_number.ensures ∙ ap number_of t.0; out = t.1 })

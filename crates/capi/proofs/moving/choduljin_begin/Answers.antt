@@ -11,7 +11,7 @@ use Rattle.capi.proofs.moving.choduljin_begin.Goals as goal
 
 pub returns-then-plan-lt-PLAN_WORDS : goal.returns-then-plan-lt-PLAN_WORDS
 returns-then-plan-lt-PLAN_WORDS c =
-    let q = rw (lt-ltb _ _ c.if-plan-lt-PLAN_WORDS.true) (refl, (refl, refl)) in record { answer = q.0; tables = q.1.0; plan = q.1.1 }
+    rw (lt-ltb _ _ c.if-plan-lt-PLAN_WORDS.true) (record { answer = refl; tables = refl; plan = refl })
 
 pub returns : goal.returns
 returns c =
@@ -19,4 +19,4 @@ returns c =
     let u =
     told number_of (λ (x : Answer Plan). over (answer_words plan_words x) a.plan.now)
     c.begin-b.ensures.answer (c.store_begun.ensures.answer, c.store_begun.ensures.words) in
-    let q = rw (le-ltb _ _ c.if-plan-lt-PLAN_WORDS.false) (u.0, (c.begin-b.ensures.tables, u.1)) in record { answer = q.0; tables = q.1.0; plan = q.1.1 }
+    rw (le-ltb _ _ c.if-plan-lt-PLAN_WORDS.false) (record { answer = u.0; tables = c.begin-b.ensures.tables; plan = u.1 })

@@ -9,12 +9,11 @@ use Rattle.capi.proofs.moving.choduljin_finish.Goals as goal
 
 pub returns-then-plan-lt-PLAN_WORDS : goal.returns-then-plan-lt-PLAN_WORDS
 returns-then-plan-lt-PLAN_WORDS c =
-    let q = rw (lt-ltb _ _ c.if-plan-lt-PLAN_WORDS.true) (refl, (refl, refl)) in record { answer = q.0; plan = q.1.0; image = q.1.1 }
+    rw (lt-ltb _ _ c.if-plan-lt-PLAN_WORDS.true) (record { answer = refl; plan = refl; image = refl })
 
 pub returns-then-not-plan_fits : goal.returns-then-not-plan_fits
 returns-then-not-plan_fits c =
-    let q = rw (le-ltb _ _ c.if-plan-lt-PLAN_WORDS.false, value_is c.plan_fits.ensures c.if-not-plan_fits.true)
-    (refl, (refl, refl)) in record { answer = q.0; plan = q.1.0; image = q.1.1 }
+    rw (le-ltb _ _ c.if-plan-lt-PLAN_WORDS.false, value_is c.plan_fits.ensures c.if-not-plan_fits.true) (record { answer = refl; plan = refl; image = refl })
 
 pub plan_in-p-requires : goal.plan_in-p-requires
 plan_in-p-requires c =
@@ -24,5 +23,5 @@ plan_in-p-requires c =
 pub returns : goal.returns
 returns c =
     let a = c.args in
-    let q = rw (le-ltb _ _ c.if-plan-lt-PLAN_WORDS.false, value_is c.plan_fits.ensures c.if-not-plan_fits.false)
-    (finished_told a.image.now a.plan.now c.plan_in-p.ensures (c.run_steps.ensures.answer, (c.run_steps.ensures.words, c.run_steps.ensures.image))) in record { answer = q.0; plan = q.1.0; image = q.1.1 }
+    rw (le-ltb _ _ c.if-plan-lt-PLAN_WORDS.false, value_is c.plan_fits.ensures c.if-not-plan_fits.false)
+    (let q = finished_told a.image.now a.plan.now c.plan_in-p.ensures (c.run_steps.ensures.answer, (c.run_steps.ensures.words, c.run_steps.ensures.image)) in record { answer = q.0; plan = q.1.0; image = q.1.1 })

@@ -14,16 +14,15 @@ use Rattle.capi.proofs.moving.choduljin_next_write.Goals as goal
 
 pub returns-then-plan-lt-PLAN_WORDS : goal.returns-then-plan-lt-PLAN_WORDS
 returns-then-plan-lt-PLAN_WORDS c =
-    let q = rw (lt-ltb _ _ c.if-plan-lt-PLAN_WORDS.true) (refl, refl) in record { answer = q.0; write = q.1 }
+    rw (lt-ltb _ _ c.if-plan-lt-PLAN_WORDS.true) (record { answer = refl; write = refl })
 
 pub returns-then-write-lt-WRITE_WORDS : goal.returns-then-write-lt-WRITE_WORDS
 returns-then-write-lt-WRITE_WORDS c =
-    let q = rw (le-ltb _ _ c.if-plan-lt-PLAN_WORDS.false, lt-ltb _ _ c.if-write-lt-WRITE_WORDS.true) (refl, refl) in record { answer = q.0; write = q.1 }
+    rw (le-ltb _ _ c.if-plan-lt-PLAN_WORDS.false, lt-ltb _ _ c.if-write-lt-WRITE_WORDS.true) (record { answer = refl; write = refl })
 
 pub returns-then-not-plan_fits : goal.returns-then-not-plan_fits
 returns-then-not-plan_fits c =
-    let q = rw (le-ltb _ _ c.if-plan-lt-PLAN_WORDS.false, le-ltb _ _ c.if-write-lt-WRITE_WORDS.false, value_is c.plan_fits.ensures c.if-not-plan_fits.true)
-    (refl, refl) in record { answer = q.0; write = q.1 }
+    rw (le-ltb _ _ c.if-plan-lt-PLAN_WORDS.false, le-ltb _ _ c.if-write-lt-WRITE_WORDS.false, value_is c.plan_fits.ensures c.if-not-plan_fits.true) (record { answer = refl; write = refl })
 
 pub plan_in-p-requires : goal.plan_in-p-requires
 plan_in-p-requires c =
@@ -34,5 +33,5 @@ pub returns : goal.returns
 returns c =
     let a = c.args in
     let q = c.next_write-w.ensures ∙ ap (λ (x : Plan). next_write x a.image.now) c.plan_in-p.ensures in
-    let q = rw (le-ltb _ _ c.if-plan-lt-PLAN_WORDS.false, le-ltb _ _ c.if-write-lt-WRITE_WORDS.false, value_is c.plan_fits.ensures c.if-not-plan_fits.false)
-    (told next_number (λ (x : NextWrite). over (next_words x) a.write.now) q (c.store_next.ensures.answer, c.store_next.ensures.words)) in record { answer = q.0; write = q.1 }
+    rw (le-ltb _ _ c.if-plan-lt-PLAN_WORDS.false, le-ltb _ _ c.if-write-lt-WRITE_WORDS.false, value_is c.plan_fits.ensures c.if-not-plan_fits.false)
+    (let q = told next_number (λ (x : NextWrite). over (next_words x) a.write.now) q (c.store_next.ensures.answer, c.store_next.ensures.words) in record { answer = q.0; write = q.1 })

@@ -15,12 +15,11 @@ use Rattle.capi.proofs.moving.choduljin_step.Goals as goal
 
 pub returns-then-plan-lt-PLAN_WORDS : goal.returns-then-plan-lt-PLAN_WORDS
 returns-then-plan-lt-PLAN_WORDS c =
-    let q = rw (lt-ltb _ _ c.if-plan-lt-PLAN_WORDS.true) (refl, (refl, refl)) in record { answer = q.0; plan = q.1.0; image = q.1.1 }
+    rw (lt-ltb _ _ c.if-plan-lt-PLAN_WORDS.true) (record { answer = refl; plan = refl; image = refl })
 
 pub returns-then-not-plan_fits : goal.returns-then-not-plan_fits
 returns-then-not-plan_fits c =
-    let q = rw (le-ltb _ _ c.if-plan-lt-PLAN_WORDS.false, value_is c.plan_fits.ensures c.if-not-plan_fits.true)
-    (refl, (refl, refl)) in record { answer = q.0; plan = q.1.0; image = q.1.1 }
+    rw (le-ltb _ _ c.if-plan-lt-PLAN_WORDS.false, value_is c.plan_fits.ensures c.if-not-plan_fits.true) (record { answer = refl; plan = refl; image = refl })
 
 pub plan_in-p-requires : goal.plan_in-p-requires
 plan_in-p-requires c =
@@ -37,4 +36,4 @@ returns c =
     let u =
     told progress_number (λ (x : Answer (Progress Plan)). over (progress_words x) a.plan.now) t.0
     (c.store_stepped.ensures.answer, c.store_stepped.ensures.words) in
-    let q = rw (le-ltb _ _ c.if-plan-lt-PLAN_WORDS.false, value_is c.plan_fits.ensures c.if-not-plan_fits.false) (u.0, (u.1, t.1)) in record { answer = q.0; plan = q.1.0; image = q.1.1 }
+    rw (le-ltb _ _ c.if-plan-lt-PLAN_WORDS.false, value_is c.plan_fits.ensures c.if-not-plan_fits.false) (record { answer = u.0; plan = u.1; image = t.1 })

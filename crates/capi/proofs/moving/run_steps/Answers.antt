@@ -40,12 +40,12 @@ returns-in-Done c =
     let a = c.args in
     let q = last_done a.plan l.p a.image.now l.image a.lent.now l.invariant.1.1 c.step-s.ensures.image
     (sym (ap stepped_answer c.in-Done.is) ∙ c.step-s.ensures.answer)
-    (rw l.invariant.1.0 at (c.store_plan.ensures.answer, c.store_plan.ensures.words)) in record { answer = q.0; words = q.1.0; image = q.1.1 }
+    (c.store_plan.ensures.answer, rw l.invariant.1.0 at c.store_plan.ensures.words) in record { answer = q.0; words = q.1.0; image = q.1.1 }
 
 pub returns-in-Refused : goal.returns-in-Refused
 returns-in-Refused c =
     let l = c.loop-next in
     let a = c.args in
-    let q = rw l.invariant.1.0
-    (last_refused a.plan l.p a.image.now l.image a.lent.now l.invariant.1.1 c.step-s.ensures.image
-    (sym (ap stepped_answer c.in-Refused.is) ∙ c.step-s.ensures.answer)) in record { answer = q.0; words = q.1.0; image = q.1.1 }
+    rw l.invariant.1.0
+    (let q = last_refused a.plan l.p a.image.now l.image a.lent.now l.invariant.1.1 c.step-s.ensures.image
+    (sym (ap stepped_answer c.in-Refused.is) ∙ c.step-s.ensures.answer) in record { answer = q.0; words = q.1.0; image = q.1.1 })

@@ -4,8 +4,8 @@ use Rattle.capi_answers.proofs.store.store_attached.Goals as goal
 
 pub returns-in-Given : goal.returns-in-Given
 returns-in-Given c =
-    let q = rw c.in-Given.is (refl, rw c.report_words-words.ensures at c.store_words.ensures) in record { answer = q.0; words = q.1 }
+    rw c.in-Given.is (record { answer = refl; words = rw c.report_words-words.ensures at c.store_words.ensures })
 
 pub returns-in-Refused : goal.returns-in-Refused
 returns-in-Refused c =
-    let q = rw c.in-Refused.is (c.store_refusal.ensures.answer, c.store_refusal.ensures.words) in record { answer = q.0; words = q.1 }
+    rw c.in-Refused.is (record { answer = c.store_refusal.ensures.answer; words = c.store_refusal.ensures.words })

@@ -3,8 +3,8 @@ use Rattle.capi_answers.proofs.store.store_begun.Goals as goal
 
 pub returns-in-Planned : goal.returns-in-Planned
 returns-in-Planned c =
-    let q = rw c.in-Planned.is (c.store_plan.ensures.answer, c.store_plan.ensures.words) in record { answer = q.0; words = q.1 }
+    rw c.in-Planned.is (record { answer = c.store_plan.ensures.answer; words = c.store_plan.ensures.words })
 
 pub returns-in-Refused : goal.returns-in-Refused
 returns-in-Refused c =
-    let q = rw c.in-Refused.is (c.store_refusal.ensures.answer, c.store_refusal.ensures.words) in record { answer = q.0; words = q.1 }
+    rw c.in-Refused.is (record { answer = c.store_refusal.ensures.answer; words = c.store_refusal.ensures.words })

@@ -4,4 +4,4 @@ use Rattle.capi_answers.proofs.store.store_geometry.Goals as goal
 
 pub returns-in-Good : goal.returns-in-Good
 returns-in-Good c =
-    let q = rw c.in-Good.is (refl, rw c.geometry_words-words.ensures at c.store_words.ensures) in record { answer = q.0; words = q.1 }
+    rw c.in-Good.is (record { answer = refl; words = rw c.geometry_words-words.ensures at c.store_words.ensures })

@@ -4,4 +4,4 @@ use Rattle.capi_answers.proofs.store.store_rendered.Goals as goal
 
 pub returns-in-Text : goal.returns-in-Text
 returns-in-Text c =
-    let q = rw c.in-Text.is (refl, c.store_words.ensures) in record { answer = q.0; words = q.1 }
+    rw c.in-Text.is (record { answer = refl; words = c.store_words.ensures })
