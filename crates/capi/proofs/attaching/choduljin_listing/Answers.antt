@@ -1,6 +1,8 @@
 -- `capi::attaching::choduljin_listing` meets its contract. Assumes nothing.
 use mathlib.Core.List.{[]}
 use mathlib.Core.Path.{refl}
+use native.Mathlib.Omega.{arith}
+use lib.ListN.{length}
 use mathlib.Core.List.{◌∷◌}
 use Prim.Native.Nat.{ℕ}
 use borrow.Author.Tests.{lt-ltb, le-ltb}
@@ -18,14 +20,10 @@ pub returns-then-report-lt-REPORT_WORDS : goal.returns-then-report-lt-REPORT_WOR
 returns-then-report-lt-REPORT_WORDS c =
     rw (lt-ltb _ _ c.if-report-lt-REPORT_WORDS.true) (record { answer = refl; out = refl; length = refl })
 
-pub returns-then-count-lt1 : goal.returns-then-count-lt1
-returns-then-count-lt1 c =
-    rw (le-ltb _ _ c.if-report-lt-REPORT_WORDS.false, lt-ltb _ _ c.if-count-lt1.true) (record { answer = refl; out = refl; length = refl })
-
 pub returns-then-not-attached_fits : goal.returns-then-not-attached_fits
 returns-then-not-attached_fits c =
     let n = value_is c.attached_fits.ensures c.if-not-attached_fits.true in
-    rw (le-ltb _ _ c.if-report-lt-REPORT_WORDS.false, le-ltb _ _ c.if-count-lt1.false, n) (record { answer = refl; out = refl; length = refl })
+    rw (le-ltb _ _ c.if-report-lt-REPORT_WORDS.false, le-ltb (length c.args.count.now) 1 (omega arith), n) (record { answer = refl; out = refl; length = refl })
 
 pub attached_in-a-requires : goal.attached_in-a-requires
 attached_in-a-requires c =
@@ -42,4 +40,4 @@ returns c =
     told number_of (λ (x : Answer ℕ). over (given_words (λ (n : ℕ). n ∷ []) x) a.count.now) t.0
     (c.store_rendered.ensures.answer, c.store_rendered.ensures.words) in
     let y = value_is c.attached_fits.ensures c.if-not-attached_fits.false in
-    rw (le-ltb _ _ c.if-report-lt-REPORT_WORDS.false, le-ltb _ _ c.if-count-lt1.false, y) (record { answer = u.0; out = t.1; length = u.1 })
+    rw (le-ltb _ _ c.if-report-lt-REPORT_WORDS.false, le-ltb (length c.args.count.now) 1 (omega arith), y) (record { answer = u.0; out = t.1; length = u.1 })
