@@ -5,7 +5,7 @@ use Rattle.ubilist.proofs.input.read.Goals as goal
 
 pub returns-in_default : goal.returns-in_default
 returns-in_default g c =
-    let i = input_after _ _ _ _ _ (omega arith) c.loop-next.invariant c.read_some-got.ensures c.after-t.ensures.moved
+    let i = input_after 9223372036854775807 c.loop-next.p c.read_some-got.result c.after-t.result _ (omega arith) c.loop-next.invariant c.read_some-got.ensures c.after-t.ensures.moved
     c.in_ok-got.was c.in_default.not-On in
     rw c.input_of.ensures (record { within = i.0; told = i.1 })
 
