@@ -1,6 +1,6 @@
 -- Laws of lists of numbers: what a loop that reads, stores, compares or fills needs. Assumes nothing.
 use mathlib.Core.Path.{◌≡◌, refl, sym, ap, ap₂, subst, ◌∙◌}
-use mathlib.Core.Bool.{Bool, true, false, ◌&&◌}
+use mathlib.Core.Bool.{Bool, true, ◌&&◌}
 use mathlib.Core.Logic.{⊎_elim}
 use mathlib.Core.List.{List, [], ◌∷◌, ◌++◌, map, append_assoc, Memᴰ}
 use Prim.Native.Nat.{ℕ, zero, suc, ◌+◌, ◌*◌, ◌-◌, ◌≤◌, ◌<◌}
@@ -8,13 +8,14 @@ use native.Mathlib.Nat.{add-suc, suc-add, add-zero, zero-add, sub-zero, zero-sub
 use native.Mathlib.Nat.{not-suc-le-zero, le_of_suc-le-suc}
 use native.Mathlib.Numerals.{add-one}
 use native.Mathlib.Omega.{arith}
-use borrow.Author.Tests.{eq-eqb, ne_eqb, eqb-true}
+use borrow.Author.Tests.{eq-eqb, eqb-true}
 use lib.Dec.{T, eqb, lit<}
+use lib.Pointwise.{pointwise}
 use lib.ListN.{length, take, drop, get_or, set, replicate, length-take, length-drop, length-map, take-append-drop}
 use lib.ListN.{get_or-append}
-use lib.Seq.{take_all, take-nil, take-length, take-take, drop-cons, drop-drop, drop_at, take-append_seam, get_or-drop}
-use lib.Seq.{get_or-append-add, paste, drop-length, drop-nil}
-use Rattle.base.proofs.Answers.{by_test, not_so, and_left, and_right}
+use lib.Seq.{take_all, take-nil, take-take, drop-drop, drop_at, take-append_seam, get_or-drop}
+use lib.Seq.{get_or-append-add, drop-nil}
+use Rattle.base.proofs.Answers.{by_test, and_left, and_right}
 use Rattle.base.specs.Lists.{part, put, eqs, table, rows, Bytes}
 
 -- ---- parts and stores
@@ -33,10 +34,6 @@ part_put at bs s h =
 
 pub put_part : (at n : ℕ) (s : List ℕ) → at + n ≤ length s → put at (part at n s) s ≡ s
 put_part at n s h = rw (length_part at n s h, ← drop-drop n at s, take-append-drop, take-append-drop)
-
--- a store that is done byte by byte
-pub paste_all : (d : List ℕ) (at : ℕ) (m : List ℕ) → paste d at m (length m) ≡ put at m d
-paste_all d at m = rw (take-length, append_assoc)
 
 pub drop_take : {A : Type 0} (s m : ℕ) (b : List A) → drop s (take m b) ≡ take (m - s) (drop s b)
 drop_take zero m b = rw sub-zero
@@ -133,29 +130,13 @@ eqs_true (x ∷ a) (y ∷ b) e =
     ap₂ (λ (z : ℕ) (l : List ℕ). z ∷ l) (eqb-true x y (and_left (eqb x y) (eqs a b) e))
     (eqs_true a b (and_right (eqb x y) (eqs a b) e))
 
-pub eqs_false : (a b : List ℕ) → (a ≡ b → ⊥) → eqs a b ≡ false
-eqs_false a b n = not_so (eqs a b) (λ e. n (eqs_true a b e))
-
-pub eqs_lengths : (a b : List ℕ) → (length a ≡ length b → ⊥) → eqs a b ≡ false
-eqs_lengths a b n = eqs_false a b (λ (e : a ≡ b). n (ap length e))
-
-eqs_step : (a b : List ℕ) (i : ℕ) → i < length a → i < length b →
-    eqs (drop i a) (drop i b) ≡ eqb (get_or a i 0) (get_or b i 0) && eqs (drop (i + 1) a) (drop (i + 1) b)
+-- what `==` of slices answers
+pub eqs_pairs : (a b : List ℕ) → pointwise eqb a b ≡ eqs a b
 unfolding eqs
-eqs_step a b i h k = rw (drop-cons a i 0, drop-cons b i 0, add-one)
-
--- a turn of a comparison: the elements are equal, or they are not
-pub eqs_go : (a b : List ℕ) (i : ℕ) → i < length a → i < length b → get_or a i 0 ≡ get_or b i 0 →
-    eqs (drop i a) (drop i b) ≡ eqs (drop (i + 1) a) (drop (i + 1) b)
-eqs_go a b i h k e = eqs_step a b i h k ∙ rw (eq-eqb _ _ e)
-
-pub eqs_stop : (a b : List ℕ) (i : ℕ) → i < length a → i < length b → (get_or a i 0 ≡ get_or b i 0 → ⊥)
-    → eqs (drop i a) (drop i b) ≡ false
-eqs_stop a b i h k n = eqs_step a b i h k ∙ rw (ne_eqb _ _ n)
-
-pub eqs_end : (a b : List ℕ) → length a ≡ length b → eqs (drop (length a) a) (drop (length a) b) ≡ true
-unfolding eqs
-eqs_end a b e = rw (drop-length a, e, drop-length b)
+eqs_pairs [] [] = refl
+eqs_pairs [] (y ∷ b) = refl
+eqs_pairs (x ∷ a) [] = refl
+eqs_pairs (x ∷ a) (y ∷ b) = rw (eqs_pairs a b)
 
 -- two lists, compared by a test that computes
 pub same : (xs ys : List ℕ) → T (eqs xs ys) → xs ≡ ys

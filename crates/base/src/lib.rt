@@ -5,31 +5,21 @@ ghost use Rattle.std.specs.Prelude.{◌≡◌, ◌++◌, ◌+◌, ◌≤◌, len
 ghost use Rattle.base.specs.Lists.{put, eqs};
 
 // Are two slices equal?
+#[tactic(auto, using(crate::proofs::Lists::eqs_pairs))]
 pub fn same(a: &[u8], b: &[u8]) -> bool
     ensures { result ≡ eqs a.now b.now }
 {
-    if a.len() != b.len() {
-        return false;
-    }
-    let mut i: usize = 0;
-    while i < a.len() {
-        if a[i] != b[i] {
-            return false;
-        }
-        i += 1;
-    }
-    true
+    a == b
 }
 
-// The bytes are stored from `at` on; the others stay.
+// The bytes are stored from `at` on; the others stay. A loop, since it stores ascending, and `copy_from_slice` promises
+// no order: a stop in a store into flash has to leave a prefix.
 pub fn store(out: &mut [u8], at: usize, bytes: &[u8])
     requires { at + length bytes.now ≤ length out.old }
     ensures { out.new ≡ put at bytes.now out.old }
 {
-    let mut i: usize = 0;
-    while i < bytes.len() {
-        out[at + i] = bytes[i];
-        i += 1;
+    for (i, b) in bytes.iter().enumerate() {
+        out[at + i] = *b;
     }
 }
 
@@ -38,9 +28,5 @@ pub fn fill(out: &mut [u8], n: usize, value: u8)
     requires { n ≤ length out.old }
     ensures { out.new ≡ replicate n value ++ drop n out.old }
 {
-    let mut i: usize = 0;
-    while i < n {
-        out[i] = value;
-        i += 1;
-    }
+    out[..n].fill(value);
 }

@@ -7,14 +7,14 @@ ghost use Rattle.crc32.specs.Crc.{crc_from};
 ghost use Rattle.report.specs.Attach.{lent, request, attaching_into, attached_answer, answer_of, tables_after};
 ghost use Rattle.bench_attach.specs.Code.{code_of};
 
-use report::Attached;
+use report::{Refused, Report};
 
-fn code(a: Attached) -> u64
+fn code(a: Result<Report, Refused>) -> u64
     ensures { result ≡ code_of (attached_answer a) }
 {
     match a {
-        Attached::Given(report) => return report.grade as u64,
-        Attached::Refused { number, place } => return number as u64 + 16,
+        Ok(report) => report.grade as u64,
+        Err(e) => e.number as u64 + 16,
     }
 }
 

@@ -2,6 +2,7 @@
 use mathlib.Core.Path.{◌≡◌, refl}
 use mathlib.Core.Bool.{Bool, true, false}
 use mathlib.Core.List.{List}
+use Rattle.std.proofs.Common.{Err}
 use Prim.Native.Nat.{ℕ, ◌<◌, ◌^◌}
 use native.Mathlib.Nat.{mod-le}
 use borrow.Author.Tests.{eqb-true}
@@ -13,6 +14,10 @@ use Rattle.field.specs.Fields.{field, number_in}
 use Rattle.geometry.specs.Image.{peb_count_of, image_rules}
 use Rattle.geometry.specs.Placed.{Placed}
 use Rattle.geometry.specs.Slip.{value_at}
+use Rattle.geometry.specs.Geometry.{geometry_read}
+use Rattle.geometry.specs.declared.SlipError.{SlipError}
+use Rattle.geometry.specs.declared.SlipError.TheVariants.{Malformed, Outside}
+use Rattle.report.specs.Attach.{slip_refused}
 use Rattle.geometry.specs.declared.Geometry.{Geometry}
 use Rattle.geometry.proofs.Laws.{placed, image_least, image_few}
 use Rattle.builder_rules.specs.Slip.{volume_count, volume_field, builder_slip, builder_geometry}
@@ -44,13 +49,7 @@ module _ (slip : List ℕ) (seq : ℕ) (lengths contents image : List ℕ) (g : 
   abbrev outcome : Answer BuildPlan
   outcome = build_by slip seq lengths contents image (given g)
 
-  pub refused_3 : all_of (image_rules g image) ≡ false → outcome ≡ refused 3 0
-  refused_3 a = rw a
-
   module _ (three : all_of (image_rules g image) ≡ true) where
-    pub refused_20 : all_of (volume_rules g n slip) ≡ false → outcome ≡ refused 20 0
-    refused_20 b = rw (three, b)
-
     module _ (twenty : all_of (volume_rules g n slip) ≡ true) where
       pub refused_21 : all_of (content_rules plan) ≡ false → outcome ≡ refused 21 0
       refused_21 c = rw (three, twenty, c)
@@ -100,3 +99,13 @@ pub promised : (slip : List ℕ) (seq : ℕ) (lengths contents image : List ℕ)
     × (last ≡ image_after (building slip seq lengths contents image) image)
 unfolding building
 promised slip seq lengths contents image x e p = rw (← e) p
+
+-- a slip that is refused
+pub slip_refuses : (slip : List ℕ) (seq : ℕ) (lengths contents image : List ℕ) (e : SlipError)
+    → geometry_read (Err e) ≡ builder_geometry slip
+    → (refused (slip_refused e).number (slip_refused e).place ≡ without_plan (building slip seq lengths contents image))
+    × (image ≡ image_after (building slip seq lengths contents image) image)
+slip_refuses slip seq lengths contents image Malformed q =
+    promised slip seq lengths contents image (refused 1 0) q (refl, refl)
+slip_refuses slip seq lengths contents image Outside q =
+    promised slip seq lengths contents image (refused 2 0) q (refl, refl)

@@ -2,7 +2,7 @@
 #![tactic(auto)]
 
 ghost use Rattle.std.specs.Prelude.{◌≡◌, true, ◌*◌, length};
-ghost use Rattle.base.specs.Answers.{given, refused, all_of};
+ghost use Rattle.base.specs.Answers.{given, all_of};
 ghost use Rattle.geometry.specs.Image.{image_rules};
 ghost use Rattle.geometry.specs.Placed.{Placed};
 ghost use Rattle.volume_table.specs.Table.{record_count};
@@ -11,22 +11,14 @@ ghost use Rattle.builder_rules.specs.Build.{build_by, building, without_plan, im
 
 use builder_content::content_fits;
 use builder_fill::fill_image;
-use builder_rules::Built;
 use builder_table::volumes_good;
-use geometry::{Geometry, GeometryRead};
-use report::refusal;
+use geometry::Geometry;
+use report::{Refused, refusal};
 use volume_record::RECORD_SIZE;
 use volume_table::record_count;
 
 // No table is longer: 128 records.
 const MAX_TABLE: usize = 22016;
-
-// A refusal; none names a PEB.
-fn refuse(number: u32) -> Built
-    ensures { built_answer result ≡ refused number 0 }
-{
-    Built::Refused { number, place: 0 }
-}
 
 // An image of whole PEBs: refusals 20 and 21, or it is filled. `table` is as long as the records.
 fn build_with(
@@ -38,7 +30,7 @@ fn build_with(
     content: &[u8],
     image: &mut [u8],
     table: &mut [u8],
-) -> Built
+) -> Result<(), Refused>
     requires { (Placed g × (count ≡ volume_count slip.now)) × ((all_of (image_rules g image.old) ≡ true)
         × (length table.old ≡ record_count g.leb_size * 172)) }
     ensures answer { built_answer result ≡ without_plan (build_by slip.now image_seq lengths.now
@@ -48,13 +40,13 @@ fn build_with(
 {
     let n = image.len() / g.peb_size as usize;
     if !volumes_good(slip, count, g, n as u32, table) {
-        return refuse(refusal::BAD_VOLUMES);
+        return Err(Refused::unplaced(refusal::BAD_VOLUMES));
     }
     if !content_fits(table, count, g, lengths, content) {
-        return refuse(refusal::BAD_CONTENT);
+        return Err(Refused::unplaced(refusal::BAD_CONTENT));
     }
     fill_image(image, g, image_seq, table, lengths, content);
-    Built::Done
+    Ok(())
 }
 
 // An image of a known geometry: refusal 3, and the rest, with memory for a table.
@@ -67,7 +59,7 @@ fn build_chip(
     content: &[u8],
     image: &mut [u8],
     table: &mut [u8],
-) -> Built
+) -> Result<(), Refused>
     requires { (Placed g × (count ≡ volume_count slip.now)) × (length table.old ≡ 22016) }
     ensures answer { built_answer result ≡ without_plan (build_by slip.now image_seq lengths.now
         content.now image.old (given g)) }
@@ -75,7 +67,7 @@ fn build_chip(
         lengths.now content.now image.old (given g)) image.old }
 {
     if !geometry::image_fits(image, g) {
-        return refuse(refusal::BAD_IMAGE_SIZE);
+        return Err(Refused::unplaced(refusal::BAD_IMAGE_SIZE));
     }
     let len = record_count(g.leb_size) * RECORD_SIZE;
     build_with(
@@ -97,29 +89,23 @@ pub fn build(
     lengths: &[u32],
     content: &[u8],
     image: &mut [u8],
-) -> Built
+) -> Result<(), Refused>
     ensures answer { built_answer result ≡ without_plan (building slip.now image_seq
         lengths.now content.now image.old) }
     ensures image { image.new ≡ image_after (building slip.now image_seq
         lengths.now content.now image.old) image.old }
 {
     let fields = builder_slip::volume_fields(slip);
-    let r = builder_slip::read_slip(slip, fields.end);
+    let g = builder_slip::read_slip(slip, fields.end)?;
     let mut table = [0u8; MAX_TABLE];
-    match r {
-        GeometryRead::Good(g) => {
-            return build_chip(
-                slip,
-                fields.count,
-                g,
-                image_seq,
-                lengths,
-                content,
-                image,
-                &mut table,
-            )
-        }
-        GeometryRead::Malformed => return refuse(refusal::MALFORMED_SLIP),
-        GeometryRead::Outside => return refuse(refusal::BAD_GEOMETRY),
-    }
+    build_chip(
+        slip,
+        fields.count,
+        g,
+        image_seq,
+        lengths,
+        content,
+        image,
+        &mut table,
+    )
 }

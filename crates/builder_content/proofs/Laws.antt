@@ -3,14 +3,19 @@ use mathlib.Core.Path.{◌≡◌, refl, sym, ◌∙◌}
 use mathlib.Core.Logic.{◌≢◌}
 use mathlib.Core.Bool.{Bool, true, false, and-true}
 use mathlib.Core.List.{List}
-use Prim.Native.Nat.{ℕ, ◌+◌, ◌-◌, ◌*◌, ◌≤◌, ◌<◌}
-use borrow.Author.Tests.{lt-leb, le-leb, eq-eqb, ne_eqb}
+use Rattle.std.proofs.Common.{sum}
+use Prim.Native.Nat.{ℕ, zero, suc, ◌+◌, ◌-◌, ◌*◌, ◌≤◌, ◌<◌}
+use native.Mathlib.Numerals.{add-one}
+use native.Mathlib.Omega.{arith}
+use Rattle.std.proofs.lemmas.List.Sums.{sum_by_more}
+use lib.Seq.{take_all}
+use borrow.Author.Tests.{lt-leb, eq-eqb, ne_eqb}
 use lib.Dec.{leb}
 use lib.ListN.{length, take, drop, get_or}
 use Rattle.base.specs.Answers.{all_of}
 use Rattle.base.specs.Below.{all_below, sum_below}
 use Rattle.base.proofs.Answers.{one_broken}
-use Rattle.base.proofs.Below.{all_fails, all_more}
+use Rattle.base.proofs.Below.{all_fails}
 use Rattle.base.proofs.Lists.{lent_part}
 use Rattle.field.specs.Fields.{row, number_in}
 use Rattle.volume_record.specs.Fields.{record_fields}
@@ -18,6 +23,16 @@ use Rattle.volume_record.specs.Record.{record_of}
 use Rattle.volume_table.specs.Table.{record_at}
 use Rattle.builder_rules.specs.Blocks.{BuildPlan, volume_of, length_of}
 use Rattle.builder_rules.specs.Build.{content_rules}
+
+-- ---- the sum of a list
+
+sum_before : (xs : List ℕ) (n : ℕ) → n ≤ length xs → sum (take n xs) ≡ sum_below n (λ i. get_or xs i 0)
+sum_before xs zero h = refl
+sum_before xs (suc n) h =
+    rw add-one at (sum_by_more (λ (x : ℕ). x) xs n 0 (omega arith)) ∙ rw (sum_before xs n (omega arith))
+
+pub sum_is : (xs : List ℕ) → sum xs ≡ sum_below (length xs) (λ i. get_or xs i 0)
+sum_is xs = rw (take_all (length xs) xs (omega arith)) at (sum_before xs (length xs) (omega arith))
 
 -- ---- a record's numbers, read in the table
 
@@ -45,9 +60,6 @@ module _ (t : List ℕ) (size : ℕ) (lengths : List ℕ) where
 
   pub too_long : (n v : ℕ) → v < n → holds t size v < get_or lengths v 0 → false ≡ all_below n fits
   too_long n v h k = sym (all_fails n fits v h (lt-leb (get_or lengths v 0) (holds t size v) k))
-
-  pub fits_more : (v : ℕ) → all_below v fits ≡ true → get_or lengths v 0 ≤ holds t size v → all_below (v + 1) fits ≡ true
-  fits_more v e h = all_more fits v e (le-leb (get_or lengths v 0) (holds t size v) h)
 
 -- ---- the rules
 

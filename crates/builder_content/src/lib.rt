@@ -12,28 +12,15 @@ ghost use Rattle.builder_rules.specs.Filling.{plan_from, PadsWithin};
 use geometry::Geometry;
 use volume_record::{RECORD_DATA_PAD, RECORD_RESERVED, RECORD_SIZE, get_field};
 
-// A length, in 64 bits: sums and products of lengths pass 32.
-fn wide(x: u32) -> u64
-    ensures { (result ≡ x) × (result < 2 ^ 32) }
-{
-    x as u64
-}
-
-// The sum of all lengths.
+// The sum of all lengths, in 64 bits: it passes 32.
 fn sum_of(lengths: &[u32]) -> u64
     requires { length lengths.now ≤ 128 }
     ensures { result ≡ sum_below (length lengths.now) (λ (v : ℕ). get_or lengths.now v 0) }
 {
-    let mut sum: u64 = 0;
-    let mut v: usize = 0;
-    while v < lengths.len() {
-        sum += wide(lengths[v]);
-        v += 1;
-    }
-    sum
+    lengths.iter().map(|x| u64::from(*x)).sum()
 }
 
-// The bytes that the reserved LEBs of volume v hold.
+// The bytes that the reserved LEBs of volume v hold, in 64 bits: a product of two numbers passes 32.
 fn capacity(table: &[u8], v: usize, leb_size: u32) -> u64
     requires { (v < 128) × ((172 * v + 172 ≤ length table.now)
         × ((record_of (record_at table.now v)).data_pad ≤ leb_size)) }
@@ -42,7 +29,7 @@ fn capacity(table: &[u8], v: usize, leb_size: u32) -> u64
 {
     let at = RECORD_SIZE * v;
     let record = &table[at..at + RECORD_SIZE];
-    let room = wide(leb_size) - get_field(record, RECORD_DATA_PAD);
+    let room = u64::from(leb_size) - get_field(record, RECORD_DATA_PAD);
     get_field(record, RECORD_RESERVED) * room
 }
 
@@ -54,12 +41,10 @@ fn lengths_fit(table: &[u8], leb_size: u32, lengths: &[u32]) -> bool
         ((record_of (record_at table.now v)).reserved
         * (leb_size - (record_of (record_at table.now v)).data_pad))) }
 {
-    let mut v: usize = 0;
-    while v < lengths.len() {
-        if capacity(table, v, leb_size) < wide(lengths[v]) {
+    for (v, length) in lengths.iter().enumerate() {
+        if capacity(table, v, leb_size) < u64::from(*length) {
             return false;
         }
-        v += 1;
     }
     true
 }
@@ -81,7 +66,8 @@ pub fn content_fits(
     if lengths.len() != count {
         return false;
     }
-    if sum_of(lengths) != content.len() as u64 {
+    let bytes = content.len() as u64;
+    if sum_of(lengths) != bytes {
         return false;
     }
     lengths_fit(table, g.leb_size, lengths)

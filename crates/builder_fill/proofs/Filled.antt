@@ -47,7 +47,8 @@ module _ (b : BuildPlan) (n : ℕ) (a : Accepted b n) where
   module _ (v : ℕ) (h : v < b.volumes) where
     -- the PEBs of its LEBs
     pub leb_block : (l : ℕ) → l < lebs_of b v
-        → leb_peb b.geometry (plan_ec b) (shape_of b v) (volume_content b v) (first_of v) l ≡ block_bytes b (first_of v + l)
+        → leb_peb b.geometry (plan_ec b) (shape_of b v) (volume_content b v) (first_of v) l
+        ≡ block_bytes b (first_of v + l)
     unfolding leb_peb leb_data
     leb_block l k =
         let e : first_of v + l ≡ 2 + block_no (lebs_of b) v l = omega arith in
@@ -66,7 +67,6 @@ module _ (b : BuildPlan) (n : ℕ) (a : Accepted b n) where
         → VolumeReady b.geometry (shape_of b v) (volume_content b v) (first_of v) s
     unfolding leb_data
     volume_ready s k = record {
-      placed = a.placed;
       pad = omega (arith, pad_small b n a v h);
       there = omega (arith, mul-le-mul_right size last_within);
       few = omega (arith, last_within, a.pebs_most);
@@ -83,7 +83,11 @@ module _ (b : BuildPlan) (n : ℕ) (a : Accepted b n) where
         rw (e, u)
         (filled_more (first_of v) (lebs_of b v) (leb_peb b.geometry (plan_ec b) (shape_of b v) (volume_content b v)
         (first_of v)) s
-        (omega (arith, mul-le-mul_right size last_within, add-mul (first_of v) (lebs_of b v) size)) (rw e at q) leb_block
+        (omega (
+          arith,
+          mul-le-mul_right size last_within,
+          add-mul (first_of v) (lebs_of b v) size,
+        )) (rw e at q) leb_block
         (rw (e, u, w) at t))
 
   -- ---- the layout, and the rest

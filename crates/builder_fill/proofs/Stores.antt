@@ -1,26 +1,22 @@
 -- The stores of one PEB, one after the other, make it. Assumes nothing.
 use mathlib.Core.Path.{◌≡◌, sym, ap, ◌∙◌}
 use mathlib.Core.Bool.{true}
-use mathlib.Core.List.{List, ◌++◌, append_assoc, append-nil}
-use Prim.Native.Nat.{ℕ, ◌+◌, ◌-◌, ◌≤◌, ◌<◌, ◌^◌}
+use mathlib.Core.List.{List, ◌++◌, append_assoc}
+use Prim.Native.Nat.{ℕ, ◌+◌, ◌-◌, ◌≤◌, ◌<◌}
 use native.Mathlib.Nat.{add-zero, zero-add}
 use native.Mathlib.Omega.{arith}
-use lib.ListN.{length, replicate, length-append, length-replicate, take-append-drop, drop_of_length-le}
+use lib.ListN.{length, replicate, length-append, length-replicate, take-append-drop}
 use Rattle.base.specs.Lists.{put}
 use Rattle.base.proofs.Stores.{length_put, put_in_put, put_next}
-use Rattle.field.specs.Be.{to_be_on}
-use Rattle.field.proofs.Laws.{read_back_fits}
 use Rattle.geometry.specs.Placed.{Placed}
 use Rattle.geometry.specs.declared.Geometry.{Geometry}
 use Rattle.header.specs.Fields.{is_good}
-use Rattle.header.specs.Ec.{judge_ec, ec_head, ec_bytes, ec_out}
+use Rattle.header.specs.Ec.{ec_bytes}
 use Rattle.header.specs.Vid.{judge_vid, vid_bytes}
 use Rattle.header.specs.declared.EcHeader.{EcHeader}
 use Rattle.header.specs.declared.VidHeader.{VidHeader}
 use Rattle.header.proofs.Writes.{ec_64, vid_64}
-use Rattle.header.proofs.Writes as Writes
-use Rattle.builder_rules.specs.Blocks.{built_ec, free_peb, used_peb, layout_vid}
-use Rattle.builder_rules.specs.Filling.{seq_in, EcReady}
+use Rattle.builder_rules.specs.Blocks.{free_peb, used_peb, layout_vid}
 use Rattle.builder_rules.proofs.Headers.{layout_good}
 use Rattle.builder_rules.proofs.Pebs.{used_front, used_body}
 use Rattle.builder_fill.specs.Pebs.{headers_of}
@@ -104,21 +100,3 @@ pair_stored n x y s l h p q r t = t ∙ rw (r, p, q) (rw zero-add at (put_next 0
 pub layout_header : (g : Geometry) → Placed g → (k l : ℕ) → l < 2 → {h : VidHeader} → h ≡ layout_vid k l
     → is_good (judge_vid g.leb_size h) ≡ true
 layout_header g p k l m e = rw (e, layout_good g.leb_size k l (omega (arith, p.leb_least)) m)
-
--- the bytes of an EC header that are lent
-pub ec_lent : (g : Geometry) {ec : List ℕ} → EcReady g ec → length ec ≡ 64
-ec_lent g {ec} r = ap length r ∙ ec_64 (built_ec g (seq_in ec))
-
--- the EC header that was made says the image sequence
-pub made_seq : (g : Geometry) (seq : ℕ) → seq < 256 ^ 4 → {ec : List ℕ} → ec ≡ ec_bytes (built_ec g seq) → seq_in ec ≡ seq
-unfolding ec_bytes ec_head to_be_on built_ec
-made_seq g seq h e = rw e (read_back_fits 4 seq h)
-
-pub made_ready : (g : Geometry) (seq : ℕ) → seq < 256 ^ 4 → {ec : List ℕ} → ec ≡ ec_bytes (built_ec g seq) → EcReady g ec
-made_ready g seq h e = rw (made_seq g seq h e) e
-
--- it was made in 64 bytes
-pub ec_made : (h : EcHeader) (b : List ℕ) {y : List ℕ} → length b ≡ 64 → is_good (judge_ec h) ≡ true → y ≡ ec_out h b
-    → y ≡ ec_bytes h
-ec_made h b l g q =
-    q ∙ Writes.ec_over h b (omega arith) g ∙ rw (drop_of_length-le b {i = 64} (omega arith), append-nil)

@@ -2,14 +2,13 @@
 -- Assumes nothing.
 use Rattle.std.specs.Prelude.{ℕ, ◌+◌, ◌-◌, ◌*◌, ◌≤◌, ◌<◌, List, length, replicate}
 use Rattle.base.specs.Lists.{part, put}
-use Rattle.geometry.specs.Placed.{Placed}
 use Rattle.geometry.specs.declared.Geometry.{Geometry}
 use Rattle.header.specs.Ec.{ec_bytes}
 use Rattle.header.specs.Vid.{vid_bytes}
 use Rattle.header.specs.declared.EcHeader.{EcHeader}
 use Rattle.header.specs.declared.VidHeader.{VidHeader}
-use Rattle.builder_rules.specs.Blocks.{BuildPlan, used_peb, user_vid}
-use Rattle.builder_rules.specs.Filling.{plan_from, seq_in, Shaped}
+use Rattle.builder_rules.specs.Blocks.{used_peb, user_vid}
+use Rattle.builder_rules.specs.Filling.{Shaped}
 use Rattle.builder_rules.specs.declared.VolumeShape.{VolumeShape}
 
 -- what stands before the data
@@ -26,13 +25,8 @@ leb_peb g e v content first l =
     used_peb g e (user_vid v (first + l + 1) l (bytes_of g v content l)) (bytes_of g v content l)
 
 pub record VolumeReady (g : Geometry) (v : VolumeShape) (content : List ℕ) (first : ℕ) (image : List ℕ) : Type 0 where
-  pub placed : Placed g
   pub pad : v.data_pad < g.leb_size
   pub there : (first + v.lebs) * g.peb_size ≤ length image
   pub few : first + v.lebs ≤ 4096
   pub starts : (l : ℕ) → l < v.lebs → l * (g.leb_size - v.data_pad) < length content
   pub shaped : (l : ℕ) → l < v.lebs → Shaped g.leb_size v l (bytes_of g v content l)
-
--- the plan of what is lent: there is a length for each volume, and the EC header has the image sequence
-abbrev pub plan_lent : Geometry → List ℕ → List ℕ → List ℕ → List ℕ → BuildPlan
-plan_lent g ec table lengths contents = plan_from g (seq_in ec) (length lengths) table lengths contents

@@ -1,16 +1,14 @@
 // The LEBs of one volume.
-ghost use Rattle.std.specs.Prelude.{◌≡◌, ◌+◌, ◌-◌, ◌*◌, ◌^◌, ◌≤◌, ◌<◌, min, length};
+ghost use Rattle.std.specs.Prelude.{◌≡◌, ◌+◌, ◌-◌, ◌*◌, ◌^◌, ◌≤◌, ◌<◌, length};
 ghost use Rattle.base.specs.Below.{concat_below};
 ghost use Rattle.base.specs.Lists.{put};
 ghost use Rattle.volume_record.specs.Record.{record_of};
 ghost use Rattle.volume_table.specs.Table.{record_at};
 ghost use Rattle.builder_rules.specs.Blocks.{built_ec, user_vid, ceiling};
-ghost use Rattle.builder_rules.specs.Filling.{seq_in, EcReady};
 ghost use Rattle.builder_fill.specs.Pebs.{leb_peb, VolumeReady};
 
-use crate::blocks::{peb_start, store_used};
+use crate::blocks::Format;
 use builder_rules::VolumeShape;
-use geometry::Geometry;
 use header::{COMPAT_NONE, STATIC, VidHeader};
 use volume_record::{RECORD_DATA_PAD, RECORD_SIZE, RECORD_TYPE, get_field};
 
@@ -72,43 +70,21 @@ fn leb_header(v: VolumeShape, sequence: u64, lnum: u32, bytes: &[u8]) -> VidHead
     h
 }
 
-// The end of a LEB's bytes that start at `from`: those of the last LEB may be fewer.
-fn leb_end(from: usize, room: usize, len: usize) -> usize
-    requires { from ≤ len }
-    ensures { result ≡ from + min room (len - from) }
-{
-    if len - from < room {
-        return len;
-    }
-    from + room
-}
-
 // The LEBs of a volume are stored in the PEBs from `first` on.
-pub fn fill_volume(
-    image: &mut [u8],
-    g: Geometry,
-    ec: &[u8],
-    v: VolumeShape,
-    content: &[u8],
-    first: usize,
-)
-    requires { VolumeReady g v content.now first image.old × EcReady g ec.now }
-    ensures { image.new
-        ≡ put (first * g.peb_size)
-        (concat_below v.lebs (leb_peb g (built_ec g (seq_in ec.now)) v content.now first))
-        image.old }
+pub fn fill_volume(image: &mut [u8], f: &Format, v: VolumeShape, content: &[u8], first: usize)
+    requires { VolumeReady f.now.geometry v content.now first image.old }
+    ensures { image.new ≡ put (first * f.now.geometry.peb_size)
+        (concat_below v.lebs
+        (leb_peb f.now.geometry (built_ec f.now.geometry f.now.image_seq) v content.now first)) image.old }
 {
-    let room = (g.leb_size - v.data_pad) as usize;
-    let mut from: usize = 0;
-    let mut l: u32 = 0;
-    while l < v.lebs {
-        let end = leb_end(from, room, content.len());
-        let bytes = &content[from..end];
+    let room = (f.geometry.leb_size - v.data_pad) as usize;
+    for l in 0..v.lebs {
+        let from = l as usize * room;
+        // those of the last LEB may be fewer
+        let bytes = &content[from..from + room.min(content.len() - from)];
         let p = first + l as usize;
         // sequences from 1, in the order of the PEBs
         let vid = leb_header(v, p as u64 + 1, l, bytes);
-        store_used(image, peb_start(p, g), g, ec, vid, bytes);
-        from = end;
-        l += 1;
+        f.store_used(image, f.peb_start(p), vid, bytes);
     }
 }

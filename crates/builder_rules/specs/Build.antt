@@ -1,5 +1,5 @@
 -- 02 2026-01: what building answers, and what the lent image holds afterwards. Assumes nothing.
-use Rattle.std.specs.Prelude.{ℕ, ◌*◌, Bool, cond, List, [], ◌∷◌, eqb, leb, length}
+use Rattle.std.specs.Prelude.{ℕ, ◌*◌, Bool, cond, List, [], ◌∷◌, eqb, leb, length, Result, Ok, Err}
 use Rattle.base.specs.Answers.{Answer, given, refused, all_of}
 use Rattle.base.specs.Below.{all_below, sum_below}
 use Rattle.geometry.specs.Image.{peb_count_of, image_rules}
@@ -7,8 +7,7 @@ use Rattle.geometry.specs.declared.Geometry.{Geometry}
 use Rattle.builder_rules.specs.Slip.{volume_count, builder_geometry}
 use Rattle.builder_rules.specs.Table.{slip_table, volume_rules}
 use Rattle.builder_rules.specs.Blocks.{BuildPlan, volume_of, length_of, room, built_image}
-use Rattle.builder_rules.specs.declared.Built.{Built}
-use Rattle.builder_rules.specs.declared.Built.TheVariants.{Done, Refused}
+use Rattle.report.specs.declared.Refused.{Refused}
 
 -- 21 "lengths not one for each volume or not summing to the content, or content longer than its volume's reserved LEBs
 -- hold"
@@ -53,6 +52,6 @@ image_after (given b) image = built_image b (peb_count_of b.geometry image)
 image_after (refused k p) image = image
 
 -- what each case of the answer is in 01 and 02
-abbrev pub built_answer : Built → Answer (Unit {0})
-built_answer Done = given tt
-built_answer (Refused k p) = refused k p
+abbrev pub built_answer : Result (Unit {0}) Refused → Answer (Unit {0})
+built_answer (Ok u) = given u
+built_answer (Err e) = refused e.number e.place

@@ -3,13 +3,11 @@ use Rattle.std.specs.Prelude.{ℕ, ◌+◌, ◌-◌, ◌*◌, ◌≤◌, ◌<◌
 use Rattle.base.specs.Answers.{all_of}
 use Rattle.base.specs.Below.{concat_below}
 use Rattle.base.specs.Lists.{Bytes}
-use Rattle.field.specs.Fields.{field, number_in}
 use Rattle.geometry.specs.Placed.{Placed}
 use Rattle.geometry.specs.declared.Geometry.{Geometry}
-use Rattle.header.specs.Ec.{ec_bytes}
 use Rattle.volume_record.specs.Record.{record_of}
 use Rattle.volume_table.specs.Table.{record_count, record_at, table_good}
-use Rattle.builder_rules.specs.Blocks.{BuildPlan, built_ec, volume_of, block_bytes}
+use Rattle.builder_rules.specs.Blocks.{BuildPlan, volume_of, block_bytes}
 use Rattle.builder_rules.specs.Build.{content_rules}
 use Rattle.builder_rules.specs.declared.VolumeShape.{VolumeShape}
 
@@ -23,14 +21,6 @@ plan_from g seq count table lengths contents = record {
   lengths = lengths;
   contents = contents;
 }
-
--- the image sequence in the bytes of an EC header
-abbrev pub seq_in : List ℕ → ℕ
-seq_in ec = number_in (field 24 4) ec
-
--- they are those of the EC header that every PEB of a filled image has
-abbrev pub EcReady : Geometry → List ℕ → Type 0
-EcReady g ec = ec ≡ ec_bytes (built_ec g (seq_in ec))
 
 -- the pads of the first k records are no larger than a LEB
 abbrev pub PadsWithin : ℕ → ℕ → List ℕ → Type 0

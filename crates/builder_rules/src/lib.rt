@@ -2,13 +2,6 @@
 // builder and its theorem cite stand in specs/ and proofs/.
 #![tactic(auto)]
 
-// The whole image is filled, or a refusal's number and place.
-#[derive(Clone, Copy)]
-pub enum Built {
-    Done,
-    Refused { number: u32, place: u32 },
-}
-
 // What the VID headers of all LEBs of a volume share.
 #[derive(Clone, Copy)]
 pub struct VolumeShape {

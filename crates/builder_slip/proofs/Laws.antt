@@ -1,8 +1,9 @@
 -- Laws of the volume fields of a slip. Assumes nothing.
 use mathlib.Core.Path.{◌≡◌, refl, sym}
-use mathlib.Core.Logic.{◌≢◌}
 use mathlib.Core.Bool.{Bool, true, false, not, cond, and-false, and-true}
-use mathlib.Core.Option.{Option, none}
+use mathlib.Core.Option as math
+use mathlib.Core.Option.{none}
+use Rattle.std.proofs.Common.{Option, Some, None}
 use mathlib.Core.List.{List, [], ◌∷◌}
 use Prim.Native.Nat.{ℕ, suc, ◌+◌, ◌≤◌, ◌<◌}
 use native.Mathlib.Numerals.{add-one}
@@ -38,33 +39,36 @@ module _ (s : List ℕ) (at : ℕ) where
   unfolding volume_field_at
   is_field e h = rw (e, le-leb end (length s) h)
 
-  -- what an end says, 0 or not
-  pub no_end : cond (volume_field_at s at) end 0 ≡ 0 → volume_field_at s at ≡ false
-  no_end e = by_test (volume_field_at s at) (λ q. absurd (omega (arith, rw q at e))) (λ q. q)
+  -- what an end says, found or not
+  abbrev told : Option ℕ
+  told = cond (volume_field_at s at) (Some end) None
+
+  pub no_end : None ≡ told → volume_field_at s at ≡ false
+  no_end e = by_test (volume_field_at s at) (λ q. cc (rw q at e)) (λ q. q)
 
   pub record Ended (e : ℕ) : Type 0 where
     pub there : volume_field_at s at ≡ true
     pub end_is : e ≡ end
     pub held : e ≤ length s
 
-  pub ended : (e : ℕ) → e ≡ cond (volume_field_at s at) end 0 → e ≢ 0 → Ended e
+  pub ended : {e : ℕ} → Some e ≡ told → Ended e
   unfolding volume_field_at
-  ended e p h =
+  ended {e} p =
       by_test (volume_field_at s at)
       (λ q.
-      let z : e ≡ end = rw q at p in
+      let z : e ≡ end = cc (rw q at p) in
       record {
         there = q;
         end_is = z;
         held = rw z (leb-true end (length s) (and_right (eqs (part at 1 s) (16 ∷ [])) (leb end (length s)) q));
       })
-      (λ q. absurd (h (rw q at p)))
+      (λ q. cc (rw q at p))
 
 -- ---- all fields
 
 module _ (s : List ℕ) where
   -- the fields that are no volume fields
-  abbrev pub other : ℕ → Option ℕ
+  abbrev pub other : ℕ → math.Option ℕ
   other i = when (not (volume_field_at s (field_start s i))) 0
 
   pub none_more : (i : ℕ) → first_below i other ≡ none → volume_field_at s (field_start s i) ≡ true

@@ -1,5 +1,5 @@
 -- Laws of the records and the table that volume fields give. Assumes nothing.
-use mathlib.Core.Path.{◌≡◌, sym, ap, ◌∙◌}
+use mathlib.Core.Path.{◌≡◌, sym, ◌∙◌}
 use mathlib.Core.Bool.{Bool, true, false, ◌&&◌, and-false, and-true}
 use mathlib.Core.List.{List, ◌++◌, append-nil}
 use Prim.Native.Nat.{ℕ, ◌+◌, ◌-◌, ◌*◌, ◌≤◌, ◌<◌}
@@ -9,14 +9,13 @@ use native.Mathlib.Omega.{arith}
 use borrow.Author.Tests.{lt-leb, le-leb}
 use lib.Dec.{leb}
 use lib.ListN.{length, take, drop, get_or, replicate, length-drop, drop_of_length-le}
-use lib.Seq.{drop_at}
 use Rattle.base.specs.Answers.{all_of}
 use Rattle.base.specs.Below.{all_below, concat_below}
 use Rattle.base.specs.Lists.{part, put}
 use Rattle.base.proofs.Answers.{one_broken}
 use Rattle.base.proofs.Below.{all_more, all_fails}
 use Rattle.base.proofs.Lists.{to_end_lem, length_part}
-use Rattle.base.proofs.Rows.{rows_length, rows_step}
+use Rattle.base.proofs.Rows.{rows_step}
 use Rattle.base.proofs.Stores.{stored_part, drop_replicate}
 use Rattle.geometry.specs.declared.Geometry.{Geometry}
 use Rattle.volume_record.specs.Record.{record_bytes, record_out}
@@ -65,11 +64,15 @@ module _ (s : List ℕ) where
   value_is at i e q = q ∙ rw e
 
   -- where the next field starts
-  pub next_value : (i : ℕ) → i < volume_count s → field_start s i + (3 + length (volume_field s i)) ≡ field_start s (i + 1)
+  next_value : (i : ℕ) → i < volume_count s → field_start s i + (3 + length (volume_field s i)) ≡ field_start s (i + 1)
   unfolding volume_field
   next_value i h =
       rw (length_part (field_start s i + 3) (length_at s (field_start s i)) s (omega (arith, field_held s i h)))
       (next_start s i)
+
+  pub next_start_after : (i : ℕ) {at : ℕ} {r : List ℕ} → i < volume_count s → at ≡ field_start s i
+      → r ≡ volume_field s i → at + (3 + length r) ≡ field_start s (i + 1)
+  next_start_after i h e q = rw (e, q) (next_value i h)
 
   pub next_within : (i : ℕ) → i < volume_count s → field_start s (i + 1) ≤ length s
   next_within i h = rw (← next_start s i) (field_held s i h)
@@ -101,14 +104,6 @@ module _ (size : ℕ) (s : List ℕ) (fits : fields_fit s ≡ true) where
       → put (i * 172) r (concat_below i (record_from size s) ++ drop (i * 172) d)
       ≡ concat_below (i + 1) (record_from size s) ++ drop ((i + 1) * 172) d
   row_more i d e = rw (e, add-one) (rows_step i 172 (record_from size s) d (row_long size s fits))
-
-  -- rows that are stored, beside what they are stored in
-  pub rows_again : (i : ℕ) (d : List ℕ) {x : List ℕ} → x ≡ concat_below i (record_from size s) ++ drop (i * 172) d
-      → x ≡ concat_below i (record_from size s) ++ drop (i * 172) x
-  rows_again i d e =
-      let r : List ℕ = concat_below i (record_from size s) in
-      e ∙ ap (λ (y : List ℕ). r ++ y) (sym (ap (drop (i * 172)) e ∙ drop_at r (drop (i * 172) d) (i * 172)
-      (rows_length i 172 (record_from size s) (row_long size s fits))))
 
   pub whole_table : (n : ℕ) (d : List ℕ) {t : List ℕ} → n ≡ record_count size → length d ≡ record_count size * 172
       → t ≡ concat_below n (record_from size s) ++ drop (n * 172) d → t ≡ slip_table size s

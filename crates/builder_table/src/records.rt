@@ -64,5 +64,8 @@ pub fn store_record(value: &[u8], leb_size: u32, table: &mut [u8], i: usize)
         ≡ put (i * 172) (record_bytes (record_of_field leb_size value.now)) table.old }
 {
     let at = i * RECORD_SIZE;
-    record_write::write_record(record_of(value, leb_size), &mut table[at..at + RECORD_SIZE]);
+    record_write::write_record(
+        record_of(value, leb_size),
+        &mut table[at..at + RECORD_SIZE],
+    ).unwrap();
 }

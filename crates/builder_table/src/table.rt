@@ -34,8 +34,7 @@ fn values_fit(slip: &[u8], count: usize) -> bool
     ensures { result ≡ fields_fit slip.now }
 {
     let mut at = HEAD_SIZE;
-    let mut i: usize = 0;
-    while i < count {
+    for _i in 0..count {
         let len = value_at(slip, at).len();
         if len < MIN_VALUE {
             return false;
@@ -43,8 +42,7 @@ fn values_fit(slip: &[u8], count: usize) -> bool
         if MAX_VALUE < len {
             return false;
         }
-        at = at + (FIELD_HEAD_SIZE + len);
-        i += 1;
+        at += FIELD_HEAD_SIZE + len;
     }
     true
 }
@@ -57,12 +55,10 @@ fn store_records(slip: &[u8], count: usize, leb_size: u32, table: &mut [u8])
         ≡ concat_below count (record_from leb_size slip.now) ++ drop (count * 172) table.old }
 {
     let mut at = HEAD_SIZE;
-    let mut i: usize = 0;
-    while i < count {
+    for i in 0..count {
         let value = value_at(slip, at);
         store_record(value, leb_size, table, i);
-        at = at + (FIELD_HEAD_SIZE + value.len());
-        i += 1;
+        at += FIELD_HEAD_SIZE + value.len();
     }
 }
 
@@ -74,11 +70,8 @@ fn fill_table(slip: &[u8], count: usize, leb_size: u32, table: &mut [u8])
 {
     store_records(slip, count, leb_size, table);
     let empty = empty_record();
-    let n = record_count(leb_size);
-    let mut i = count;
-    while i < n {
+    for i in count..record_count(leb_size) {
         base::store(table, i * RECORD_SIZE, &empty);
-        i += 1;
     }
 }
 

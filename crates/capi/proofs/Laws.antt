@@ -5,7 +5,7 @@ use mathlib.Core.List.{List}
 use mathlib.Core.Bool.{true}
 use Prim.Native.Nat.{ℕ, ◌+◌, ◌-◌}
 use lib.ListN.{get_or, set}
-use Rattle.base.specs.Answers.{Answer, given, refused}
+use Rattle.base.specs.Answers.{given, refused}
 use Rattle.job.specs.Job.{done, stepping}
 use Rattle.job.specs.Course.{Left, after_steps, next_step, finishing}
 use Rattle.job.proofs.Finish.{left_last, finish_last, finish_again, finish_done}
@@ -13,36 +13,12 @@ use Rattle.mover_rules.specs.Write.{step_count}
 use Rattle.mover_rules.specs.Step.{mover_job}
 use Rattle.mover_rules.specs.declared.Plan.{Plan}
 use Rattle.mover_rules.proofs.Steps.{mover_lawful}
-use Rattle.volume_record.specs.Record.{RecordVerdict}
-use Rattle.volume_record.specs.declared.VolumeRecord.{VolumeRecord}
 use Rattle.report.specs.Attach.{over}
-use Rattle.builder_rules.specs.Blocks.{BuildPlan}
-use Rattle.builder_rules.specs.Build.{without_plan}
 use Rattle.capi_words.specs.Lent.{fits}
-use Rattle.capi_words.specs.Structs.{record_words, plan_words, answer_words, plan_most, plan_in}
+use Rattle.capi_words.specs.Structs.{plan_words, answer_words, plan_most, plan_in}
 use Rattle.capi_words.proofs.Back.{nexts_words}
-use Rattle.capi_answers.specs.Calls.{number_of, record_number, progress_number, if_good}
+use Rattle.capi_answers.specs.Calls.{progress_number}
 use Rattle.capi.specs.Finish.{done_words, finished_words}
-
--- what two results are of one value, they are of an equal one
-pub told : {X B C : Type 0} (f : X → B) (g : X → C) {x y : X} {b : B} {c : C} → x ≡ y → (b ≡ f x) × (c ≡ g x)
-    → (b ≡ f y) × (c ≡ g y)
-told f g q p = (p.0 ∙ ap f q, p.1 ∙ ap g q)
-
--- the same of a record: what it is, and its numbers and name
-abbrev Read : List ℕ → List ℕ → ℕ → List ℕ → List ℕ → Answer RecordVerdict → VolumeRecord → Type 0
-Read words name n w b k v =
-    (n ≡ record_number k) × ((w ≡ over (if_good k (record_words v)) words) × (b ≡ over (if_good k v.name) name))
-
-pub record_told : (words name : List ℕ) {n : ℕ} {w b : List ℕ} {k j : Answer RecordVerdict} {v u : VolumeRecord}
-    → k ≡ j → v ≡ u → Read words name n w b k v → Read words name n w b j u
-record_told words name q r p = (
-  p.0 ∙ ap record_number q,
-  (
-    p.1.0 ∙ (λ i. over (if_good (q i) (record_words (r i))) words),
-    p.1.1 ∙ (λ i. over (if_good (q i) (r i).name) name),
-  ),
-)
 
 -- ---- all steps that are left of a move
 
@@ -54,16 +30,6 @@ abbrev pub Finished : Plan → List ℕ → List ℕ → ℕ → List ℕ → Li
 Finished p image lent n w y =
     (n ≡ progress_number (finishing mover_job p image).answer)
     × ((w ≡ over (finished_words p image) lent) × (y ≡ (finishing mover_job p image).image))
-
-pub finished_told : (image lent : List ℕ) {p q : Plan} {n : ℕ} {w y : List ℕ} → p ≡ q → Finished p image lent n w y
-    → Finished q image lent n w y
-finished_told image lent e r = (
-  r.0 ∙ ap (λ (x : Plan). progress_number (finishing mover_job x image).answer) e,
-  (
-    r.1.0 ∙ ap (λ (x : Plan). over (finished_words x image) lent) e,
-    r.1.1 ∙ ap (λ (x : Plan). (finishing mover_job x image).image) e,
-  ),
-)
 
 -- of a plan and an image of which as much is left as at the beginning, the step that is the last one
 module _ (p₀ p : Plan) (image₀ image lent : List ℕ) (f : to_last p image ≡ to_last p₀ image₀) {y : List ℕ}
@@ -104,9 +70,3 @@ pub finished_again : (p : Plan) (image : List ℕ)
 finished_again p image =
     let r = finish_again mover_job mover_lawful p image in
     (r.0, (r.1.0, λ j. done_words (r.1.0 j).answer (r.1.1 j)))
-
--- ---- building: the plan is in no number
-
-pub plan_number : (x : Answer BuildPlan) → number_of (without_plan x) ≡ number_of x
-plan_number (given b) = refl
-plan_number (refused k p) = refl

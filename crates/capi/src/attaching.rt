@@ -68,10 +68,7 @@ pub extern "C" fn choduljin_listing(
         count.old)
         count.old }
 {
-    if report.len() < REPORT_WORDS {
-        return SHORT_BUFFER;
-    }
-    if count.len() < 1 {
+    if report.len() < REPORT_WORDS || count.is_empty() {
         return SHORT_BUFFER;
     }
     if !capi_words::attached_fits(report) {

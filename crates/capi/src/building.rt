@@ -3,15 +3,15 @@ ghost use Rattle.std.specs.Prelude.{◌≡◌};
 ghost use Rattle.builder_rules.specs.Build.{building, image_after, built_answer};
 ghost use Rattle.capi_answers.specs.Calls.{number_of};
 
-use builder_rules::Built;
+use report::Refused;
 
 // An answer of the builder as one number; its place is always 0.
-fn build_number(b: Built) -> u32
+fn build_number(b: Result<(), Refused>) -> u32
     ensures { result ≡ number_of (built_answer b) }
 {
     match b {
-        Built::Done => return 0,
-        Built::Refused { number, place } => return number,
+        Ok(()) => 0,
+        Err(e) => e.number,
     }
 }
 

@@ -12,7 +12,7 @@ ghost use Rattle.capi_answers.specs.Calls.{record_number, if_good};
 
 use capi_answers::{NOT_GOOD, UNFIT, store_ec, store_record, store_vid};
 use capi_words::{EC_WORDS, RECORD_WORDS, VID_WORDS};
-use header::Written;
+use header::WriteError;
 use report::refusal::SHORT_BUFFER;
 
 const NAME_BYTES: usize = 128;
@@ -48,13 +48,13 @@ pub extern "C" fn choduljin_read_vid(header: &[u8], leb_size: u32, vid: &mut [u6
     store_vid(r, vid)
 }
 
-fn written_number(w: Written) -> u32
+fn written_number(w: Result<(), WriteError>) -> u32
     ensures { result ≡ number_of (written w) }
 {
     match w {
-        Written::Done => return 0,
-        Written::Short => return SHORT_BUFFER,
-        Written::NotGood => return NOT_GOOD,
+        Ok(()) => 0,
+        Err(WriteError::Short) => SHORT_BUFFER,
+        Err(WriteError::NotGood) => NOT_GOOD,
     }
 }
 
@@ -120,10 +120,7 @@ pub extern "C" fn choduljin_read_record(
         name.old)
         name.old }
 {
-    if words.len() < RECORD_WORDS {
-        return SHORT_BUFFER;
-    }
-    if name.len() < NAME_BYTES {
+    if words.len() < RECORD_WORDS || name.len() < NAME_BYTES {
         return SHORT_BUFFER;
     }
     let r = volume_record::read_record(record, leb_size, unit);

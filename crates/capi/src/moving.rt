@@ -87,9 +87,9 @@ fn run_steps(plan: Plan, image: &mut [u8], lent: &mut [u64]) -> u32
     ensures image { image.new ≡ (finishing mover_job plan image.old).image }
 {
     let mut p = plan;
+    // `loop`: each step says whether it was the last.
     loop {
-        let s = mover_steps::step(p, image);
-        match s {
+        match mover_steps::step(p, image) {
             Stepped::On(next) => p = next,
             Stepped::Done => return store_plan(p, lent),
             Stepped::Refused => return MAY_NOT_RUN,
@@ -131,10 +131,7 @@ pub extern "C" fn choduljin_next_write(plan: &[u64], image: &[u8], write: &mut [
         (over (next_words (next_write (plan_in plan.now) image.now)) write.old)
         write.old }
 {
-    if plan.len() < PLAN_WORDS {
-        return SHORT_BUFFER;
-    }
-    if write.len() < WRITE_WORDS {
+    if plan.len() < PLAN_WORDS || write.len() < WRITE_WORDS {
         return SHORT_BUFFER;
     }
     if !capi_words::plan_fits(plan) {

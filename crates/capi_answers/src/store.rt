@@ -16,13 +16,13 @@ ghost use Rattle.capi_answers.specs.Calls.{given_words, verdict_words, if_good, 
 
 use crate::{BAD, EMPTY, MAY_NOT_RUN, ON};
 use capi_words::store_words;
-use geometry::GeometryRead;
-use header::{EcRead, VidRead};
-use listing_text::Rendered;
+use geometry::{Geometry, SlipError};
+use header::{EcHeader, ReadError, VidHeader};
+use listing_text::TooShort;
 use mover_next::NextWrite;
-use mover_rules::{Begun, Plan, Stepped};
-use report::Attached;
+use mover_rules::{Plan, Stepped};
 use report::refusal::{BAD_GEOMETRY, MALFORMED_SLIP, NEWER_HEADER, SHORT_BUFFER};
+use report::{Refused, Report};
 use volume_record::{RecordKind, RecordRead};
 
 // The kinds of a write.
@@ -32,74 +32,70 @@ const BYTES_STORED: u64 = 1;
 
 const BLOCK_ERASED: u64 = 2;
 
-fn store_refusal(number: u32, place: u32, lent: &mut [u64]) -> u32
+fn store_refusal(r: Refused, lent: &mut [u64]) -> u32
     requires { 2 ≤ length lent.old }
-    ensures answer { result ≡ number }
-    ensures words { lent.new ≡ over (number ∷ place ∷ []) lent.old }
+    ensures answer { result ≡ r.number }
+    ensures words { lent.new ≡ over (r.number ∷ r.place ∷ []) lent.old }
 {
-    let words = [number as u64, place as u64];
-    store_words(lent, &words);
-    number
+    store_words(lent, &[r.number as u64, r.place as u64]);
+    r.number
 }
 
 // What attaching answered: a report or a refusal.
-pub fn store_attached(a: Attached, lent: &mut [u64]) -> u32
+pub fn store_attached(a: Result<Report, Refused>, lent: &mut [u64]) -> u32
     requires { 17 ≤ length lent.old }
     ensures answer { result ≡ number_of (attached_answer a) }
     ensures words { lent.new ≡ over (answer_words report_words (attached_answer a)) lent.old }
 {
     match a {
-        Attached::Given(r) => {
-            let words = capi_words::report_words(r);
-            store_words(lent, &words);
-            return 0;
+        Ok(r) => {
+            store_words(lent, &capi_words::report_words(r));
+            0
         }
-        Attached::Refused { number, place } => return store_refusal(number, place, lent),
+        Err(e) => store_refusal(e, lent),
     }
 }
 
 // What rendering a listing answered: the length of its text.
-pub fn store_rendered(r: Rendered, lent: &mut [u64]) -> u32
+pub fn store_rendered(r: Result<usize, TooShort>, lent: &mut [u64]) -> u32
     requires { 1 ≤ length lent.old }
     ensures answer { result ≡ number_of (rendered_answer r) }
     ensures words { lent.new
         ≡ over (given_words (λ (n : ℕ). n ∷ []) (rendered_answer r)) lent.old }
 {
     match r {
-        Rendered::Text(n) => {
-            let words = [n as u64];
-            store_words(lent, &words);
-            return 0;
+        Ok(n) => {
+            store_words(lent, &[n as u64]);
+            0
         }
-        Rendered::Short => return SHORT_BUFFER,
+        Err(_) => SHORT_BUFFER,
     }
 }
 
-pub fn store_geometry(r: GeometryRead, lent: &mut [u64]) -> u32
+pub fn store_geometry(r: Result<Geometry, SlipError>, lent: &mut [u64]) -> u32
     requires { 6 ≤ length lent.old }
     ensures answer { result ≡ number_of (geometry_read r) }
     ensures words { lent.new ≡ over (given_words geometry_words (geometry_read r)) lent.old }
 {
     match r {
-        GeometryRead::Good(g) => {
-            let words = capi_words::geometry_words(g);
-            store_words(lent, &words);
-            return 0;
+        Ok(g) => {
+            store_words(lent, &capi_words::geometry_words(g));
+            0
         }
-        GeometryRead::Malformed => return MALFORMED_SLIP,
-        GeometryRead::Outside => return BAD_GEOMETRY,
+        Err(SlipError::Malformed) => MALFORMED_SLIP,
+        Err(SlipError::Outside) => BAD_GEOMETRY,
     }
 }
 
 // What the beginning of a move answered: a plan or a refusal.
-pub fn store_begun(b: Begun, lent: &mut [u64]) -> u32
+pub fn store_begun(b: Result<Plan, Refused>, lent: &mut [u64]) -> u32
     requires { 24 ≤ length lent.old }
     ensures answer { result ≡ number_of (begun_answer b) }
     ensures words { lent.new ≡ over (answer_words plan_words (begun_answer b)) lent.old }
 {
     match b {
-        Begun::Planned(p) => return store_plan(p, lent),
-        Begun::Refused { number, place } => return store_refusal(number, place, lent),
+        Ok(p) => store_plan(p, lent),
+        Err(e) => store_refusal(e, lent),
     }
 }
 
@@ -109,8 +105,7 @@ pub fn store_plan(p: Plan, lent: &mut [u64]) -> u32
     ensures answer { result ≡ 0 }
     ensures words { lent.new ≡ over (answer_words plan_words (given p)) lent.old }
 {
-    let words = capi_words::plan_words(p);
-    store_words(lent, &words);
+    store_words(lent, &capi_words::plan_words(p));
     0
 }
 
@@ -122,12 +117,11 @@ pub fn store_stepped(s: Stepped, lent: &mut [u64]) -> u32
 {
     match s {
         Stepped::On(next) => {
-            let words = capi_words::plan_words(next);
-            store_words(lent, &words);
-            return ON;
+            store_words(lent, &capi_words::plan_words(next));
+            ON
         }
-        Stepped::Done => return 0,
-        Stepped::Refused => return MAY_NOT_RUN,
+        Stepped::Done => 0,
+        Stepped::Refused => MAY_NOT_RUN,
     }
 }
 
@@ -136,8 +130,7 @@ fn store_write(kind: u64, at: usize, count: usize, lent: &mut [u64]) -> u32
     ensures answer { result ≡ 0 }
     ensures words { lent.new ≡ over (kind ∷ at ∷ count ∷ []) lent.old }
 {
-    let words = [kind, at as u64, count as u64];
-    store_words(lent, &words);
+    store_words(lent, &[kind, at as u64, count as u64]);
     0
 }
 
@@ -147,52 +140,51 @@ pub fn store_next(w: NextWrite, lent: &mut [u64]) -> u32
     ensures words { lent.new ≡ over (next_words w) lent.old }
 {
     match w {
-        NextWrite::Store { at, length } => return store_write(BYTES_STORED, at, length, lent),
-        NextWrite::Erase { at, length } => return store_write(BLOCK_ERASED, at, length, lent),
-        NextWrite::Nothing => return store_write(NOTHING, 0, 0, lent),
-        NextWrite::Refused => return MAY_NOT_RUN,
+        NextWrite::Store { at, length } => store_write(BYTES_STORED, at, length, lent),
+        NextWrite::Erase { at, length } => store_write(BLOCK_ERASED, at, length, lent),
+        NextWrite::Nothing => store_write(NOTHING, 0, 0, lent),
+        NextWrite::Refused => MAY_NOT_RUN,
     }
 }
 
-pub fn store_ec(r: EcRead, lent: &mut [u64]) -> u32
+// The answer about a header that is not read.
+fn no_header(e: ReadError) -> u32
+    ensures ec { result ≡ verdict_number (ec_answer (Err e)) }
+    ensures vid { result ≡ verdict_number (vid_answer (Err e)) }
+{
+    match e {
+        ReadError::Bad => BAD,
+        ReadError::Newer => NEWER_HEADER,
+        ReadError::Short => SHORT_BUFFER,
+    }
+}
+
+pub fn store_ec(r: Result<EcHeader, ReadError>, lent: &mut [u64]) -> u32
     requires { 5 ≤ length lent.old }
     ensures answer { result ≡ verdict_number (ec_answer r) }
     ensures words { lent.new ≡ over (verdict_words ec_words (ec_answer r)) lent.old }
 {
     match r {
-        EcRead::Good(h) => {
-            let words = capi_words::ec_words(h);
-            store_words(lent, &words);
-            return 0;
+        Ok(h) => {
+            store_words(lent, &capi_words::ec_words(h));
+            0
         }
-        EcRead::Lost => return BAD,
-        EcRead::Newer => return NEWER_HEADER,
-        EcRead::Short => return SHORT_BUFFER,
+        Err(lost) => no_header(lost),
     }
 }
 
-pub fn store_vid(r: VidRead, lent: &mut [u64]) -> u32
+pub fn store_vid(r: Result<VidHeader, ReadError>, lent: &mut [u64]) -> u32
     requires { 11 ≤ length lent.old }
     ensures answer { result ≡ verdict_number (vid_answer r) }
     ensures words { lent.new ≡ over (verdict_words vid_words (vid_answer r)) lent.old }
 {
     match r {
-        VidRead::Good(h) => {
-            let words = capi_words::vid_words(h);
-            store_words(lent, &words);
-            return 0;
+        Ok(h) => {
+            store_words(lent, &capi_words::vid_words(h));
+            0
         }
-        VidRead::Bad => return BAD,
-        VidRead::Newer => return NEWER_HEADER,
-        VidRead::Short => return SHORT_BUFFER,
+        Err(bad) => no_header(bad),
     }
-}
-
-fn store_name(bytes: [u8; 128], lent: &mut [u8])
-    requires { 128 ≤ length lent.old }
-    ensures { lent.new ≡ over bytes lent.old }
-{
-    base::store(lent, 0, &bytes)
 }
 
 // What a record is; of a good one its numbers, and beside them its name.
@@ -204,18 +196,16 @@ pub fn store_record(r: RecordRead, lent: &mut [u64], name: &mut [u8]) -> u32
     ensures name { name.new
         ≡ over (if_good (record_kind r.kind) r.«record».name) name.old }
 {
-    let kind = r.kind;
-    match kind {
+    match r.kind {
         RecordKind::Good => {
             let v = r.record;
-            let words = capi_words::record_words(v);
-            store_words(lent, &words);
-            let bytes = v.name;
-            store_name(bytes, name);
-            return 0;
+            store_words(lent, &capi_words::record_words(v));
+            let bytes: &[u8] = &v.name;
+            name[..bytes.len()].copy_from_slice(bytes);
+            0
         }
-        RecordKind::Empty => return EMPTY,
-        RecordKind::Bad => return BAD,
-        RecordKind::Short => return SHORT_BUFFER,
+        RecordKind::Empty => EMPTY,
+        RecordKind::Bad => BAD,
+        RecordKind::Short => SHORT_BUFFER,
     }
 }

@@ -1,17 +1,16 @@
 -- Words written are read back as the same struct; words read are written again as they were. Assumes nothing.
 use mathlib.Core.Path.{◌≡◌, refl, sym, ap, subst}
 use mathlib.Core.Bool.{Bool, true, false, not, cond}
-use mathlib.Core.List.{List, [], ◌∷◌, ◌++◌}
+use mathlib.Core.List.{List, ◌∷◌, ◌++◌}
 use Prim.Native.Nat.{ℕ, zero, suc, ◌+◌, ◌≤◌}
 use native.Mathlib.Nat.{add-zero, add-suc, suc-add}
 use native.Mathlib.Omega.{arith}
-use borrow.Author.Tests.{eq-eqb, ne_eqb}
+use borrow.Author.Tests.{ne_eqb}
 use lib.Dec.{eqb}
 use lib.ListN.{length, drop, get_or, set}
 use lib.Seq.{drop-cons}
 use Rattle.base.specs.Answers.{given, refused}
 use Rattle.base.specs.Lists.{table}
-use Rattle.base.proofs.Answers.{either_way}
 use Rattle.header.specs.Ec.{EcFits}
 use Rattle.header.specs.Vid.{VidFits}
 use Rattle.header.specs.declared.EcHeader.{EcHeader}

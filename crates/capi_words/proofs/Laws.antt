@@ -1,38 +1,27 @@
--- Laws of words that fit, and of words stored. Assumes nothing.
-use mathlib.Core.Path.{◌≡◌, refl, ap, ◌∙◌}
-use mathlib.Core.Bool.{Bool, true, false, ◌&&◌}
+-- Laws of words that fit. Assumes nothing.
+use mathlib.Core.Path.{◌≡◌, refl}
+use mathlib.Core.Bool.{true, false, ◌&&◌}
 use mathlib.Core.List.{List, [], ◌∷◌, ◌++◌}
-use Prim.Native.Nat.{ℕ, zero, suc, ◌+◌, ◌≤◌, ◌<◌}
-use native.Mathlib.Numerals.{add-one}
+use Prim.Native.Nat.{ℕ, suc, ◌+◌, ◌≤◌, ◌<◌}
 use native.Mathlib.Omega.{arith}
-use borrow.Author.Tests.{le-leb, lt-leb, leb-true, eq-eqb, ne_eqb}
+use borrow.Author.Tests.{le-leb, leb-true, eq-eqb, ne_eqb}
 use lib.Dec.{leb}
-use lib.ListN.{length, take, drop, get_or, set, length-drop}
-use lib.Seq.{drop-cons, drop-length, take-length}
+use lib.ListN.{length, take, drop, get_or, length-drop}
+use lib.Seq.{drop-cons}
+use Rattle.std.specs.List.{list_all, zip}
 use Rattle.base.proofs.Answers.{and_left, and_right, not_so, clash}
 use Rattle.base.specs.Lists.{part}
-use Rattle.report.specs.Attach.{over}
 use Rattle.capi_words.specs.Lent.{fits, BelowFrom, Within}
 use Rattle.capi_words.specs.Structs.{report_most, refusal_most, attached_fits}
 
--- ---- a walk over words and limits
+-- ---- words and limits, side by side
 
-fits_step : (ws ms : List ℕ) (i : ℕ) → i < length ws → i < length ms
-    → fits (drop i ws) (drop i ms) ≡ leb (get_or ws i 0) (get_or ms i 0) && fits (drop (i + 1) ws) (drop (i + 1) ms)
+pub fits_zip : (ws ms : List ℕ) → length ms ≤ length ws → fits ws ms ≡ list_all (λ p. leb p.0 p.1) (zip ws ms)
 unfolding fits
-fits_step ws ms i h k = rw (drop-cons ws i 0, drop-cons ms i 0, add-one)
-
-pub fits_go : (ws ms : List ℕ) (i : ℕ) → i < length ws → i < length ms → get_or ws i 0 ≤ get_or ms i 0
-    → fits (drop i ws) (drop i ms) ≡ fits (drop (i + 1) ws) (drop (i + 1) ms)
-fits_go ws ms i h k e = fits_step ws ms i h k ∙ rw (le-leb _ _ e)
-
-pub fits_stop : (ws ms : List ℕ) (i : ℕ) → i < length ws → i < length ms → get_or ms i 0 < get_or ws i 0
-    → fits (drop i ws) (drop i ms) ≡ false
-fits_stop ws ms i h k e = fits_step ws ms i h k ∙ rw (lt-leb _ _ e)
-
-pub fits_end : (ws ms : List ℕ) → fits ws (drop (length ms) ms) ≡ true
-unfolding fits
-fits_end ws ms = rw drop-length
+fits_zip [] [] h = refl
+fits_zip [] (m ∷ ms) h = absurd (omega arith)
+fits_zip (w ∷ ws) [] h = refl
+fits_zip (w ∷ ws) (m ∷ ms) h = rw (fits_zip ws ms (omega arith))
 
 -- fewer words than limits
 pub fits_length : (ws ms : List ℕ) → fits ws ms ≡ true → length ms ≤ length ws
@@ -99,18 +88,4 @@ pub refusal_within : (ws : List ℕ) → (get_or ws 0 0 ≡ 0 → ⊥) → attac
 unfolding attached_fits
 refusal_within ws h e = within ws refusal_most (rw (ne_eqb _ _ h) at e)
 
--- ---- words stored one by one
-
-store_suc : (ws d : List ℕ) (i : ℕ) → i < length ws → i < length d
-    → set (take i ws ++ drop i d) i (get_or ws i 0) ≡ take (suc i) ws ++ drop (suc i) d
-store_suc [] d i h k = absurd (omega arith)
-store_suc (w ∷ ws) [] i h k = absurd (omega arith)
-store_suc (w ∷ ws) (x ∷ d) zero h k = refl
-store_suc (w ∷ ws) (x ∷ d) (suc i) h k = ap (λ (l : List ℕ). w ∷ l) (store_suc ws d i (omega arith) (omega arith))
-
-pub store_more : (ws d : List ℕ) (i : ℕ) → i < length ws → i < length d
-    → set (take i ws ++ drop i d) i (get_or ws i 0) ≡ take (i + 1) ws ++ drop (i + 1) d
-store_more ws d i h k = rw add-one (store_suc ws d i h k)
-
-pub store_all : (ws d : List ℕ) → take (length ws) ws ++ drop (length ws) d ≡ over ws d
-store_all ws d = rw take-length
+pub ruleset answer_within = (report_within, refusal_within)

@@ -1,5 +1,5 @@
 -- The words of each struct, in the order of include/choduljin.h, and the struct of its words. Assumes nothing.
-use Rattle.std.specs.Prelude.{◌≡◌, Bool, not, cond, List, [], ◌∷◌, ◌++◌, ℕ, ◌≤◌, eqb, get_or}
+use Rattle.std.specs.Prelude.{Bool, not, cond, List, [], ◌∷◌, ◌++◌, ℕ, ◌≤◌, eqb, get_or}
 use Rattle.base.specs.Answers.{Answer, given, refused}
 use Rattle.base.specs.Lists.{part}
 use Rattle.geometry.specs.declared.Geometry.{Geometry}

@@ -8,7 +8,7 @@ ghost use Rattle.capi_words.specs.Structs.{geometry_in, ec_in, vid_in, report_in
 use geometry::Geometry;
 use header::{EcHeader, VidHeader};
 use mover_rules::Plan;
-use report::{Attached, Report};
+use report::{Refused, Report};
 
 const MOST_8: u64 = 0xFF;
 
@@ -41,17 +41,7 @@ const REFUSAL_MOST: [u64; 2] = [MOST_32, MOST_32];
 fn fits(words: &[u64], most: &[u64]) -> bool
     ensures { result ≡ fits words.now most.now }
 {
-    if words.len() < most.len() {
-        return false;
-    }
-    let mut i: usize = 0;
-    while i < most.len() {
-        if most[i] < words[i] {
-            return false;
-        }
-        i += 1;
-    }
-    true
+    most.len() <= words.len() && words.iter().zip(most).all(|(w, m)| w <= m)
 }
 
 pub fn ec_fits(w: &[u64]) -> bool
@@ -73,14 +63,16 @@ pub fn plan_fits(w: &[u64]) -> bool
 }
 
 // Are the words a report, or a refusal?
+#[tactic(auto, unfolding(crate::specs::Structs::attached_fits))]
 pub fn attached_fits(w: &[u64]) -> bool
     requires { 17 ≤ length w.now }
     ensures { result ≡ attached_fits w.now }
 {
     if w[0] == 0 {
-        return fits(w, &REPORT_MOST);
+        fits(w, &REPORT_MOST)
+    } else {
+        fits(w, &REFUSAL_MOST)
     }
-    fits(w, &REFUSAL_MOST)
 }
 
 pub fn ec_in(w: &[u64]) -> EcHeader
@@ -115,6 +107,7 @@ pub fn vid_in(w: &[u64]) -> VidHeader
     }
 }
 
+#[tactic(auto, unfolding(crate::specs::Structs::plan_in))]
 pub fn plan_in(w: &[u64]) -> Plan
     requires { Within w.now plan_most }
     ensures { result ≡ plan_in w.now }
@@ -147,6 +140,7 @@ fn geometry_in(w: &[u64]) -> Geometry
     }
 }
 
+#[tactic(auto, unfolding(crate::specs::Structs::report_in))]
 fn report_in(w: &[u64]) -> Report
     requires { Within w.now report_most }
     ensures { result ≡ report_in w.now }
@@ -167,15 +161,17 @@ fn report_in(w: &[u64]) -> Report
 }
 
 // The report, or the refusal.
-pub fn attached_in(w: &[u64]) -> Attached
+#[tactic(auto, using(crate::proofs::Laws::answer_within), unfolding(crate::specs::Structs::attached_in))]
+pub fn attached_in(w: &[u64]) -> Result<Report, Refused>
     requires { (17 ≤ length w.now) × (attached_fits w.now ≡ true) }
     ensures { attached_answer result ≡ attached_in w.now }
 {
     if w[0] == 0 {
-        return Attached::Given(report_in(w));
-    }
-    Attached::Refused {
-        number: w[0] as u32,
-        place: w[1] as u32,
+        Ok(report_in(w))
+    } else {
+        Err(Refused {
+            number: w[0] as u32,
+            place: w[1] as u32,
+        })
     }
 }

@@ -7,9 +7,5 @@ pub fn store_words(lent: &mut [u64], words: &[u64])
     requires { length words.now ≤ length lent.old }
     ensures { lent.new ≡ over words.now lent.old }
 {
-    let mut i: usize = 0;
-    while i < words.len() {
-        lent[i] = words[i];
-        i += 1;
-    }
+    lent[..words.len()].copy_from_slice(words);
 }

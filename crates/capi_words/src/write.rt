@@ -1,5 +1,5 @@
 // The words of each struct.
-ghost use Rattle.std.specs.Prelude.{◌≡◌, cond};
+ghost use Rattle.std.specs.Prelude.{◌≡◌};
 ghost use Rattle.base.specs.Answers.{given};
 ghost use Rattle.capi_words.specs.Structs.{geometry_words, ec_words, vid_words, record_words, report_words, plan_words};
 ghost use Rattle.capi_words.specs.Structs.{answer_words};
@@ -9,15 +9,6 @@ use header::{EcHeader, VidHeader};
 use mover_rules::Plan;
 use report::Report;
 use volume_record::VolumeRecord;
-
-fn bit(b: bool) -> u64
-    ensures { result ≡ cond b 1 0 }
-{
-    if b {
-        return 1;
-    }
-    0
-}
 
 pub fn geometry_words(g: Geometry) -> [u64; 6]
     ensures { result ≡ geometry_words g }
@@ -33,6 +24,7 @@ pub fn geometry_words(g: Geometry) -> [u64; 6]
 }
 
 // A report, after the number and the place of no refusal.
+#[tactic(auto, unfolding(crate::specs::Structs::report_words))]
 pub fn report_words(r: Report) -> [u64; 17]
     ensures { result ≡ answer_words report_words (given r) }
 {
@@ -51,7 +43,7 @@ pub fn report_words(r: Report) -> [u64; 17]
         r.mean as u64,
         r.highest,
         r.image_seq as u64,
-        bit(r.read_only),
+        u64::from(r.read_only),
         r.table as u64,
         r.copies_mark as u64,
         r.grade as u64,
@@ -89,6 +81,7 @@ pub fn vid_words(h: VidHeader) -> [u64; 11]
 }
 
 // A plan, after the number and the place of no refusal.
+#[tactic(auto, unfolding(crate::specs::Structs::plan_words))]
 pub fn plan_words(p: Plan) -> [u64; 24]
     ensures { result ≡ answer_words plan_words (given p) }
 {

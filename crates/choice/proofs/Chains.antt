@@ -1,12 +1,12 @@
 -- Laws of the chains: who is in a bucket, a walk along a chain, links stored. Assumes nothing.
-use mathlib.Core.Path.{◌≡◌, refl, sym, ap, ap₂, ◌∙◌}
+use mathlib.Core.Path.{◌≡◌, refl, sym, ap₂, ◌∙◌}
 use mathlib.Core.Logic.{◌≢◌, ◌⊎◌, inl, inr, ⊎_elim}
 use mathlib.Core.Bool.{true, false}
 use mathlib.Core.List.{List, ◌++◌}
 use Prim.Native.Nat.{ℕ, ◌+◌, ◌*◌, ◌≤◌, ◌<◌}
 use native.Mathlib.Omega.{arith}
 use borrow.Author.Tests.{eq-eqb, ne_eqb}
-use lib.ListN.{length, drop, get_or, set, replicate, length-set, length-replicate, get_or-replicate, get_or-append}
+use lib.ListN.{length, get_or, set, replicate, length-set, length-append, length-replicate, get_or-replicate, get_or-append}
 use lib.Seq.{get_or-set_same, get_or-set_other}
 use Rattle.base.proofs.Below.{lt_or_le, eq_or_ne, one_more}
 use Rattle.base.proofs.Answers.{not_so}
@@ -234,19 +234,17 @@ chains_on o p = record {
 
 -- ---- no heads before copies are linked
 
-pub no_heads : {n : ℕ} {map heads₁ : List ℕ} (heads : List ℕ) (k : ℕ) → heads₁ ≡ replicate k no_word ++ drop k heads
-    → length heads₁ ≡ length heads
-    → buckets ≤ k → buckets ≤ length heads → n ≤ most_pebs → map_words_needed n ≤ length map → Chained n 0 map heads₁
-no_heads heads k e s q h f l = record {
+pub no_heads : {n : ℕ} {map w : List ℕ} (rest : List ℕ) → w ≡ replicate buckets no_word → n ≤ most_pebs
+    → map_words_needed n ≤ length map → Chained n 0 map (w ++ rest)
+no_heads rest e f l = rw e (record {
   few = f;
   long_map = l;
-  long_heads = omega arith;
+  long_heads = simp (length-append, length-replicate) (omega arith);
   links = λ i z. absurd (omega arith);
   tops = λ b z. record {
     is = λ y. absurd (omega arith);
-    none = λ _. ap (λ (x : List ℕ). get_or x b 0) e
-        ∙ get_or-append (replicate k no_word) (drop k heads) 0 b (omega (arith, length-replicate k no_word))
-        ∙ get_or-replicate k b no_word 0 (omega arith);
+    none = λ _. get_or-append (replicate buckets no_word) rest 0 b (simp length-replicate z)
+        ∙ get_or-replicate buckets b no_word 0 z;
     skips = λ i y. absurd (omega arith);
   };
-}
+})

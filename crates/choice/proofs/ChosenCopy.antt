@@ -6,8 +6,10 @@ use mathlib.Core.Option.{Option, none, some}
 use mathlib.Core.List.{List}
 use Prim.Native.Nat.{ℕ, ◌-◌, ◌≤◌, ◌<◌}
 use native.Mathlib.Omega.{arith}
-use borrow.Author.Tests.{lt-ltb, ltb-true, ltb-false, leb-true, leb-false, eqb-true, eqb-false}
-use lib.Dec.{eqb, ltb, leb}
+use borrow.Author.Tests.{lt-ltb, ltb-true, ltb-false, leb-true, leb-false, eqb-false}
+use lib.Dec.{leb}
+use Rattle.std.specs.declared.option.Option as rust
+use Rattle.std.specs.Prelude.{Some, None, IfSome, MatchOption}
 use Rattle.base.proofs.Answers.{by_test, not_so, clash}
 use Rattle.base.proofs.Below.{lt_or_le, eq_or_ne, none_intro, any_intro, first_only}
 use Rattle.geometry.specs.declared.Geometry.{Geometry}
@@ -18,7 +20,7 @@ use Rattle.report.proofs.Facts.{none9_at}
 use Rattle.report.proofs.Choice.{beats_irreflexive, beats_trans, of_key_hit, of_key_some}
 use Rattle.copies.specs.InPlace.{copy_at}
 use Rattle.copies.proofs.Copies.{copy_is}
-use Rattle.choice.specs.Keyed.{Holds, Choosing, sequence_at, same_leb, higher_of, Highest}
+use Rattle.choice.specs.Keyed.{Holds, Choosing, sequence_at, same_leb, lower_than, higher_of, Highest}
 use Rattle.choice.proofs.Words.{Held, held, has_words, same_true, true_same, repeat_sequence}
 use Rattle.choice.specs.Chain.{bucket_at}
 use Rattle.choice.proofs.Chains.{Along, same_bucket, walk_on, walk_end}
@@ -62,57 +64,67 @@ module _ (n : ℕ) (f : ℕ → Option Copy) (i : ℕ) (c : Copy) (h : i < n) (e
 
 -- ---- the highest sequence up to a bound
 
+module _ (g : Geometry) (image : List ℕ) (k : ℕ) where
+  lower_most : (r : rust.Option ℕ) → lower_than g image k r ≡ true
+      → IfSome r (λ b. sequence_at g image b ≤ sequence_at g image k)
+  lower_most None e = tt
+  lower_most (Some b) e = let z = ltb-true (sequence_at g image b) (sequence_at g image k) e in omega arith
+
+  not_lower : (r : rust.Option ℕ) → lower_than g image k r ≡ false
+      → MatchOption r ⊥ (λ b. sequence_at g image k ≤ sequence_at g image b)
+  not_lower None e = cc
+  not_lower (Some b) e = ltb-false (sequence_at g image b) (sequence_at g image k) e
+
+  between : {x : ℕ} (r : rust.Option ℕ) → MatchOption r ⊥ (λ b. x ≤ sequence_at g image b)
+      → IfSome r (λ b. sequence_at g image b ≤ sequence_at g image k) → x ≤ sequence_at g image k
+  between None p q = absurd p
+  between (Some b) p q = omega arith
+
 module _ {g : Geometry} {image : List ℕ} {n : ℕ} {map : List ℕ} {i most : ℕ} where
-  pub highest_none : Highest g image n map i most n n
-  highest_none = record { range = omega arith; is = λ h. absurd (omega arith); leads = λ j h k. absurd (omega arith) }
+  pub highest_none : Highest g image n map i most n None
+  highest_none = record { below = tt; is = tt; leads = λ j h k. absurd (omega arith) }
 
-  module _ (c : Holds map i) {at k best : ℕ} (o : Along map i n at k)
+  module _ (c : Holds map i) {at k : ℕ} {best : rust.Option ℕ} (o : Along map i n at k)
       (b : Highest g image n map i most at best) where
-    abbrev Leads : ℕ → ℕ → Type 0
+    abbrev Leads : rust.Option ℕ → ℕ → Type 0
     Leads r j =
-        same_leb map i j ≡ true → sequence_at g image j ≤ most → (r < n) × (sequence_at g image j ≤ sequence_at g image r)
+        same_leb map i j ≡ true → sequence_at g image j ≤ most
+        → MatchOption r ⊥ (λ b. sequence_at g image j ≤ sequence_at g image b)
 
-    apart_leads : (r x : ℕ) → x < n → (Holds map i → bucket_at map x ≡ bucket_at map i → ⊥) → Leads r x
+    apart_leads : (r : rust.Option ℕ) (x : ℕ) → x < n → (Holds map i → bucket_at map x ≡ bucket_at map i → ⊥)
+        → Leads r x
     apart_leads r x h f s l = absurd (f c (same_bucket map i x c s))
 
     -- the chain ends
     pub highest_all : at ≤ k → Highest g image n map i most 0 best
     highest_all h =
-        record {
-          range = b.range;
-          is = b.is;
-          leads = λ j _ l. walk_end o (Leads best) b.leads (apart_leads best) h j l;
-        }
+        record { below = b.below; is = b.is; leads = λ j _ l. walk_end o (Leads best) b.leads (apart_leads best) h j l }
 
     module _ (h : k < at) where
       stays : Leads best k → Highest g image n map i most k best
-      stays l = record { range = b.range; is = b.is; leads = walk_on o (Leads best) b.leads (apart_leads best) l }
+      stays l = record { below = b.below; is = b.is; leads = walk_on o (Leads best) b.leads (apart_leads best) l }
 
       takes : same_leb map i k ≡ true → sequence_at g image k ≤ most
-          → (best < n → sequence_at g image best ≤ sequence_at g image k) → Highest g image n map i most k k
+          → IfSome best (λ b. sequence_at g image b ≤ sequence_at g image k) → Highest g image n map i most k (Some k)
       takes s l up =
-          let q : k < n = let r = o.range in omega arith in
+          let r = o.range in
           record {
-            range = omega arith;
-            is = λ _. (s, l);
+            below = omega arith;
+            is = (s, l);
             leads =
-                walk_on o (Leads k) (λ j p r t m. let y = b.leads j p r t m in (q, let z = up y.0 in omega arith))
-                (apart_leads k) (λ _ _. (q, omega arith));
+                walk_on o (Leads (Some k)) (λ j p r t m. between g image k best (b.leads j p r t m) up)
+                (apart_leads (Some k)) (λ _ _. omega arith);
           }
 
       -- one PEB of the chain more
-      pub highest_more : Highest g image n map i most k (higher_of g image n map i most best k)
+      pub highest_more : Highest g image n map i most k (higher_of g image map i most best k)
       highest_more =
           let sk = sequence_at g image k in
-          let sb = sequence_at g image best in
           by_test (same_leb map i k)
           (λ p. by_test (leb sk most)
-          (λ q. by_test (eqb best n)
-          (λ u. rw (p, q, u) (takes p (leb-true sk most q) (λ z. absurd (let y = eqb-true best n u in omega arith))))
-          (λ u. by_test (ltb sb sk)
-          (λ w. rw (p, q, u, w) (takes p (leb-true sk most q) (λ z. let y = ltb-true sb sk w in omega arith)))
-          (λ w. let y = b.range in let z = eqb-false best n u in
-          rw (p, q, u, w) (stays (λ _ _. (omega (arith, z), ltb-false sb sk w))))))
+          (λ q. by_test (lower_than g image k best)
+          (λ u. rw (p, q, u) (takes p (leb-true sk most q) (lower_most g image k best u)))
+          (λ u. rw (p, q, u) (stays (λ _ _. not_lower g image k best u))))
           (λ q. rw (p, q) (stays (λ _ m. absurd (let z = leb-false sk most q in omega arith)))))
           (λ p. rw p (stays (λ s _. clash p s)))
 
@@ -179,26 +191,27 @@ module _ {g : Geometry} {image : List ℕ} {n : ℕ} {map : List ℕ} {i : ℕ} 
       (distinct j at k w.below ne m.0 w.same)
       (⊎_elim (λ s. inl s) (λ l. inr (l j k m.0)) low)))
 
-  -- the first copy met is the highest
-  pub highest_met : {most at : ℕ} → Highest g image n map i most 0 at → ((j : ℕ) → j < n → sequence_at g image j ≤ most)
-      → NoneAbove g image n map i at
-  highest_met t fits =
-      let y = t.leads i (omega arith) v.below (true_same map i i refl refl) (fits i v.below) in
-      record {
-        below = y.0;
-        same = (t.is y.0).0;
-        above = λ k l s o. absurd (let x = t.leads k (omega arith) l s (fits k l) in omega arith);
-      }
+  module _ {most : ℕ} (fits : (j : ℕ) → j < n → sequence_at g image j ≤ most) where
+    -- a first copy is met
+    pub one_met : Highest g image n map i most 0 None → ⊥
+    one_met t = t.leads i (omega arith) v.below (true_same map i i refl refl) (fits i v.below)
+
+    -- and it is the highest
+    pub highest_met : {at : ℕ} → Highest g image n map i most 0 (Some at) → NoneAbove g image n map i at
+    highest_met t = record {
+      below = t.below;
+      same = t.is.0;
+      above = λ k l s o. absurd (let x = t.leads k (omega arith) l s (fits k l) in omega arith);
+    }
 
   -- and then the next lower one
   pub next_met : {at next s : ℕ} → NoneAbove g image n map i at → s ≡ sequence_at g image at → (s ≡ 0 → ⊥)
       → sound (copy_at g image at) ≡ false
-      → Highest g image n map i (s - 1) 0 next → (next ≡ n → ⊥) → NoneAbove g image n map i next
-  next_met {at} {next} {s} w e p u t q =
-      let l : next < n = let y = t.range in omega (arith, q) in
+      → Highest g image n map i (s - 1) 0 (Some next) → NoneAbove g image n map i next
+  next_met {at} {next} {s} w e p u t =
       record {
-        below = l;
-        same = (t.is l).0;
+        below = t.below;
+        same = t.is.0;
         above =
             λ k o m x. ⊎_elim (λ (y : k ≡ at). rw y u) (λ (ne : k ≢ at). w.above k o m (over k o m x ne))
             (eq_or_ne k at);
@@ -212,9 +225,9 @@ module _ {g : Geometry} {image : List ℕ} {n : ℕ} {map : List ℕ} {i : ℕ} 
           (lt_or_le (s - 1) (sequence_at g image k))
 
   -- a copy with no next lower one is the lowest
-  pub lowest : (at : ℕ) {next s : ℕ} → s ≡ sequence_at g image at → (s ≡ 0 → ⊥) → Highest g image n map i (s - 1) 0 next
-      → next ≡ n → (k : ℕ) → k < n → same_leb map i k ≡ true → sequence_at g image at ≤ sequence_at g image k
-  lowest at {next} {s} e p t q k l m =
+  pub lowest : (at : ℕ) {s : ℕ} → s ≡ sequence_at g image at → (s ≡ 0 → ⊥) → Highest g image n map i (s - 1) 0 None
+      → (k : ℕ) → k < n → same_leb map i k ≡ true → sequence_at g image at ≤ sequence_at g image k
+  lowest at {s} e p t k l m =
       ⊎_elim (λ (y : s - 1 < sequence_at g image k). omega (arith, p))
-      (λ (y : sequence_at g image k ≤ s - 1). absurd (let x = t.leads k (omega arith) l m y in omega arith))
+      (λ (y : sequence_at g image k ≤ s - 1). absurd (t.leads k (omega arith) l m y))
       (lt_or_le (s - 1) (sequence_at g image k))

@@ -1,5 +1,6 @@
 -- What the contracts here cite beside the report's definitions: the map's words after the first pass. Assumes nothing.
-use Rattle.std.specs.Prelude.{◌≡◌, Bool, true, not, ◌&&◌, ◌||◌, cond, List, ℕ, ◌+◌, ◌*◌, ◌≤◌, ◌<◌, eqb, ltb, leb, length, get_or}
+use Rattle.std.specs.declared.option.Option as rust
+use Rattle.std.specs.Prelude.{Some, None, IfSome, MatchOption, ◌≡◌, Bool, true, not, ◌&&◌, cond, List, ℕ, ◌+◌, ◌*◌, ◌≤◌, ◌<◌, eqb, ltb, leb, length, get_or}
 use Rattle.std.proofs.Math.Option.{Option, none, some}
 use Rattle.words.specs.Words.{no_word, map_words_needed, HasEntry, volume_word, lnum_word}
 use Rattle.geometry.specs.declared.Geometry.{Geometry}
@@ -41,9 +42,10 @@ abbrev pub repeats_at : Geometry → List ℕ → List ℕ → ℕ → ℕ → B
 repeats_at g image map i j =
     not (eqb (volume_word map i) no_word) && (same_leb map i j && eqb (sequence_at g image i) (sequence_at g image j))
 
--- the refusal that a first repeat r stands for, if it is one of the n PEBs
-abbrev pub repeat_at : ℕ → ℕ → Option Refusal
-repeat_at n r = cond (ltb r n) (some (record { number = 9; place = r })) none
+-- the refusal that a first repeat stands for, if there is one
+abbrev pub repeat_at : rust.Option ℕ → Option Refusal
+repeat_at (Some r) = some (record { number = 9; place = r })
+repeat_at None = none
 
 -- PEB i holds a user or layout LEB, and no copy repeats another
 pub record Choosing (g : Geometry) (image : List ℕ) (n : ℕ) (map : List ℕ) (i : ℕ) : Type 0 where
@@ -52,17 +54,22 @@ pub record Choosing (g : Geometry) (image : List ℕ) (n : ℕ) (map : List ℕ)
   pub holds : Holds map i
   pub no_repeat : refusal9 n (copies (views_of g image)) ≡ none
 
--- the better of `best` (n for none) and PEB j: of the copies of PEB i's LEB with a sequence of at most `most`, the one
--- with the higher
-abbrev pub higher_of : Geometry → List ℕ → ℕ → List ℕ → ℕ → ℕ → ℕ → ℕ → ℕ
-higher_of g image n map i most best j =
-    cond (same_leb map i j
-    && (leb (sequence_at g image j) most && (eqb best n || ltb (sequence_at g image best) (sequence_at g image j)))) j best
+-- has `best`, if there is one, a lower sequence than PEB j?
+abbrev pub lower_than : Geometry → List ℕ → ℕ → rust.Option ℕ → Bool
+lower_than g image j (Some best) = ltb (sequence_at g image best) (sequence_at g image j)
+lower_than g image j None = true
+
+-- the better of `best` and PEB j: of the copies of PEB i's LEB with a sequence of at most `most`, the one with the
+-- higher
+abbrev pub higher_of : Geometry → List ℕ → List ℕ → ℕ → ℕ → rust.Option ℕ → ℕ → rust.Option ℕ
+higher_of g image map i most best j =
+    cond (same_leb map i j && (leb (sequence_at g image j) most && lower_than g image j best)) (Some j) best
 
 -- r is, of the copies of PEB i's LEB in the PEBs from k on with a sequence of at most `most`, one with the highest
--- sequence; n if there is none
-pub record Highest (g : Geometry) (image : List ℕ) (n : ℕ) (map : List ℕ) (i most k r : ℕ) : Type 0 where
-  pub range : r ≤ n
-  pub is : r < n → (same_leb map i r ≡ true) × (sequence_at g image r ≤ most)
+-- sequence, if there is one
+pub record Highest (g : Geometry) (image : List ℕ) (n : ℕ) (map : List ℕ) (i most k : ℕ)
+    (r : rust.Option ℕ) : Type 0 where
+  pub below : IfSome r (λ b. b < n)
+  pub is : IfSome r (λ b. (same_leb map i b ≡ true) × (sequence_at g image b ≤ most))
   pub leads : (j : ℕ) → k ≤ j → j < n → same_leb map i j ≡ true → sequence_at g image j ≤ most
-      → (r < n) × (sequence_at g image j ≤ sequence_at g image r)
+      → MatchOption r ⊥ (λ b. sequence_at g image j ≤ sequence_at g image b)

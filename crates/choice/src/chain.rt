@@ -8,7 +8,7 @@ ghost use Rattle.choice.specs.Keyed.{Holds, same_leb};
 ghost use Rattle.choice.specs.Chain.{buckets, bucket_of, bucket_at, Linked, Chained, Chains};
 
 use crate::repeat::same_leb;
-use words::{NO_WORD, fill_words, lnum_word, peb_word, set_peb, volume_word};
+use words::{NO_WORD, lnum_word, peb_word, set_peb, volume_word};
 
 pub const BUCKETS: usize = 2048;
 
@@ -55,11 +55,9 @@ pub fn link_copies(n: usize, map: &mut [u32], heads: &mut [u32])
     requires { (n ≤ most_pebs) × ((map_words_needed n ≤ length map.old) × (buckets ≤ length heads.old)) }
     ensures { Chains n n map.old map.new heads.old heads.new }
 {
-    fill_words(heads, BUCKETS);
-    let mut i: usize = 0;
-    while i < n {
+    heads[..BUCKETS].fill(NO_WORD);
+    for i in 0..n {
         link_peb(map, heads, n, i);
-        i += 1;
     }
 }
 
@@ -71,6 +69,7 @@ pub fn has_lower_copy(map: &[u32], n: usize, i: usize) -> bool
 {
     let mut above = i;
     let mut j = link(map, i);
+    // `while`: the next PEB is read from the map.
     while j < above {
         if same_leb(map, i, j) {
             return true;

@@ -1,5 +1,5 @@
 // The copy of a LEB that counts.
-ghost use Rattle.std.specs.Prelude.{◌≡◌, ◌≤◌, ◌<◌};
+ghost use Rattle.std.specs.Prelude.{◌≡◌, ◌<◌, IfSome};
 ghost use Rattle.std.proofs.Math.Option.{some};
 ghost use Rattle.report.specs.View.{views_of, copies};
 ghost use Rattle.report.specs.Choice.{chosen};
@@ -30,16 +30,19 @@ pub fn chosen_peb(
         × (result < n) }
 {
     let top = head(map, heads, i);
-    let mut at = highest_up_to(image, g, n, map, i, top, 0xFFFFFFFFFFFFFFFF);
+    // PEB i's own copy is one of them.
+    let Some(mut at) = highest_up_to(image, g, n, map, i, top, u64::MAX) else {
+        unreachable!()
+    };
+    // `loop`: each turn goes on from the copy before.
     loop {
         let s = header_field(image, g, at, VID_SEQUENCE);
         if s == 0 {
             return at;
         }
-        let next = highest_up_to(image, g, n, map, i, top, s - 1);
-        if next == n {
+        let Some(next) = highest_up_to(image, g, n, map, i, top, s - 1) else {
             return at;
-        }
+        };
         if copies::is_sound(image, g, at) {
             return at;
         }
@@ -47,8 +50,8 @@ pub fn chosen_peb(
     }
 }
 
-// Of the copies of PEB i's LEB with a sequence of at most `most`, the PEB of the highest; n if there is none. The chain
-// of its bucket starts at `top`.
+// Of the copies of PEB i's LEB with a sequence of at most `most`, the PEB of the highest, if there is one. The chain of
+// its bucket starts at `top`.
 fn highest_up_to(
     image: &[u8],
     g: Geometry,
@@ -57,14 +60,15 @@ fn highest_up_to(
     i: usize,
     top: usize,
     most: u64,
-) -> usize
+) -> Option<usize>
     requires { (Choosing g image.now n map.now i)
         × ((Linked n map.now) × Nearest map.now (bucket_at map.now i) n top) }
     ensures { Highest g image.now n map.now i most 0 result }
 {
-    let mut best = n;
+    let mut best = None;
     let mut above = n;
     let mut j = top;
+    // `while`: the next PEB is read from the map.
     while j < above {
         best = higher(image, g, n, map, i, most, best, j);
         above = j;
@@ -73,7 +77,7 @@ fn highest_up_to(
     best
 }
 
-// The better of `best`, if it is a PEB, and PEB j.
+// The better of `best`, if there is one, and PEB j.
 fn higher(
     image: &[u8],
     g: Geometry,
@@ -81,11 +85,11 @@ fn higher(
     map: &[u32],
     i: usize,
     most: u64,
-    best: usize,
+    best: Option<usize>,
     j: usize,
-) -> usize
-    requires { (Keyed g image.now n map.now) × ((i < n) × ((j < n) × (best ≤ n))) }
-    ensures { result ≡ higher_of g image.now n map.now i most best j }
+) -> Option<usize>
+    requires { (Keyed g image.now n map.now) × ((i < n) × ((j < n) × IfSome best (λ b. b < n))) }
+    ensures { result ≡ higher_of g image.now map.now i most best j }
 {
     if !same_leb(map, i, j) {
         return best;
@@ -94,11 +98,11 @@ fn higher(
     if most < s {
         return best;
     }
-    if best == n {
-        return j;
-    }
-    if header_field(image, g, best, VID_SEQUENCE) < s {
-        return j;
+    let Some(b) = best else {
+        return Some(j);
+    };
+    if header_field(image, g, b, VID_SEQUENCE) < s {
+        return Some(j);
     }
     best
 }

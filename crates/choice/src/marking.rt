@@ -52,9 +52,7 @@ pub fn mark_chosen(
         ≡ marked_words (places (medium_of g n image.now)) n (views_of g image.now)
         ++ drop (peb_words_needed n) pebs.old }
 {
-    let mut i: usize = 0;
-    while i < n {
+    for i in 0..n {
         choose_peb(image, g, n, map, heads, pebs, i);
-        i += 1;
     }
 }

@@ -1,5 +1,5 @@
 // Refusal 9: two copies of one user or layout LEB that share a sequence.
-ghost use Rattle.std.specs.Prelude.{◌≡◌, ◌≤◌};
+ghost use Rattle.std.specs.Prelude.{◌≡◌, ◌<◌, IfSome};
 ghost use Rattle.words.specs.Words.{HasEntry};
 ghost use Rattle.report.specs.View.{views_of, copies};
 ghost use Rattle.report.specs.Choice.{refusal9};
@@ -12,26 +12,27 @@ use geometry::Geometry;
 use header::VID_SEQUENCE;
 use words::{NO_WORD, lnum_word, volume_word};
 
-// The lowest PEB that repeats the volume, LEB and sequence of a lower one; n if there is none. Only the lower PEBs of
-// its bucket can have its LEB.
-pub fn first_repeat(image: &[u8], g: Geometry, n: usize, map: &[u32]) -> usize
+// The lowest PEB that repeats the volume, LEB and sequence of a lower one, if there is one. Only the lower PEBs of its
+// bucket can have its LEB.
+pub fn first_repeat(image: &[u8], g: Geometry, n: usize, map: &[u32]) -> Option<usize>
     requires { (Keyed g image.now n map.now) × (Linked n map.now) }
-    ensures { (repeat_at n result ≡ refusal9 n (copies (views_of g image.now))) × (result ≤ n) }
+    ensures { (repeat_at result ≡ refusal9 n (copies (views_of g image.now))) × IfSome result (λ i. i < n) }
 {
-    let mut i: usize = 0;
-    'pebs: while i < n {
+    let mut found = None;
+    'pebs: for i in 0..n {
         let mut above = i;
         let mut j = link(map, i);
+        // `while`: the next PEB is read from the map.
         while j < above {
             if is_repeat(image, g, map, i, j) {
+                found = Some(i);
                 break 'pebs;
             }
             above = j;
             j = link(map, j);
         }
-        i += 1;
     }
-    i
+    found
 }
 
 // Does PEB i, which holds a user or layout LEB, repeat PEB j? The image is read only where volume and LEB agree.
@@ -39,13 +40,9 @@ fn is_repeat(image: &[u8], g: Geometry, map: &[u32], i: usize, j: usize) -> bool
     requires { (Within g image.now map.now i) × (Within g image.now map.now j) }
     ensures { result ≡ repeats_at g image.now map.now i j }
 {
-    if volume_word(map, i) == NO_WORD {
-        return false;
-    }
-    if !same_leb(map, i, j) {
-        return false;
-    }
-    header_field(image, g, i, VID_SEQUENCE) == header_field(image, g, j, VID_SEQUENCE)
+    volume_word(map, i) != NO_WORD
+        && same_leb(map, i, j)
+        && header_field(image, g, i, VID_SEQUENCE) == header_field(image, g, j, VID_SEQUENCE)
 }
 
 // Do the words of two PEBs name one volume and LEB?
@@ -53,8 +50,5 @@ pub fn same_leb(map: &[u32], i: usize, j: usize) -> bool
     requires { (HasEntry map.now i) × (HasEntry map.now j) }
     ensures { result ≡ same_leb map.now i j }
 {
-    if lnum_word(map, i) != lnum_word(map, j) {
-        return false;
-    }
-    volume_word(map, i) == volume_word(map, j)
+    lnum_word(map, i) == lnum_word(map, j) && volume_word(map, i) == volume_word(map, j)
 }

@@ -30,12 +30,10 @@ pub fn matches(image: &[u8], g: Geometry, i: usize) -> bool
 }
 
 // Is PEB i's copy sound? Its CRC is computed only if its flag is set.
+#[tactic(auto, unfolding(report::specs::View::copy_of))]
 pub fn is_sound(image: &[u8], g: Geometry, i: usize) -> bool
     requires { HasCopy g image.now i }
     ensures { result ≡ sound (copy_at g image.now i) }
 {
-    if header_field(image, g, i, VID_COPY_FLAG) == 0 {
-        return true;
-    }
-    matches(image, g, i)
+    header_field(image, g, i, VID_COPY_FLAG) == 0 || matches(image, g, i)
 }

@@ -156,9 +156,3 @@ fold_turn b s j u v w x bs long below h eu ev ew ex =
     ∙ word_folded b₂ s (j + 2) w bs ew₂ (j + 3) (j + 139) (omega arith) (omega arith) (omega arith) (omega arith)
     ∙ word_folded b₁ s (j + 1) v bs ev₁ (j + 2) (j + 138) (omega arith) (omega arith) (omega arith) (omega arith)
     ∙ word_folded b s j u bs eu (j + 1) (j + 137) refl refl (omega arith) (omega arith)
-
-pub block_done : (s b b₁ b₂ : List ℕ) (i n : ℕ) → take 137 b₂ ≡ part n 137 b₁ →
-    crc_from (pending exponents (part n 137 b₁)) (drop (4 * n) (drop i s)) ≡ crc_from (pending exponents (take 137 b))
-    (drop i s) →
-    crc_from (pending exponents (take 137 b₂)) (drop (i + 4 * n) s) ≡ crc_from (pending exponents (take 137 b)) (drop i s)
-block_done s b b₁ b₂ i n e h = rw (e, ← drop-drop (4 * n) i s) h

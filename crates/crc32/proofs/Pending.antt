@@ -1,15 +1,14 @@
 -- Numbers in words of 32 bits, and what words that were folded add to those after them. Assumes nothing.
 use mathlib.Core.Path.{◌≡◌, refl, sym, ap, ap₂, ◌∙◌}
 use Prim.Native.Nat.{ℕ, zero, suc, ◌+◌, ◌*◌, ◌-◌, ◌/◌, ◌%◌, ◌^◌, ◌≤◌, ◌<◌}
-use mathlib.Core.List.{List, [], ◌∷◌, ◌++◌, append_assoc}
+use mathlib.Core.List.{List, [], ◌∷◌, ◌++◌}
 use native.Mathlib.Nat.{mod-lt, mod-eq_of_lt, zero-add, add-zero, mul-one, mul_assoc}
 use native.Mathlib.Omega.{arith}
 use lib.Dec.{lit<}
 use lib.Bits.{bit_xor, xor_zero_l, xor_zero_r, xor_shr, xor_mod, xor_block}
 use lib.Pow.{high, low, pow-add, pow_pos}
-use lib.ListN.{length, take, drop, get_or, set, replicate, length-drop, replicate-append-replicate}
-use native.Mathlib.Numerals.{add-one}
-use lib.Seq.{drop_at, drop-drop, drop-append-le, drop-set-add, drop-set-lt, get_or-drop, get_or-take, take-suc}
+use lib.ListN.{length, take, drop, get_or, set, replicate, length-drop}
+use lib.Seq.{drop_at, drop-drop, drop-append-le, drop-set-add, get_or-drop, get_or-take}
 use lib.Seq.{take-suc-set, take-set-le, take-nil}
 use Rattle.base.specs.Lists.{part}
 use Rattle.crc32.specs.Fold.{words_of, exponents, pending, zeros}
@@ -209,34 +208,3 @@ window j n b w h =
           (drop j (set b (j + n) w)),
       drop-drop 1 j (set b (j + n) w),
     )
-
--- ---- a turn of the loops that move words
-
-module _ (n : ℕ) (b₀ b : List ℕ) (j : ℕ) (inside₀ : n + j < length b₀) (inside : j < length b)
-    (rest : drop j b ≡ drop j b₀) where
-  pub slide_low : take j b ≡ part n j b₀ → take (j + 1) (set b j (get_or b (n + j) 0)) ≡ part n (j + 1) b₀
-  slide_low e =
-      let f : n + j ≡ j + n = omega arith in
-      let h : get_or b (n + j) 0 ≡ get_or (drop n b₀) j 0 =
-      ap (λ (i : ℕ). get_or b i 0) f ∙ sym (get_or-drop j b n 0) ∙ ap (λ (l : List ℕ). get_or l n 0) rest ∙ get_or-drop j b₀ n 0
-      ∙ ap (λ (i : ℕ). get_or b₀ i 0) (sym f)
-      ∙ sym (get_or-drop n b₀ j 0) in
-      rw (
-        add-one,
-        take-suc-set b j (get_or b (n + j) 0) inside,
-        take-suc (drop n b₀) j 0
-            (rw (length-drop n b₀) (omega arith)),
-        e,
-        h,
-      )
-
-  pub slide_rest : drop (j + 1) (set b j (get_or b (n + j) 0)) ≡ drop (j + 1) b₀
-  slide_rest = rw (drop-set-lt (j + 1) b j (get_or b (n + j) 0) (omega arith), ← drop-drop 1 j b, rest) (drop-drop 1 j b₀)
-
-pub clear_turn : (n j : ℕ) (l b : List ℕ) → n + j < length b → take (n + j) b ≡ l ++ zeros j
-    → take (n + (j + 1)) (set b (n + j) 0) ≡ l ++ zeros (j + 1)
-unfolding zeros
-clear_turn n j l b h e =
-    let f : n + (j + 1) ≡ n + j + 1 = omega arith in
-    rw (f, add-one, take-suc-set b (n + j) 0 h, e, ← add-one, ← replicate-append-replicate {A = ℕ} j 1 0)
-    (append_assoc l (replicate j 0) (0 ∷ []))

@@ -23,6 +23,9 @@ const REST: usize = 138;
 
 const REST_BYTES: usize = 552;
 
+// The words that are read for the rest: up to 84 after each of them.
+const REACH: usize = 222;
+
 // The bytes of a whole block and the rest.
 const FULL: usize = 2600;
 
@@ -45,6 +48,7 @@ fn in_blocks(t: &[u32; 384], kept: &mut [u32; ROOM], bytes: &[u8]) -> u32
     ensures { result ≡ crc_from (pending exponents (take 137 kept.old)) bytes.now }
 {
     let mut i: usize = 0;
+    // `while`: the length of a block depends on how many bytes are left.
     while LEAST <= bytes.len() - i {
         let n = block_length(bytes.len() - i);
         fold_block(kept, &bytes[i..], n);
@@ -73,10 +77,8 @@ fn fold_block(kept: &mut [u32; ROOM], bytes: &[u8], n: usize)
         × (crc_from (pending exponents (part n 137 kept.new)) (drop (4 * n) bytes.now)
         ≡ crc_from (pending exponents (take 137 kept.old)) bytes.now) }
 {
-    let mut j: usize = 0;
-    while j < n {
-        fold_four(kept, bytes, j);
-        j += 4;
+    for k in 0..n / 4 {
+        fold_four(kept, bytes, 4 * k);
     }
 }
 
@@ -122,11 +124,7 @@ fn slide(kept: &mut [u32; ROOM], n: usize)
     ensures { (length kept.new ≡ 649)
         × (take 137 kept.new ≡ part n 137 kept.old) }
 {
-    let mut j: usize = 0;
-    while j < DEGREE {
-        kept[j] = kept[n + j];
-        j += 1;
-    }
+    kept.copy_within(n..n + DEGREE, 0);
 }
 
 // Nothing was folded after the first 137 words.
@@ -135,11 +133,7 @@ fn clear(kept: &mut [u32; ROOM])
     ensures { (length kept.new ≡ 649)
         × (take 222 kept.new ≡ take 137 kept.old ++ zeros 85) }
 {
-    let mut j: usize = 0;
-    while j < 85 {
-        kept[DEGREE + j] = 0;
-        j += 1;
-    }
+    kept[DEGREE..REACH].fill(0);
 }
 
 // The 138 words for which something may be pending, and the rest, by the table. No other word is left to add to.
@@ -149,15 +143,14 @@ fn reduce(t: &[u32; 384], kept: &[u32; ROOM], bytes: &[u8]) -> u32
     ensures { result ≡ crc_from (pending exponents (take 222 kept.now)) bytes.now }
 {
     let mut c: u32 = 0;
-    let mut j: usize = 0;
-    while j < REST {
+    for k in 0..REST / 3 {
+        let j = 3 * k;
         c = three(
             t,
             c ^ sum_at(kept, bytes, j),
             sum_at(kept, bytes, j + 1),
             sum_at(kept, bytes, j + 2),
         );
-        j += 3;
     }
     by_words(t, c, &bytes[REST_BYTES..])
 }

@@ -11,17 +11,17 @@ pub fn by_words(t: &[u32; 384], state: u32, bytes: &[u8]) -> u32
     ensures { result ≡ crc_from state bytes.now }
 {
     let mut c = state;
-    let mut i: usize = 0;
-    while 12 <= bytes.len() - i {
+    let threes = bytes.len() / 12;
+    for k in 0..threes {
+        let i = 12 * k;
         c = three(
             t,
             c ^ read_four(bytes, i),
             read_four(bytes, i + 4),
             read_four(bytes, i + 8),
         );
-        i += 12;
     }
-    by_four(t, c, &bytes[i..])
+    by_four(t, c, &bytes[12 * threes..])
 }
 
 // A word a turn, for the last two words, and the rest.
@@ -30,12 +30,11 @@ fn by_four(t: &[u32; 384], state: u32, bytes: &[u8]) -> u32
     ensures { result ≡ crc_from state bytes.now }
 {
     let mut c = state;
-    let mut i: usize = 0;
-    while 4 <= bytes.len() - i {
-        c = four(t, 0, c ^ read_four(bytes, i));
-        i += 4;
+    let words = bytes.len() / 4;
+    for k in 0..words {
+        c = four(t, 0, c ^ read_four(bytes, 4 * k));
     }
-    by_bytes(t, c, &bytes[i..])
+    by_bytes(t, c, &bytes[4 * words..])
 }
 
 // A byte a turn, for the few bytes that are left.
@@ -44,10 +43,8 @@ fn by_bytes(t: &[u32; 384], state: u32, bytes: &[u8]) -> u32
     ensures { result ≡ crc_from state bytes.now }
 {
     let mut c = state;
-    let mut i: usize = 0;
-    while i < bytes.len() {
-        c = nibble(t, nibble(t, c ^ byte_at(bytes, i)));
-        i += 1;
+    for b in bytes {
+        c = nibble(t, nibble(t, c ^ u32::from(*b)));
     }
     c
 }
@@ -76,9 +73,7 @@ fn four(t: &[u32; 384], row: usize, z: u32) -> u32
 {
     let mut c: u32 = 0;
     let mut rest = z;
-    let mut k: usize = 8;
-    while 0 < k {
-        k -= 1;
+    for k in (0..8).rev() {
         c ^= entry(t, row + k, rest);
         rest >>= 4;
     }

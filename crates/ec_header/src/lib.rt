@@ -7,11 +7,15 @@ ghost use Rattle.header.specs.Ec.{ec_fields, judge_ec, ec_read, ec_answer, ec_wr
 ghost use Rattle.header.specs.Stores.{ec_stored};
 
 use header::{
-    EC_COUNTER, EC_DATA_START, EC_IMAGE_SEQ, EC_VERSION, EC_VID_START, EcHeader, EcRead, Written,
-    begin, finish, get, is_header, set,
+    EC_COUNTER, EC_DATA_START, EC_IMAGE_SEQ, EC_VERSION, EC_VID_START, EcHeader, ReadError,
+    WriteError, begin, finish, get, is_header, set,
 };
 
+// "lost if .. the counter exceeds 0x7FFFFFFF"
+const MOST_COUNTER: u64 = 0x7FFFFFFF;
+
 // The fields in a header's bytes.
+#[tactic(auto, unfolding(header::specs::Ec::ec_fields))]
 fn ec_fields(s: &[u8]) -> EcHeader
     requires { 64 ≤ length s.now }
     ensures { result ≡ ec_fields s.now }
@@ -26,30 +30,32 @@ fn ec_fields(s: &[u8]) -> EcHeader
 }
 
 // What the fields of a header with magic and CRC right make it.
-fn judge_ec(h: EcHeader) -> EcRead
+#[tactic(auto, unfolding(header::specs::Ec::judge_ec, header::specs::Ec::ec_rules))]
+fn judge_ec(h: EcHeader) -> Result<EcHeader, ReadError>
     ensures { ec_answer result ≡ verdict_answer (judge_ec h) }
 {
     if h.version == 0 {
-        return EcRead::Lost;
+        return Err(ReadError::Bad);
     }
     if h.version != 1 {
-        return EcRead::Newer;
+        return Err(ReadError::Newer);
     }
-    if 0x7FFFFFFF < h.counter {
-        return EcRead::Lost;
+    if MOST_COUNTER < h.counter {
+        return Err(ReadError::Bad);
     }
-    EcRead::Good(h)
+    Ok(h)
 }
 
 // The EC header at the start of a slice.
-pub fn read_ec(header: &[u8]) -> EcRead
+#[tactic(auto, unfolding(header::specs::Ec::ec_read, header::specs::Ec::read_ec))]
+pub fn read_ec(header: &[u8]) -> Result<EcHeader, ReadError>
     ensures { ec_answer result ≡ ec_read header.now }
 {
     if header.len() < 64 {
-        return EcRead::Short;
+        return Err(ReadError::Short);
     }
     if !is_header(header, b"UBI#") {
-        return EcRead::Lost;
+        return Err(ReadError::Bad);
     }
     judge_ec(ec_fields(header))
 }
@@ -58,13 +64,11 @@ pub fn read_ec(header: &[u8]) -> EcRead
 pub fn ec_readable(h: EcHeader) -> bool
     ensures { result ≡ is_good (judge_ec h) }
 {
-    if h.version != 1 {
-        return false;
-    }
-    h.counter <= 0x7FFFFFFF
+    judge_ec(h).is_ok()
 }
 
 // The fields are stored.
+#[tactic(auto, unfolding(header::specs::Stores::ec_stored))]
 fn set_ec_fields(h: EcHeader, out: &mut [u8])
     requires { 64 ≤ length out.old }
     ensures { out.new ≡ ec_stored h out.old }
@@ -77,17 +81,17 @@ fn set_ec_fields(h: EcHeader, out: &mut [u8])
 }
 
 // The header is written to the first 64 bytes, with its CRC and zero padding.
-pub fn write_ec(h: EcHeader, out: &mut [u8]) -> Written
+pub fn write_ec(h: EcHeader, out: &mut [u8]) -> Result<(), WriteError>
     ensures { (written result ≡ ec_written h out.old) × (out.new ≡ ec_out h out.old) }
 {
     if out.len() < 64 {
-        return Written::Short;
+        return Err(WriteError::Short);
     }
     if !ec_readable(h) {
-        return Written::NotGood;
+        return Err(WriteError::NotGood);
     }
     begin(out, b"UBI#");
     set_ec_fields(h, out);
     finish(out);
-    Written::Done
+    Ok(())
 }

@@ -3,18 +3,19 @@ use mathlib.Core.Path.{◌≡◌, refl, sym, ap, ◌∙◌, subst}
 use Prim.Native.Nat.{ℕ, zero, suc, ◌+◌, ◌*◌, ◌/◌, ◌%◌, ◌^◌, ◌-◌, ◌≤◌, ◌<◌}
 use mathlib.Core.List.{List, [], ◌∷◌, ◌++◌, append_assoc, append-nil}
 use native.Mathlib.Nat.{pow-suc, pow-le-pow_right, one-le-pow, mod-one, mod-eq_of_lt, suc-add, not-suc-le-zero, add-suc}
-use native.Mathlib.Nat.{zero-add, add-zero, mul_comm, mul_assoc, one-mul}
+use native.Mathlib.Nat.{add-sub_cancel_left, zero-add, add-zero, mul_comm, mul_assoc, one-mul}
 use native.Mathlib.Numerals.{add-one, sub-one}
 use native.Mathlib.Omega.{arith}
 use mathlib.Core.Bool.{Bool, true, ◌&&◌}
 use borrow.Author.Tests.{leb-true, le-leb}
 use lib.Dec.{leb, lit<}
 use lib.Arith.{mod-mul, digits_div, digits_mod}
-use lib.ListN.{length, take, drop, get_or, set, length-drop, length-set, take-append-drop}
-use lib.Seq.{take-suc, get_or-drop, drop-cons, take-set-le, get_or-set_same, drop-set-lt}
+use lib.ListN.{length, take, drop, get_or, set, length-set, take-append-drop}
+use lib.Seq.{take-suc, take-length, drop-cons, take-set-le, get_or-set_same, drop-set-lt}
 use Rattle.base.specs.Lists.{part, put, Bytes}
 use Rattle.base.proofs.Answers.{and_left, and_right}
-use Rattle.base.proofs.Lists.{part_put, bytes_part, length_part, EachByte, every, every_entry}
+use Rattle.base.proofs.Lists.{part_put, bytes_part, bytes_take, bytes_drop, length_part, lent_length, EachByte, every}
+use Rattle.base.proofs.Lists.{every_entry}
 use Rattle.field.specs.declared.Field.{Field}
 use Rattle.field.specs.Be.{be_from, be_of, to_be_on, to_be}
 use Rattle.field.specs.Fields.{field, row}
@@ -24,18 +25,9 @@ unfolding be_from
 be_from_snoc acc [] b = refl
 be_from_snoc acc (x ∷ l) b = be_from_snoc (acc * 256 + x) l b
 
-pub be_of_next : (s : List ℕ) (at i : ℕ) → at + i < length s
-    → be_of (part at (i + 1) s) ≡ be_of (part at i s) * 256 + get_or s (at + i) 0
-be_of_next s at i h =
-    let k : i < length (drop at s) = simp length-drop (omega arith) in
-    rw (add-one, take-suc (drop at s) i 0, get_or-drop, be_from_snoc)
-
--- one byte more
-pub grows : (v i b : ℕ) → v < 256 ^ i → b < 256 → v * 256 + b < 256 ^ (i + 1)
-grows v i b h k = simp (add-one, pow-suc) (omega arith)
-
-pub below_eight : (v i : ℕ) → v < 256 ^ i → i < 8 → v < 256 ^ 7
-below_eight v i h k = omega (arith, pow-le-pow_right {n = 256} (lit< tt) {i = i} {j = 7} (omega arith))
+pub be_of_next : (s : List ℕ) (i : ℕ) → i < length s
+    → be_of (take (i + 1) s) ≡ be_of (take i s) * 256 + get_or s i 0
+be_of_next s i h = rw (add-one, take-suc s i 0, be_from_snoc)
 
 -- ---- storing
 
@@ -140,6 +132,23 @@ be_from_lt (x ∷ l) b acc most h =
 pub field_lt : (at n : ℕ) (s : List ℕ) → at + n ≤ length s → Bytes s → be_of (part at n s) < 256 ^ n
 field_lt at n s h b =
     rw (length_part at n s h, one-mul) at (be_from_lt (part at n s) (bytes_part at n s b) 0 1 (lit< tt))
+
+-- the bytes that are read, lent as `s[at..at + n]`
+module _ (at n : ℕ) (s : List ℕ) (h : at + n ≤ length s) where
+  abbrev lent : List ℕ
+  lent = take (at + n - at) (drop at s)
+
+  -- one byte more, of at most eight
+  pub next_fits : (i : ℕ) → Bytes s → n ≤ 8 → i < length lent → be_of (take i lent) * 256 + get_or lent i 0 < 256 ^ 8
+  next_fits i b w k =
+      let e : length lent ≡ n = lent_length at n s h in
+      let l = field_lt 0 (i + 1) lent (omega arith) (bytes_take (at + n - at) (drop at s) (bytes_drop at s b)) in
+      let m : 256 ^ (i + 1) ≤ 256 ^ 8 = pow-le-pow_right {n = 256} (lit< tt) {i = i + 1} {j = 8} (omega arith) in
+      rw (← be_of_next lent i k) (omega (arith, l, m))
+
+  -- after the last of them
+  pub all_read : (i : ℕ) → i ≡ length lent → be_of (take i lent) ≡ be_of (part at n s)
+  all_read i e = rw (e, take-length, add-sub_cancel_left)
 
 -- ---- tables of fields
 

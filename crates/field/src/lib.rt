@@ -18,10 +18,8 @@ pub fn read(s: &[u8], at: usize, width: usize) -> u64
     ensures { (result ≡ be_of (part at width s.now)) × (result < 256 ^ width) }
 {
     let mut v: u64 = 0;
-    let mut i: usize = 0;
-    while i < width {
-        v = v * 256 + s[at + i] as u64;
-        i += 1;
+    for b in &s[at..at + width] {
+        v = v * 256 + u64::from(*b);
     }
     v
 }
@@ -32,9 +30,7 @@ pub fn write(s: &mut [u8], at: usize, width: usize, value: u64)
     ensures { s.new ≡ put at (to_be width value) s.old }
 {
     let mut v = value;
-    let mut i = width;
-    while 0 < i {
-        i -= 1;
+    for i in (0..width).rev() {
         s[at + i] = (v % 256) as u8;
         v = v / 256;
     }

@@ -1,18 +1,23 @@
 -- Laws of writes on an image. Assumes nothing.
-use mathlib.Core.Path.{◌≡◌, sym, ap, ◌∙◌}
+use mathlib.Core.Path.{◌≡◌, refl, sym, ap, ◌∙◌}
 use mathlib.Core.Logic.{◌⊎◌, inl, inr}
 use mathlib.Core.Bool.{true}
 use mathlib.Core.List.{List, ◌++◌, append-nil}
 use Prim.Native.Nat.{ℕ, ◌+◌, ◌-◌, ◌≤◌, ◌<◌}
 use native.Mathlib.Numerals.{add-one}
 use native.Mathlib.Omega.{arith}
-use lib.ListN.{length, take, drop, get_or, set, get_or-append, drop_of_length-le}
+use lib.ListN.{length, replicate, take, drop, get_or, set, get_or-append}
 use lib.Seq.{paste, paste-suc, length_paste_head, length-take-le, get_or-take, get_or-drop, get_or-append-add}
-use Rattle.base.specs.Lists.{part, put}
+use Rattle.std.specs.Prelude.{Result, Ok, Err, IsOk}
+use Rattle.base.specs.Lists.{part}
 use Rattle.base.proofs.Lists.{length_part}
-use Rattle.header.specs.Fields.{is_good}
-use Rattle.header.specs.Ec.{judge_ec, ec_bytes, ec_out}
-use Rattle.header.specs.Vid.{judge_vid, vid_bytes, vid_out}
+use Rattle.base.specs.Answers.{given}
+use Rattle.base.proofs.Answers.{refused_not}
+use Rattle.header.specs.Fields.{is_good, written}
+use Rattle.header.specs.declared.WriteError.{WriteError}
+use Rattle.header.specs.declared.WriteError.TheVariants as write
+use Rattle.header.specs.Ec.{judge_ec, ec_bytes, ec_out, ec_written}
+use Rattle.header.specs.Vid.{judge_vid, vid_bytes, vid_out, vid_written}
 use Rattle.header.specs.declared.EcHeader.{EcHeader}
 use Rattle.header.specs.declared.VidHeader.{VidHeader}
 use Rattle.header.proofs.Writes.{ec_over, vid_over}
@@ -56,19 +61,29 @@ module _ (d : List ℕ) (from to n i : ℕ) (i<n : i < n) (h : from + n ≤ leng
       ap (set (paste d to s i) (to + i)) (kept apart ∙ e)
       ∙ rw add-one (paste-suc d to s i 0 (omega arith) (omega (arith, ls)))
 
--- ---- a header that was made in 64 bytes of its own, then stored
+-- ---- a header that is made in 64 bytes, which are zero at first
 
-vid_made : (size : ℕ) (h : VidHeader) (b : List ℕ) → length b ≡ 64 → is_good (judge_vid size h) ≡ true
-    → vid_out size h b ≡ vid_bytes h
-vid_made size h b l g = vid_over size h b (omega arith) g ∙ rw (drop_of_length-le b {i = 64} (omega arith), append-nil)
+abbrev blank : List ℕ
+blank = replicate 64 0
 
-ec_made : (h : EcHeader) (b : List ℕ) → length b ≡ 64 → is_good (judge_ec h) ≡ true → ec_out h b ≡ ec_bytes h
-ec_made h b l g = ec_over h b (omega arith) g ∙ rw (drop_of_length-le b {i = 64} (omega arith), append-nil)
+-- a good one is not refused
+done : (r : Result (Unit {0}) WriteError) → written r ≡ given tt → IsOk r
+done (Ok u) e = refl
+done (Err write.Short) e = absurd (refused_not e)
+done (Err write.NotGood) e = absurd (refused_not e)
 
-module _ (at : ℕ) (b all : List ℕ) (l : length b ≡ 64) {made y : List ℕ} (stored : y ≡ put at made all) where
-  pub vid_stored : (size : ℕ) (h : VidHeader) → is_good (judge_vid size h) ≡ true → made ≡ vid_out size h b
-      → y ≡ put at (vid_bytes h) all
-  vid_stored size h g e = stored ∙ ap (λ (x : List ℕ). put at x all) (e ∙ vid_made size h b l g)
+module _ (size : ℕ) (h : VidHeader) (g : is_good (judge_vid size h) ≡ true) where
+  pub vid_done : (r : Result (Unit {0}) WriteError) → written r ≡ vid_written size h blank → IsOk r
+  unfolding vid_written
+  vid_done r e = done r (e ∙ rw g)
 
-  pub ec_stored_lem : (h : EcHeader) → is_good (judge_ec h) ≡ true → made ≡ ec_out h b → y ≡ put at (ec_bytes h) all
-  ec_stored_lem h g e = stored ∙ ap (λ (x : List ℕ). put at x all) (e ∙ ec_made h b l g)
+  pub vid_made : vid_out size h blank ≡ vid_bytes h
+  vid_made = vid_over size h blank (omega arith) g ∙ append-nil (vid_bytes h)
+
+module _ (h : EcHeader) (g : is_good (judge_ec h) ≡ true) where
+  pub ec_done : (r : Result (Unit {0}) WriteError) → written r ≡ ec_written h blank → IsOk r
+  unfolding ec_written
+  ec_done r e = done r (e ∙ rw g)
+
+  pub ec_made : ec_out h blank ≡ ec_bytes h
+  ec_made = ec_over h blank (omega arith) g ∙ append-nil (ec_bytes h)

@@ -7,8 +7,19 @@ mod headers;
 
 pub use headers::{ec_at, print_ec, print_vid, vid_at};
 
+// Reads every frame, and hands its payload on.
+pub fn each<F: FnMut(&[u8])>(mut answer: F)
+    requires { F.IsAlwaysCallable answer }
+{
+    let mut buf = [0u8; 65536];
+    for _ in 0..count() {
+        let n = next(&mut buf);
+        answer(&buf[..n]);
+    }
+}
+
 // How many frames follow: the first four bytes, the highest first.
-pub fn count() -> u64 {
+fn count() -> u64 {
     let mut head = [0u8; 4];
     io::read_full(0, &mut head);
     number_at(&head, 0, 4)
@@ -16,7 +27,7 @@ pub fn count() -> u64 {
 
 // Reads a frame: a length of two bytes, the highest first, and as many bytes of payload. Answers the length; 0 if they
 // are not all there.
-pub fn next(buf: &mut [u8]) -> usize
+fn next(buf: &mut [u8]) -> usize
     ensures { result ≤ length buf.new }
 {
     let mut head = [0u8; 2];
@@ -49,13 +60,7 @@ pub fn line_end() {
 
 // The number in `width` bytes from `at` on; 0 where the payload has not so many.
 pub fn number_at(payload: &[u8], at: usize, width: usize) -> u64 {
-    if 8 < width {
-        return 0;
-    }
-    if payload.len() < width {
-        return 0;
-    }
-    if payload.len() - width < at {
+    if 8 < width || payload.len() < width || payload.len() - width < at {
         return 0;
     }
     field::read(payload, at, width)
@@ -83,10 +88,7 @@ pub fn length_at(payload: &[u8], at: usize, width: usize, most: usize) -> usize
 
 // What the payload has from `at` on.
 pub fn rest<'a>(payload: &'a [u8], at: usize) -> &'a [u8] {
-    if payload.len() < at {
-        return payload;
-    }
-    &payload[at..]
+    payload.get(at..).unwrap_or(payload)
 }
 
 // Where a part of a payload stands.
@@ -123,9 +125,7 @@ pub fn bytes_at<'a>(payload: &'a [u8], at: usize) -> &'a [u8]
     requires { at ≤ length payload.now }
 {
     let part = part_at(payload, at);
-    let start = part.start;
-    let end = part.end;
-    &payload[start..end]
+    &payload[part.start..part.end]
 }
 
 // The place n bytes on, or the end.
@@ -133,10 +133,7 @@ fn onward(payload: &[u8], at: usize, n: usize) -> usize
     requires { at ≤ length payload.now }
     ensures { result ≤ length payload.now }
 {
-    if payload.len() - at < n {
-        return payload.len();
-    }
-    at + n
+    at + n.min(payload.len() - at)
 }
 
 // A patch at `at`: an offset, a length, and so many bytes that are written there. Answers the place after it; the end,
@@ -151,10 +148,7 @@ fn patch(image: &mut [u8], payload: &[u8], at: usize) -> usize
     }
     let start = at + 6;
     let n = number_at(payload, at + 4, 2) as usize;
-    if end - start < n {
-        return end;
-    }
-    if image.len() < n {
+    if end - start < n || image.len() < n {
         return end;
     }
     let from = length_at(payload, at, 4, image.len() - n);
@@ -176,45 +170,25 @@ pub fn patches(image: &mut [u8], payload: &[u8], at: usize) -> usize
 
 // Two digits for each byte.
 pub fn hex(bytes: &[u8]) {
-    for i in 0..bytes.len() {
-        hex_of(bytes[i]);
+    for b in bytes {
+        io::print_hex(1, u64::from(*b), 2);
     }
-}
-
-fn hex_of(b: u8) {
-    io::print_hex(1, b as u64, 2);
 }
 
 // A name, and words: each with how often it stands there.
 pub fn words(name: &[u8], words: &[u32]) {
     word(name);
-    let mut n: u64 = 1;
-    for i in 0..words.len() {
-        n = run_on(words, i, n);
+    for run in words.chunk_by(|w, next| w == next) {
+        print_run(run[0], run.len() as u64);
     }
     line_end();
-}
-
-// The i-th word is the last of n equal ones so far. They are printed if the next is another. Answers how many are equal
-// up to the next.
-fn run_on(words: &[u32], i: usize, n: u64) -> u64
-    requires { i < length words.now }
-{
-    if i + 1 < words.len() {
-        if words[i + 1] == words[i] {
-            return std::num::wrapping_add_u64(n, 1);
-        }
-    }
-    print_run(words[i], n);
-    1
 }
 
 // A word, and how often it stands there.
 fn print_run(w: u32, n: u64) {
     next_number(w as u64);
-    if n == 1 {
-        return;
+    if n != 1 {
+        word(b"*");
+        number(n);
     }
-    word(b"*");
-    number(n);
 }

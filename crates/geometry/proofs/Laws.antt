@@ -1,20 +1,23 @@
 -- Laws of units and multiples. Assumes nothing.
-use mathlib.Core.Path.{◌≡◌, sym, ◌∙◌, subst}
+use mathlib.Core.Path.{◌≡◌, refl, sym, ◌∙◌, ap, subst}
 use mathlib.Core.Logic.{⊎_elim}
-use mathlib.Core.Bool.{Bool, true, false, false≢true, and-true, and-false}
+use mathlib.Core.Bool.{Bool, true, false, ◌&&◌, false≢true, and-true, and-false, or-false}
 use Prim.Native.Nat.{ℕ, zero, suc, ◌+◌, ◌-◌, ◌*◌, ◌/◌, ◌%◌, ◌^◌, ◌≤◌, ◌<◌}
 use native.Mathlib.Nat.{pow-suc, one-le-pow, div-add-mod', mod-lt, mul-mod_left, mul-mod_right, mul-sub, mul_comm}
-use native.Mathlib.Nat.{mul-le-mul_right, div-lt_iff_lt-mul}
-use native.Mathlib.Numerals.{add-one}
+use native.Mathlib.Nat.{mul-le-mul_right, div-lt_iff_lt-mul, one-mul, pow-le-pow_right, two-pow-succ}
 use native.Mathlib.Omega.{arith}
-use lib.Dec.{eqb, lit<}
+use lib.Dec.{eqb, leb, lit<}
+use lib.Pow.{pow-lt}
 use lib.ListN.{get_or, length}
 use mathlib.Core.List.{List}
 use borrow.Author.Tests.{leb-true, eqb-true, eq-eqb, ne_eqb, le-leb, lt-leb}
 use Rattle.base.specs.Below.{any_below}
 use Rattle.base.specs.Answers.{Answer, given, refused, all_of}
-use Rattle.base.proofs.Answers.{or_true_cases, one_broken, each_holds, cond_yes, refused_not}
-use Rattle.base.proofs.Below.{any_intro}
+use Rattle.std.specs.Int.{is_power_of_two}
+use Rattle.std.specs.Int.RustNames.{count_ones}
+use Rattle.std.proofs.lemmas.Nat.{ones_cat, zero_from_ones}
+use Rattle.base.proofs.Answers.{or_true_cases, same_test, one_broken, each_holds, cond_yes, refused_not}
+use Rattle.base.proofs.Below.{lt_or_le, none_intro}
 use Rattle.geometry.specs.declared.Geometry.{Geometry}
 use Rattle.geometry.specs.Image.{peb_count_of, image_rules}
 use Rattle.geometry.specs.Slip.{has_field, value_at, head_rules, ends_at, well_formed, slip_geometry, head_read}
@@ -39,14 +42,37 @@ pub unit_range : (n : ℕ) → good_unit n ≡ true → (0 < n) × (n < 8192)
 unfolding good_unit
 unit_range n e = power_range 13 n e
 
--- a turn of the search for a power
-pub power_more : (n k : ℕ) → any_below k (λ (j : ℕ). eqb n (2 ^ j)) ≡ false → (n ≡ 2 ^ k → ⊥)
-    → any_below (k + 1) (λ (j : ℕ). eqb n (2 ^ j)) ≡ false
-power_more n k e h = rw (add-one, e, ne_eqb _ _ h)
+-- 2 ^ m and a number below it: one bit is set where that number is 0
+top_bit : (m r n : ℕ) → r < 2 ^ m → n ≡ 2 ^ m + r → is_power_of_two n ≡ eqb n (2 ^ m)
+unfolding count_ones
+top_bit m r n l e =
+    let d : n ≡ 1 * 2 ^ m + r = rw one-mul e in
+    let s : count_ones n ≡ 1 + count_ones r = ap count_ones d ∙ ones_cat m 1 r l in
+    same_test (is_power_of_two n) (eqb n (2 ^ m))
+    (λ q. eq-eqb _ _ (omega (arith, e, zero_from_ones r (omega (arith, s, eqb-true (count_ones n) 1 q)))))
+    (λ q. let z : r ≡ 0 = omega (arith, eqb-true n (2 ^ m) q) in eq-eqb _ _ (s ∙ rw z refl))
 
-pub power_found : (n k : ℕ) → k < 13 → n ≡ 2 ^ k → good_unit n ≡ true
+-- a number below 2 ^ m is a power of two where one of its bits is set
+one_bit : (m n : ℕ) → n < 2 ^ m → is_power_of_two n ≡ any_below m (λ (k : ℕ). eqb n (2 ^ k))
+unfolding count_ones
+one_bit zero n h = let e : n ≡ 0 = omega arith in rw e refl
+one_bit (suc m) n h =
+    ⊎_elim
+    (λ (l : n < 2 ^ m). one_bit m n l ∙ sym (rw (ne_eqb n (2 ^ m) (omega arith)) (or-false _)))
+    (λ (l : 2 ^ m ≤ n). let w : n < 2 ^ m + 2 ^ m = rw two-pow-succ at h in
+    let low = none_intro m (λ (k : ℕ). eqb n (2 ^ k)) (λ k j. ne_eqb n (2 ^ k) (omega (arith, pow-lt j))) in
+    rw low (top_bit m (n - 2 ^ m) n (omega arith) (omega arith)))
+    (lt_or_le n (2 ^ m))
+
+-- the test of a unit
+pub unit_is : (n : ℕ) → is_power_of_two n && leb n 4096 ≡ good_unit n
 unfolding good_unit
-power_found n k h e = any_intro 13 (λ (j : ℕ). eqb n (2 ^ j)) k h (eq-eqb _ _ e)
+unit_is n =
+    ⊎_elim
+    (λ (l : n < 4097). rw (le-leb n 4096 (omega arith)) (and-true _ ∙ one_bit 13 n (omega arith)))
+    (λ (l : 4097 ≤ n). rw (lt-leb n 4096 (omega arith)) (and-false _ ∙ sym (none_intro 13 (λ (k : ℕ). eqb n (2 ^ k))
+    (λ k j. ne_eqb n (2 ^ k) (omega (arith, pow-le-pow_right {n = 2} (lit< tt) {i = k} {j = 12} (omega arith)))))))
+    (lt_or_le n 4097)
 
 -- ---- the smallest multiple
 

@@ -1,10 +1,10 @@
 -- 01 'The slip and the geometry': the rules of a flash chip's geometry. Assumes nothing.
-use Rattle.std.specs.Prelude.{ℕ, ◌+◌, ◌-◌, ◌*◌, ◌/◌, ◌%◌, ◌^◌, Bool, cond, List, [], ◌∷◌, eqb, leb}
+use Rattle.std.specs.Prelude.{ℕ, ◌+◌, ◌-◌, ◌*◌, ◌/◌, ◌%◌, ◌^◌, Bool, cond, List, [], ◌∷◌, eqb, leb, Result, Ok, Err}
 use Rattle.base.specs.Answers.{Answer, given, refused, all_of}
 use Rattle.base.specs.Below.{any_below}
 use Rattle.geometry.specs.declared.Geometry.{Geometry}
-use Rattle.geometry.specs.declared.GeometryRead.{GeometryRead}
-use Rattle.geometry.specs.declared.GeometryRead.TheVariants.{Good, Malformed, Outside}
+use Rattle.geometry.specs.declared.SlipError.{SlipError}
+use Rattle.geometry.specs.declared.SlipError.TheVariants.{Malformed, Outside}
 
 -- "powers of two, 1 to 4,096"
 unfoldable pub good_unit : ℕ → Bool
@@ -26,7 +26,7 @@ data_start_of unit sub = round_up unit (vid_start_of sub + 64)
 unfoldable pub leb_size_of : ℕ → ℕ → ℕ → ℕ
 leb_size_of peb unit sub = peb - data_start_of unit sub
 
--- the rules of PEB size, unit and sub_unit, in 01's order
+-- the rules of PEB size, unit and sub-unit, in 01's order
 unfoldable pub geometry_rules : ℕ → ℕ → ℕ → List Bool
 geometry_rules peb unit sub =
     -- "Unit and sub-unit are powers of two, 1 to 4,096, sub-unit not above unit."
@@ -52,7 +52,7 @@ unfoldable pub geometry_of : ℕ → ℕ → ℕ → Answer Geometry
 geometry_of peb unit sub = cond (all_of (geometry_rules peb unit sub)) (given (make_geometry peb unit sub)) (refused 2 0)
 
 -- what each case of the answer is in 01
-abbrev pub geometry_read : GeometryRead → Answer Geometry
-geometry_read (Good g) = given g
-geometry_read Malformed = refused 1 0
-geometry_read Outside = refused 2 0
+abbrev pub geometry_read : Result Geometry SlipError → Answer Geometry
+geometry_read (Ok g) = given g
+geometry_read (Err Malformed) = refused 1 0
+geometry_read (Err Outside) = refused 2 0

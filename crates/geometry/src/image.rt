@@ -11,17 +11,12 @@ const MIN_PEBS: usize = 2;
 const MAX_PEBS: usize = 4096;
 
 // Is the image 2 to 4,096 whole PEBs?
+#[tactic(auto, unfolding(crate::specs::Image::image_rules))]
 pub fn image_fits(image: &[u8], g: Geometry) -> bool
     requires { 0 < g.peb_size }
     ensures { result ≡ all_of (image_rules g image.now) }
 {
     let size = g.peb_size as usize;
-    if image.len() % size != 0 {
-        return false;
-    }
     let n = image.len() / size;
-    if n < MIN_PEBS {
-        return false;
-    }
-    n <= MAX_PEBS
+    image.len().is_multiple_of(size) && (MIN_PEBS..=MAX_PEBS).contains(&n)
 }

@@ -22,10 +22,9 @@ pub struct Geometry {
     pub leb_size: u32,
 }
 
-// A geometry, or refusal 1 (the slip is malformed) or 2 (the numbers are outside the rules).
+// Why there is no geometry: the slip is malformed, refusal 1; the numbers are outside the rules, refusal 2.
 #[derive(Clone, Copy)]
-pub enum GeometryRead {
-    Good(Geometry),
+pub enum SlipError {
     Malformed,
     Outside,
 }

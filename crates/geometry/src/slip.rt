@@ -4,8 +4,8 @@ ghost use Rattle.base.specs.Answers.{all_of};
 ghost use Rattle.geometry.specs.Geometry.{geometry_read};
 ghost use Rattle.geometry.specs.Slip.{head_rules, head_read, ends_at, slip_geometry};
 
-use crate::GeometryRead;
 use crate::rules::check_geometry;
+use crate::{Geometry, SlipError};
 
 // The bytes of the three fields of the head.
 pub const HEAD_SIZE: usize = 17;
@@ -37,11 +37,11 @@ pub fn ends_at(slip: &[u8], at: usize) -> bool
 }
 
 // The geometry that the head of a slip gives, whatever follows it.
-pub fn read_head(slip: &[u8]) -> GeometryRead
+pub fn read_head(slip: &[u8]) -> Result<Geometry, SlipError>
     ensures { geometry_read result ≡ head_read slip.now }
 {
     if !has_head(slip) {
-        return GeometryRead::Malformed;
+        return Err(SlipError::Malformed);
     }
     let peb_size = field::read(slip, 3, 4) as u32;
     let unit = field::read(slip, 10, 2) as u32;
@@ -50,11 +50,11 @@ pub fn read_head(slip: &[u8]) -> GeometryRead
 }
 
 // The geometry that a slip gives.
-pub fn read_slip(slip: &[u8]) -> GeometryRead
+pub fn read_slip(slip: &[u8]) -> Result<Geometry, SlipError>
     ensures { geometry_read result ≡ slip_geometry slip.now }
 {
     if !ends_at(slip, HEAD_SIZE) {
-        return GeometryRead::Malformed;
+        return Err(SlipError::Malformed);
     }
     read_head(slip)
 }

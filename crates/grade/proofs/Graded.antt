@@ -3,11 +3,17 @@ use mathlib.Core.Path.{◌≡◌, refl, sym, ap, ◌∙◌}
 use mathlib.Core.Bool.{Bool, true, false, not, ◌&&◌, ◌||◌, cond, true≢false}
 use mathlib.Core.Option.{Option, none, some}
 use mathlib.Core.List.{List, [], ◌∷◌, ◌++◌}
-use Prim.Native.Nat.{ℕ, zero, suc, ◌<◌}
+use Prim.Native.Nat.{ℕ, zero, suc, ◌≤◌, ◌<◌}
+use native.Mathlib.Numerals.{add-one}
+use Rattle.std.proofs.Common.{zero-add}
+use native.Mathlib.Omega.{arith}
 use borrow.Author.Tests.{ne_eqb}
 use lib.Dec.{eqb}
-use lib.ListN.{drop, get_or, take-append-drop}
-use lib.Seq.{get_or-take}
+use lib.ListN.{length, take, drop, get_or, take-append-drop}
+use Rattle.std.specs.List.{list_all, range_with_len}
+use Rattle.std.proofs.lemmas.List.Folds.{list_all_more}
+use Rattle.std.proofs.lemmas.List.FromFn.{length-range_with_len, get_or-range_with_len}
+use lib.Seq.{get_or-take, take_all}
 use Rattle.base.specs.Below.{all_below, concat_below}
 use Rattle.base.proofs.Below.{all_cong}
 use Rattle.base.proofs.Lists.{table_at}
@@ -18,6 +24,28 @@ use Rattle.report.specs.View.{Medium, ecs}
 use Rattle.report.specs.Report.{counter_or, has_counter, class_at, counter_at, state_at, mark, grade_of}
 use Rattle.report.specs.Attach.{peb_words, state_words}
 use Rattle.grade.specs.Words.{sound_peb, sound_state, Read}
+
+-- ---- tests of all items of a list
+
+all_taken : (p : ℕ → Bool) (xs : List ℕ) (n : ℕ) → n ≤ length xs
+    → list_all p (take n xs) ≡ all_below n (λ i. p (get_or xs i 0))
+all_taken p xs zero h = refl
+all_taken p xs (suc n) h =
+    rw (← add-one) (list_all_more p xs n 0 (omega arith))
+    ∙ ap (λ b. b && p (get_or xs n 0)) (all_taken p xs n (omega arith))
+
+pub all_in_range : (p : ℕ → Bool) (n : ℕ) → list_all p (range_with_len 0 n) ≡ all_below n p
+all_in_range p n =
+    let xs = range_with_len 0 n in
+    let l : length xs ≡ n = length-range_with_len 0 n in
+    rw (take_all n xs (omega arith)) at (all_taken p xs n (omega arith))
+    ∙ all_cong n _ p (λ i h. ap p (get_or-range_with_len 0 n i 0 h ∙ zero-add i))
+
+-- the first states
+pub all_states : (states : List ℕ) → state_words_needed ≤ length states
+    → list_all (λ s. not (eqb s 2 || eqb s 3)) (take state_words_needed states)
+    ≡ all_below state_words_needed (sound_state states)
+all_states states h = all_taken (λ s. not (eqb s 2 || eqb s 3)) states state_words_needed h
 
 -- the word of a counter tells if there is one
 counter_told : (o : Option EcHeader) → (counter_or no_word o ≡ no_word → has_counter o ≡ false)
@@ -87,11 +115,12 @@ module _ {m : Medium} {pebs states : List ℕ} {marked : ℕ} (o : Read m pebs s
   states_are : all_below state_words_needed (sound_state states) ≡ all_below state_words_needed healthy
   states_are = all_cong state_words_needed (sound_state states) healthy (λ v h. rw (state_is v h))
 
-  -- the three tests of the words
-  pub graded : (k p s : Bool) → eqb marked 0 ≡ k → all_below m.count (sound_peb pebs) ≡ p
-      → all_below state_words_needed (sound_state states) ≡ s → cond (k && (p && s)) 0 1 ≡ grade_of m
+  -- the tests of the words
+  pub graded : (b : Bool)
+      → eqb marked 0 && (all_below m.count (sound_peb pebs) && all_below state_words_needed (sound_state states)) ≡ b
+      → cond b 0 1 ≡ grade_of m
   unfolding grade_of
-  graded k p s e f h =
-      let a : eqb (mark m) 0 ≡ k = ap (λ (x : ℕ). eqb x 0) (sym o.mark_is) ∙ e in
-      rw (a, sym f ∙ pebs_are, sym h ∙ states_are)
-      (reorder (all_below m.count readable) (all_below m.count counted) k _)
+  graded b e =
+      let k = eqb marked 0 in
+      let a : eqb (mark m) 0 ≡ k = ap (λ (x : ℕ). eqb x 0) (sym o.mark_is) in
+      rw (← e, a, pebs_are, states_are) (reorder (all_below m.count readable) (all_below m.count counted) k _)

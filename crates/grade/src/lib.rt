@@ -1,7 +1,7 @@
 // The grade, from the words of the report.
 #![tactic(auto)]
 
-ghost use Rattle.std.specs.Prelude.{◌≡◌, List, ℕ, ◌≤◌, length};
+ghost use Rattle.std.specs.Prelude.{◌≡◌, ◌&&◌, List, ℕ, ◌≤◌, eqb, length};
 ghost use Rattle.base.specs.Below.{all_below};
 ghost use Rattle.geometry.specs.declared.Geometry.{Geometry};
 ghost use Rattle.words.specs.Words.{peb_words_needed, state_words_needed, HasPeb};
@@ -18,13 +18,8 @@ fn peb_sound(pebs: &[u32], i: usize) -> bool
     ensures { result ≡ sound_peb pebs.now i }
 {
     let peb_class = class_word(pebs, i);
-    if peb_class == class::UNREADABLE {
-        return false;
-    }
-    if peb_class == class::BLANK {
-        return true;
-    }
-    counter_word(pebs, i) != NO_WORD
+    peb_class != class::UNREADABLE
+        && (peb_class == class::BLANK || counter_word(pebs, i) != NO_WORD)
 }
 
 // Are all n PEBs sound? One that is not decides it.
@@ -32,14 +27,7 @@ fn pebs_sound(pebs: &[u32], n: usize) -> bool
     requires { peb_words_needed n ≤ length pebs.now }
     ensures { result ≡ all_below n (sound_peb pebs.now) }
 {
-    let mut i: usize = 0;
-    while i < n {
-        if !peb_sound(pebs, i) {
-            return false;
-        }
-        i += 1;
-    }
-    true
+    (0..n).all(|i| peb_sound(pebs, i))
 }
 
 // Is no volume state 2 or 3? One that is decides it.
@@ -47,17 +35,18 @@ fn states_sound(states: &[u32]) -> bool
     requires { state_words_needed ≤ length states.now }
     ensures { result ≡ all_below state_words_needed (sound_state states.now) }
 {
-    let mut v: usize = 0;
-    while v < STATE_WORDS {
-        if states[v] == state::UPDATING {
-            return false;
-        }
-        if states[v] == state::DAMAGED {
-            return false;
-        }
-        v += 1;
-    }
-    true
+    states[..STATE_WORDS]
+        .iter()
+        .all(|s| *s != state::UPDATING && *s != state::DAMAGED)
+}
+
+// Is nothing in the report amiss?
+fn is_sound(pebs: &[u32], states: &[u32], n: usize, mark: u32) -> bool
+    requires { (peb_words_needed n ≤ length pebs.now) × (state_words_needed ≤ length states.now) }
+    ensures { result
+        ≡ (eqb mark 0 && (all_below n (sound_peb pebs.now) && all_below state_words_needed (sound_state states.now))) }
+{
+    mark == 0 && pebs_sound(pebs, n) && states_sound(states)
 }
 
 // The grade: 0 if nothing in the report is amiss, else 1.
@@ -67,14 +56,8 @@ pub fn grade(pebs: &[u32], states: &[u32], n: usize, mark: u32) -> u32
         → Read (medium_of g n image) pebs.now states.now mark
         → result ≡ grade_of (medium_of g n image) }
 {
-    if mark != 0 {
-        return 1;
+    if is_sound(pebs, states, n, mark) {
+        return 0;
     }
-    if !pebs_sound(pebs, n) {
-        return 1;
-    }
-    if !states_sound(states) {
-        return 1;
-    }
-    0
+    1
 }

@@ -6,20 +6,23 @@ use Prim.Native.Nat.{ℕ, ◌+◌, ◌-◌, ◌≤◌}
 use native.Mathlib.Omega.{arith}
 use lib.Dec.{eqb, leb}
 use lib.ListN.{take, drop}
-use borrow.Author.Tests.{ne_eqb, leb-true}
-use Rattle.base.specs.Answers.{all_of}
+use borrow.Author.Tests.{leb-true}
+use Rattle.std.specs.Prelude.{Result, Ok, Err, is_ok}
+use Rattle.base.specs.Answers.{Answer, given, refused, all_of}
 use Rattle.base.specs.Lists.{part, eqs}
-use Rattle.base.proofs.Answers.{either_way, each_holds}
+use Rattle.base.proofs.Answers.{each_holds}
 use Rattle.base.proofs.Lists.{table_from_lem}
 use Rattle.field.specs.declared.Field.{Field}
 use Rattle.field.specs.Fields.{row, number_in}
 use Rattle.field.proofs.Laws.{rows_fit}
 use Rattle.header.specs.declared.EcHeader.{EcHeader}
+use Rattle.header.specs.declared.ReadError.{ReadError}
+use Rattle.header.specs.declared.ReadError.TheVariants.{Bad, Newer, Short}
 use Rattle.header.specs.declared.VidHeader.{VidHeader}
 use Rattle.header.specs.Table.{fields}
-use Rattle.header.specs.Fields.{crc_matches, Verdict, good, bad, newer, judged, is_good}
-use Rattle.header.specs.Ec.{ec_magic, ec_fields, ec_rules, judge_ec, read_ec}
-use Rattle.header.specs.Vid.{vid_magic, vid_fields, IsVidField, vid_field, vid_rules, judge_vid, read_vid}
+use Rattle.header.specs.Fields.{crc_matches, Verdict, good, bad, newer, judged, is_good, verdict_answer}
+use Rattle.header.specs.Ec.{ec_magic, ec_fields, ec_rules, judge_ec, read_ec, ec_answer}
+use Rattle.header.specs.Vid.{vid_magic, vid_fields, IsVidField, vid_field, vid_rules, judge_vid, read_vid, vid_answer}
 
 -- ---- the table
 
@@ -53,25 +56,30 @@ vid_field_at i s h =
 abbrev pub by_version : {A : Type 0} → ℕ → Verdict A → Verdict A
 by_version version rest = cond (eqb version 1) rest (cond (eqb version 0) bad newer)
 
-module _ {A : Type 0} (rest : Verdict A) where
-  pub version_zero : (v : ℕ) → v ≡ 0 → by_version v rest ≡ bad
-  version_zero v e = rw e
+-- ---- a verdict is good where its answer is Ok
 
-  pub version_newer : (v : ℕ) → (v ≡ 0 → ⊥) → (v ≡ 1 → ⊥) → by_version v rest ≡ newer
-  version_newer v n m = rw (ne_eqb _ _ m, ne_eqb _ _ n)
+abbrev good_in : {A : Type 0} → Answer (Verdict A) → Bool
+good_in (given v) = is_good v
+good_in (refused k p) = false
 
-  pub version_one : (v : ℕ) → v ≡ 1 → by_version v rest ≡ rest
-  version_one v e = rw e
+good_answer : {A : Type 0} (v : Verdict A) → good_in (verdict_answer v) ≡ is_good v
+good_answer (good h) = refl
+good_answer bad = refl
+good_answer newer = refl
 
-  pub not_version_one : (v : ℕ) → (v ≡ 1 → ⊥) → is_good (by_version v rest) ≡ false
-  not_version_one v n = rw (ne_eqb _ _ n)
-      (either_way (λ b. is_good {A = A} (cond b bad newer) ≡ false) (eqb v 0) refl refl)
+pub ec_ok : (r : Result EcHeader ReadError) (v : Verdict EcHeader) → ec_answer r ≡ verdict_answer v
+    → is_ok r ≡ is_good v
+ec_ok (Ok h) v e = ap good_in e ∙ good_answer v
+ec_ok (Err Bad) v e = ap good_in e ∙ good_answer v
+ec_ok (Err Newer) v e = ap good_in e ∙ good_answer v
+ec_ok (Err Short) v e = ap good_in e ∙ good_answer v
 
-module _ {A : Type 0} (h : A) where
-  -- good exactly if the test holds
-  pub good_if : (b : Bool) → is_good (cond b (good h) bad) ≡ b
-  good_if true = refl
-  good_if false = refl
+pub vid_ok : (r : Result VidHeader ReadError) (v : Verdict VidHeader) → vid_answer r ≡ verdict_answer v
+    → is_ok r ≡ is_good v
+vid_ok (Ok h) v e = ap good_in e ∙ good_answer v
+vid_ok (Err Bad) v e = ap good_in e ∙ good_answer v
+vid_ok (Err Newer) v e = ap good_in e ∙ good_answer v
+vid_ok (Err Short) v e = ap good_in e ∙ good_answer v
 
 -- ---- a header that is read as good has the fields in its place, and all rules hold
 

@@ -8,7 +8,7 @@ use borrow.Author.Tests.{eq-eqb, eqb-true, le-ltb, ltb-false}
 use lib.Dec.{T, ltb, leb, leb→le}
 use lib.ListN.{length, take, drop, length-take, take-append-drop}
 use lib.Seq.{take-add, take-append_seam}
-use Rattle.base.specs.Answers.{given, refused}
+use Rattle.base.specs.Answers.{given}
 use Rattle.base.specs.Lists.{part, eqs, Bytes}
 use Rattle.base.proofs.Answers.{and_left, and_right, cond_yes, cond_no, refused_not}
 use Rattle.base.proofs.Lists.{eqs_true, EachByte, each_append, each_zero, bytes_each}

@@ -1,13 +1,13 @@
 -- 01 'Header bytes': the erase counter (EC) header. Assumes nothing.
-use Rattle.std.specs.Prelude.{ℕ, ◌<◌, ◌^◌, ◌≡◌, Bool, List, [], ◌∷◌, ◌++◌, leb, replicate}
+use Rattle.std.specs.Prelude.{Result, Ok, Err, ℕ, ◌<◌, ◌^◌, ◌≡◌, Bool, List, [], ◌∷◌, ◌++◌, leb, replicate}
 use Rattle.base.specs.Answers.{Answer, given, refused}
 use Rattle.base.specs.Lists.{part}
 use Rattle.field.specs.Be.{to_be}
 use Rattle.field.specs.Fields.{field, number_in}
 use Rattle.header.specs.Fields.{Verdict, good, bad, judged, read_header, lent_header, header_bytes, header_written, header_out}
 use Rattle.header.specs.declared.EcHeader.{EcHeader}
-use Rattle.header.specs.declared.EcRead.{EcRead}
-use Rattle.header.specs.declared.EcRead.TheVariants.{Good, Lost, Newer, Short}
+use Rattle.header.specs.declared.ReadError.{ReadError}
+use Rattle.header.specs.declared.ReadError.TheVariants.{Bad, Newer, Short}
 
 -- "magic `UBI#` 0-3"
 abbrev pub ec_magic : List ℕ
@@ -38,11 +38,11 @@ unfoldable pub ec_read : List ℕ → Answer (Verdict EcHeader)
 ec_read s = lent_header (read_ec s) s
 
 -- what each case of the answer is in 01
-abbrev pub ec_answer : EcRead → Answer (Verdict EcHeader)
-ec_answer (Good h) = given (good h)
-ec_answer Lost = given bad
-ec_answer Newer = refused 5 0
-ec_answer Short = refused 4 0
+abbrev pub ec_answer : Result EcHeader ReadError → Answer (Verdict EcHeader)
+ec_answer (Ok h) = given (good h)
+ec_answer (Err Bad) = given bad
+ec_answer (Err Newer) = refused 5 0
+ec_answer (Err Short) = refused 4 0
 
 -- bytes 0-59 as they are written: "magic `UBI#` 0-3, version 4, zero 5-7, counter 8-15, VID start 16-19,
 -- data start 20-23, image sequence 24-27, zero 28-59"; "Padding is written as zero and read only through the CRC."

@@ -1,12 +1,12 @@
 -- 01 'Header bytes': what judging a header can say, and what both headers have in common. Assumes nothing.
-use Rattle.std.specs.Prelude.{ℕ, Bool, true, false, ◌&&◌, cond, List, [], ◌∷◌, ◌++◌, eqb, ltb, length, take, drop}
+use Rattle.std.specs.Prelude.{Result, Ok, Err, ℕ, Bool, true, false, ◌&&◌, cond, List, ◌++◌, eqb, ltb, length, take, drop}
 use Rattle.base.specs.Answers.{Answer, given, refused, all_of}
 use Rattle.base.specs.Lists.{part, eqs}
 use Rattle.field.specs.Be.{to_be}
 use Rattle.field.specs.Fields.{field, number_in}
 use Rattle.crc32.specs.Crc.{crc_of}
-use Rattle.header.specs.declared.Written.{Written}
-use Rattle.header.specs.declared.Written.TheVariants.{Done, Short, NotGood}
+use Rattle.header.specs.declared.WriteError.{WriteError}
+use Rattle.header.specs.declared.WriteError.TheVariants as write
 
 -- "CRC of bytes 0-59 at 60-63": does it match?
 unfoldable pub crc_matches : List ℕ → Bool
@@ -58,7 +58,7 @@ abbrev pub header_bytes : List ℕ → List ℕ
 header_bytes head = head ++ to_be 4 (crc_of head)
 
 -- what each case of a writer's answer is in 01: written, refusal 4 or refusal 19
-abbrev pub written : Written → Answer (Unit {0})
-written Done = given tt
-written Short = refused 4 0
-written NotGood = refused 19 0
+abbrev pub written : Result (Unit {0}) WriteError → Answer (Unit {0})
+written (Ok u) = given u
+written (Err write.Short) = refused 4 0
+written (Err write.NotGood) = refused 19 0

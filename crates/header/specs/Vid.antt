@@ -1,5 +1,5 @@
 -- 01 'Header bytes': the volume identifier (VID) header. Assumes nothing.
-use Rattle.std.specs.Prelude.{ℕ, ◌+◌, ◌-◌, ◌*◌, ◌≤◌, ◌<◌, ◌^◌, ◌≡◌, Bool, not, ◌&&◌, ◌||◌, List, [], ◌∷◌, ◌++◌, eqb, ltb, leb, get_or, replicate}
+use Rattle.std.specs.Prelude.{Result, Ok, Err, ℕ, ◌+◌, ◌-◌, ◌*◌, ◌≤◌, ◌<◌, ◌^◌, ◌≡◌, Bool, not, ◌&&◌, ◌||◌, List, [], ◌∷◌, ◌++◌, eqb, ltb, leb, get_or, replicate}
 use Rattle.base.specs.Answers.{Answer, given, refused}
 use Rattle.base.specs.Lists.{part}
 use Rattle.field.specs.Be.{to_be}
@@ -7,8 +7,8 @@ use Rattle.field.specs.Fields.{field, number_in}
 use Rattle.header.specs.Fields.{Verdict, good, bad, judged}
 use Rattle.header.specs.Fields.{read_header, lent_header, header_bytes, header_written, header_out}
 use Rattle.header.specs.declared.VidHeader.{VidHeader}
-use Rattle.header.specs.declared.VidRead.{VidRead}
-use Rattle.header.specs.declared.VidRead.TheVariants.{Good, Bad, Newer, Short}
+use Rattle.header.specs.declared.ReadError.{ReadError}
+use Rattle.header.specs.declared.ReadError.TheVariants.{Bad, Newer, Short}
 
 -- "magic `UBI!` 0-3"
 abbrev pub vid_magic : List ℕ
@@ -95,11 +95,11 @@ unfoldable pub vid_read : ℕ → List ℕ → Answer (Verdict VidHeader)
 vid_read size s = lent_header (read_vid size s) s
 
 -- what each case of the answer is in 01
-abbrev pub vid_answer : VidRead → Answer (Verdict VidHeader)
-vid_answer (Good h) = given (good h)
-vid_answer Bad = given bad
-vid_answer Newer = refused 5 0
-vid_answer Short = refused 4 0
+abbrev pub vid_answer : Result VidHeader ReadError → Answer (Verdict VidHeader)
+vid_answer (Ok h) = given (good h)
+vid_answer (Err Bad) = given bad
+vid_answer (Err Newer) = refused 5 0
+vid_answer (Err Short) = refused 4 0
 
 -- bytes 0-59 as they are written: "magic `UBI!` 0-3, version 4, type 5, copy flag 6, compatibility 7, volume 8-11,
 -- LEB 12-15, zero 16-19, data size 20-23, used LEBs 24-27, data pad 28-31, data CRC 32-35, zero 36-39, sequence 40-47,

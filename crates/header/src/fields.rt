@@ -89,17 +89,16 @@ pub fn set(s: &mut [u8], i: usize, v: u64)
 }
 
 // Are magic and CRC right?
+#[tactic(auto, unfolding(crate::specs::Fields::crc_matches))]
 pub fn is_header(s: &[u8], magic: &[u8]) -> bool
     requires { 64 ≤ length s.now }
     ensures { result ≡ (eqs (part 0 4 s.now) magic.now && crc_matches s.now) }
 {
-    if !base::same(&s[0..4], magic) {
-        return false;
-    }
-    crc32::crc32(&s[0..60]) as u64 == get(s, HEADER_CRC)
+    base::same(&s[0..4], magic) && crc32::crc32(&s[0..60]) as u64 == get(s, HEADER_CRC)
 }
 
 // The header's bytes are cleared and the magic is stored.
+#[tactic(auto, unfolding(crate::specs::Stores::header_begun))]
 pub fn begin(out: &mut [u8], magic: &[u8])
     requires { (64 ≤ length out.old) × (length magic.now ≡ 4) }
     ensures { out.new ≡ header_begun magic.now out.old }
@@ -109,6 +108,7 @@ pub fn begin(out: &mut [u8], magic: &[u8])
 }
 
 // The header's CRC is stored.
+#[tactic(auto, unfolding(crate::specs::Stores::crc_stored))]
 pub fn finish(out: &mut [u8])
     requires { 64 ≤ length out.old }
     ensures { out.new ≡ crc_stored out.old }

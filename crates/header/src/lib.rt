@@ -38,15 +38,6 @@ pub struct EcHeader {
     pub image_seq: u32,
 }
 
-// What a block's EC header is; Newer is refusal 5, Short refusal 4.
-#[derive(Clone, Copy)]
-pub enum EcRead {
-    Good(EcHeader),
-    Lost,
-    Newer,
-    Short,
-}
-
 #[derive(Clone, Copy)]
 pub struct VidHeader {
     pub version: u8,
@@ -62,19 +53,18 @@ pub struct VidHeader {
     pub sequence: u64,
 }
 
-// What a block's VID header is; Newer is refusal 5, Short refusal 4.
+// Why a header is not read: it is bad (an EC header is lost then); newer, refusal 5; or too few bytes are lent,
+// refusal 4.
 #[derive(Clone, Copy)]
-pub enum VidRead {
-    Good(VidHeader),
+pub enum ReadError {
     Bad,
     Newer,
     Short,
 }
 
-// Whether a header was written; Short is refusal 4, NotGood is refusal 19.
+// Why a header is not written: too few bytes are lent, refusal 4; it would not be read back as good, refusal 19.
 #[derive(Clone, Copy)]
-pub enum Written {
-    Done,
+pub enum WriteError {
     Short,
     NotGood,
 }

@@ -1,14 +1,13 @@
 -- The contents of the layout LEBs. Assumes nothing.
 use mathlib.Core.Path.{◌≡◌, refl, sym, ap, ◌∙◌}
-use mathlib.Core.Bool.{true, ◌&&◌}
+use mathlib.Core.Bool.{true, false, ◌&&◌}
 use mathlib.Core.Option.{some}
 use mathlib.Core.List.{List, []}
-use Prim.Native.Nat.{ℕ, ◌+◌, ◌*◌, ◌-◌, ◌<◌, ◌≤◌}
-use native.Mathlib.Nat.{mul-le-mul_right}
+use Prim.Native.Nat.{ℕ, ◌+◌, ◌*◌, ◌-◌, ◌<◌}
 use native.Mathlib.Omega.{arith}
 use borrow.Author.Tests.{eq-eqb, eqb-true, leb-true}
 use lib.Dec.{eqb, leb}
-use lib.ListN.{length, take, drop}
+use lib.ListN.{take, drop}
 use Rattle.base.specs.Lists.{part}
 use Rattle.base.proofs.Answers.{and_left, and_right, each_holds}
 use Rattle.base.proofs.Lists.{part_part}
@@ -21,7 +20,7 @@ use Rattle.report.specs.Volumes.{face_of, layout_content}
 use Rattle.report.specs.Report.{faces}
 use Rattle.copies.specs.InPlace.{copy_at, face_at}
 use Rattle.copies.proofs.Copies.{view_good, copy_at_lem, face_is}
-use Rattle.layout.specs.Layout.{Found, Chosen}
+use Rattle.layout.specs.Layout.{is_chosen, FoundAt, Chosen}
 use Rattle.layout.proofs.Places.{found_some, found_none}
 
 -- "volume 0x7FFFEFFF (layout): type 1, compatibility 5, pad 0, LEB 0 or 1"
@@ -65,25 +64,19 @@ module _ (g : Geometry) (image : List ℕ) where
 
 -- ---- the content of a layout LEB, from where its PEB is found
 
-module _ {g : Geometry} {image : List ℕ} {n : ℕ} {map pebs : List ℕ} (o : Chosen g image n map pebs) {l i : ℕ}
-    (f : Found pebs map n layout_volume l i) where
-  pub no_content : i ≡ n → [] ≡ layout_content (faces (medium_of g n image) layout_volume l)
-  no_content e = rw (face_is g n image layout_volume l, found_none o refl f (omega arith))
+module _ {g : Geometry} {image : List ℕ} {n : ℕ} {map pebs : List ℕ} (o : Chosen g image n map pebs) where
+  pub no_content : (l : ℕ) → ((j : ℕ) → j < n → is_chosen pebs map layout_volume l j ≡ false)
+      → [] ≡ layout_content (faces (medium_of g n image) layout_volume l)
+  no_content l f = rw (face_is g n image layout_volume l, found_none o layout_volume l refl f)
 
-  module _ (h : i ≡ n → ⊥) where
-    below : i < n
-    below = omega (arith, f.range, h)
-
-    pub found_bytes : i * g.peb_size + g.peb_size ≤ length image
-    found_bytes = omega (arith, o.keyed.whole, mul-le-mul_right g.peb_size below)
-
+  module _ {l i : ℕ} (f : FoundAt pebs map n layout_volume l i) where
     pub content_slice :
         take (i * g.peb_size + g.peb_size - (i * g.peb_size + g.data_start))
         (drop (i * g.peb_size + g.data_start) image)
         ≡ layout_content (faces (medium_of g n image) layout_volume l)
     content_slice =
         let p = o.keyed.placed in
-        let q = found_some o refl f below in
+        let q = found_some o f in
         let a = copy_at_lem g n image layout_volume l i q in
         let e : i * g.peb_size + g.peb_size - (i * g.peb_size + g.data_start) ≡ g.leb_size =
         omega (arith, p.leb_fills) in

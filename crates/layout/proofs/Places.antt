@@ -1,9 +1,9 @@
 -- The place of a LEB is the PEB that is chosen for it in the words. Assumes nothing.
 use mathlib.Core.Path.{◌≡◌, refl, sym, ap₂, ◌∙◌}
-use mathlib.Core.Bool.{true}
+use mathlib.Core.Bool.{true, false}
 use mathlib.Core.Option.{none, some}
 use mathlib.Core.List.{List}
-use Prim.Native.Nat.{ℕ, ◌≤◌, ◌<◌}
+use Prim.Native.Nat.{ℕ, ◌<◌}
 use native.Mathlib.Omega.{arith}
 use borrow.Author.Tests.{eq-eqb, eqb-true}
 use lib.Dec.{eqb}
@@ -20,7 +20,7 @@ use Rattle.copies.proofs.Copies.{copy_at_lem}
 use Rattle.choice.proofs.Words.{has_words}
 use Rattle.report.proofs.Facts.{place_is}
 use Rattle.choice.proofs.Marks.{class_of}
-use Rattle.layout.specs.Layout.{is_chosen, Found, Chosen}
+use Rattle.layout.specs.Layout.{is_chosen, FoundAt, Chosen}
 
 -- a marked class of 1 is a chosen copy's
 record MarkedCopy (ps : Places) (i : ℕ) (v : VidView) : Type 0 where
@@ -75,11 +75,10 @@ module _ {g : Geometry} {image : List ℕ} {n : ℕ} {map pebs : List ℕ} (o : 
       class_word_lem p a.below ∙ class_of _ (vs p).ec (vs p).vid c a.is mc ∙ rw (pc, eq-eqb p p refl) in
       (a.below, rw (eq-eqb (class_word pebs p) 1 k, eq-eqb _ _ (w.0 ∙ a.volume), eq-eqb _ _ (w.1 ∙ a.lnum)))
 
-  module _ {v l r : ℕ} (m : is_mappable v ≡ true) (f : Found pebs map n v l r) where
-    pub found_some : r < n → pl v l ≡ some r
-    found_some h = chosen_word v l r h (f.is h)
+  pub found_some : {v l r : ℕ} → FoundAt pebs map n v l r → pl v l ≡ some r
+  found_some {v} {l} {r} f = chosen_word v l r f.range f.is
 
-    pub found_none : n ≤ r → pl v l ≡ none
-    found_none h =
-        by_option (pl v l) (λ q. q)
-        (λ p q. let w = word_chosen v l p m q in clash (f.none_before p (omega (arith, w.0))) w.1)
+  pub found_none : (v l : ℕ) → is_mappable v ≡ true → ((j : ℕ) → j < n → is_chosen pebs map v l j ≡ false)
+      → pl v l ≡ none
+  found_none v l m f =
+      by_option (pl v l) (λ q. q) (λ p q. let w = word_chosen v l p m q in clash (f p w.0) w.1)

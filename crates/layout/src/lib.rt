@@ -19,28 +19,17 @@ fn is_chosen(pebs: &[u32], map: &[u32], i: usize, volume: u32, lnum: u32) -> boo
     requires { (HasPeb pebs.now i) × (HasEntry map.now i) }
     ensures { result ≡ is_chosen pebs.now map.now volume lnum i }
 {
-    if class_word(pebs, i) != class::CHOSEN {
-        return false;
-    }
-    if volume_word(map, i) != volume {
-        return false;
-    }
-    lnum_word(map, i) == lnum
+    class_word(pebs, i) == class::CHOSEN
+        && volume_word(map, i) == volume
+        && lnum_word(map, i) == lnum
 }
 
-// The PEB that is chosen for the volume's LEB; n if there is none.
-fn find_chosen(pebs: &[u32], map: &[u32], n: usize, volume: u32, lnum: u32) -> usize
+// The PEB that is chosen for the volume's LEB.
+fn find_chosen(pebs: &[u32], map: &[u32], n: usize, volume: u32, lnum: u32) -> Option<usize>
     requires { (peb_words_needed n ≤ length pebs.now) × (map_words_needed n ≤ length map.now) }
     ensures { Found pebs.now map.now n volume lnum result }
 {
-    let mut i: usize = 0;
-    while i < n {
-        if is_chosen(pebs, map, i, volume, lnum) {
-            return i;
-        }
-        i += 1;
-    }
-    n
+    (0..n).find(|i| is_chosen(pebs, map, *i, volume, lnum))
 }
 
 // The content of a layout LEB: the data of its PEB; no bytes where it has none.
@@ -55,10 +44,9 @@ pub fn layout_content<'a>(
     requires { Chosen g image.now n map.now pebs.now }
     ensures { result.now ≡ layout_content (faces (medium_of g n image.now) layout_volume lnum) }
 {
-    let i = find_chosen(pebs, map, n, LAYOUT_VOLUME, lnum);
-    if i == n {
+    let Some(i) = find_chosen(pebs, map, n, LAYOUT_VOLUME, lnum) else {
         return &image[0..0];
-    }
+    };
     let at = i * g.peb_size as usize;
     &image[at + g.data_start as usize..at + g.peb_size as usize]
 }

@@ -1,13 +1,12 @@
--- What an input comes to, and the text for it; where its slip ends. Assumes nothing.
-use mathlib.Core.Path.{◌≡◌, refl, sym, ◌∙◌}
+-- What an input comes to, and the text for it. Assumes nothing.
+use mathlib.Core.Path.{◌≡◌, refl, ◌∙◌}
 use mathlib.Core.Bool.{Bool, true, false}
 use mathlib.Core.List.{List}
-use Prim.Native.Nat.{ℕ, ◌*◌, ◌-◌, ◌≤◌, ◌<◌}
+use Prim.Native.Nat.{ℕ, ◌*◌, ◌≤◌}
 use native.Mathlib.Omega.{arith}
 use borrow.Author.Tests.{le-leb}
 use lib.Dec.{leb}
-use lib.ListN.{length, take, drop, length-append, length-drop, drop_of_length-le}
-use lib.Seq.{take_all, take-length}
+use lib.ListN.{length, length-append}
 use Rattle.base.proofs.Lists.{table_length}
 use Rattle.base.specs.Answers.{Answer, given, refused}
 use Rattle.base.proofs.Answers.{and_intro}
@@ -23,7 +22,6 @@ use Rattle.report.proofs.Words.{entry_words_length, peb_words_length}
 use Rattle.listing_text.specs.Render.{tables_hold, has_room, rendering, out_after}
 use Rattle.listing.specs.Listing.{slip_part, image_part, too_much, after_slip, program_tables, judging, listing_of}
 use Rattle.listing.specs.Listing.{listed, listed_out}
-use Rattle.listing.specs.Split.{SplitAt}
 
 -- ---- the tables
 
@@ -78,16 +76,3 @@ module _ (input : List ℕ) (more : Bool) where
       → (a ≡ answer_of (judging input more)) × (t' ≡ tables_after (judging input more) program_tables)
   unfolding judging
   short_judged h es ei et p q = (p ∙ rw (h, es, ei, et), q ∙ rw (h, es, ei, et))
-
--- a short input is all slip
-pub short_split : (input : List ℕ) → length input < 20 → SplitAt input (length input)
-short_split input h = record {
-  within = omega arith;
-  slip_is = take-length input ∙ sym (take_all 20 input (omega arith));
-  image_is =
-      drop_of_length-le input {i = length input} (omega arith) ∙ sym (drop_of_length-le input {i = 20} (omega arith));
-}
-
--- what is behind the slip
-pub rest_is : (input : List ℕ) (r : ℕ) → SplitAt input r → take (length input - r) (drop r input) ≡ image_part input
-rest_is input r s = take_all (length input - r) (drop r input) (omega (arith, length-drop r input)) ∙ s.image_is

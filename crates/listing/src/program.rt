@@ -4,11 +4,9 @@ ghost use Rattle.geometry.specs.Slip.{slip_geometry};
 ghost use Rattle.report.specs.Attach.{lent, attached_answer, answer_of, tables_after};
 ghost use Rattle.listing.specs.Listing.{too_much, after_slip, program_tables, judging, listed, listed_out};
 ghost use Rattle.listing_text.specs.Render.{rendered_answer, within};
-ghost use Rattle.listing.specs.Split.{SplitAt};
 
-use geometry::GeometryRead;
-use listing_text::Rendered;
-use report::{Attached, refusal};
+use listing_text::TooShort;
+use report::{Refused, Report, refusal};
 
 // The bytes of a slip.
 const SLIP_SIZE: usize = 20;
@@ -16,45 +14,19 @@ const SLIP_SIZE: usize = 20;
 // The most bytes of slip and image: 60 KiB.
 const MOST_INPUT: usize = 61440;
 
-// Where the slip ends: after 20 bytes, or with the input.
-fn slip_end(input: &[u8]) -> usize
-    ensures { SplitAt input.now result }
-{
-    if input.len() < SLIP_SIZE {
-        return input.len();
-    }
-    SLIP_SIZE
-}
-
 // Is there more input than the program holds?
 fn too_much(input: &[u8], more: bool) -> bool
     ensures { result ≡ too_much input.now more }
 {
-    if more {
-        return true;
-    }
-    MOST_INPUT < input.len()
+    more || MOST_INPUT < input.len()
 }
 
 // More input than is held: refusal 1, 2 or 3.
-fn refuse_long(slip: &[u8]) -> Attached
+fn refuse_long(slip: &[u8]) -> Result<Report, Refused>
     ensures { attached_answer result ≡ answer_of (after_slip (slip_geometry slip.now)) }
 {
-    let r = geometry::read_slip(slip);
-    match r {
-        GeometryRead::Good(g) => return Attached::Refused {
-            number: refusal::BAD_IMAGE_SIZE,
-            place: 0,
-        },
-        GeometryRead::Malformed => return Attached::Refused {
-            number: refusal::MALFORMED_SLIP,
-            place: 0,
-        },
-        GeometryRead::Outside => return Attached::Refused {
-            number: refusal::BAD_GEOMETRY,
-            place: 0,
-        },
-    }
+    geometry::read_slip(slip)?;
+    Err(Refused::unplaced(refusal::BAD_IMAGE_SIZE))
 }
 
 // What the input comes to, in the program's tables.
@@ -64,17 +36,18 @@ fn judge(
     pebs: &mut [u32],
     map: &mut [u32],
     states: &mut [u32],
-) -> Attached
+) -> Result<Report, Refused>
     requires { lent pebs.old map.old states.old ≡ program_tables }
     ensures answer { attached_answer result ≡ answer_of (judging input.now more) }
     ensures tables { lent pebs.new map.new states.new
         ≡ tables_after (judging input.now more) program_tables }
 {
-    let at = slip_end(input);
+    // the slip ends after 20 bytes, or with the input
+    let (slip, image) = input.split_at(SLIP_SIZE.min(input.len()));
     if too_much(input, more) {
-        return refuse_long(&input[..at]);
+        return refuse_long(slip);
     }
-    attach::attach(&input[..at], &input[at..], pebs, map, states)
+    attach::attach(slip, image, pebs, map, states)
 }
 
 fn list_into(
@@ -84,7 +57,7 @@ fn list_into(
     map: &mut [u32],
     states: &mut [u32],
     out: &mut [u8],
-) -> Rendered
+) -> Result<usize, TooShort>
     requires { lent pebs.old map.old states.old ≡ program_tables }
     ensures answer { rendered_answer result ≡ listed input.now more out.old }
     ensures out { out.new ≡ listed_out input.now more out.old }
@@ -96,7 +69,8 @@ fn list_into(
 
 // The text that is printed for the bytes read, at the start of the buffer; `more` says whether there was more input
 // than they are.
-pub fn list(input: &[u8], more: bool, out: &mut [u8]) -> Rendered
+#[tactic(auto, unfolding(crate::specs::Listing::program_tables))]
+pub fn list(input: &[u8], more: bool, out: &mut [u8]) -> Result<usize, TooShort>
     ensures answer { rendered_answer result ≡ listed input.now more out.old }
     ensures out { out.new ≡ listed_out input.now more out.old }
     ensures room { within result out.new }

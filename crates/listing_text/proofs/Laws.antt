@@ -8,8 +8,9 @@ use native.Mathlib.Numerals.{add-one}
 use native.Mathlib.Omega.{arith}
 use borrow.Author.Tests.{lt-ltb, le-ltb, ltb-true, ltb-false}
 use lib.Dec.{ltb}
-use lib.ListN.{length, take, length-append}
-use lib.Seq.{length-take-le}
+use lib.ListN.{length, take, length-append, length-take}
+use Rattle.std.specs.Prelude.{min}
+use Rattle.std.proofs.lemmas.List.{take_min}
 use Rattle.base.specs.Below.{concat_below}
 use Rattle.base.specs.Lists.{put}
 use Rattle.report.specs.Attach.{over}
@@ -58,17 +59,12 @@ clip_over (x ∷ t) [] h = absurd (omega arith)
 clip_over [] (y ∷ s) h = refl
 clip_over (x ∷ t) (y ∷ s) h = ap (λ (l : List ℕ). x ∷ l) (clip_over t s (omega arith))
 
--- all of t went in, a part of it, or nothing
-pub stored_whole : {at : ℕ} {t s s' : List ℕ} → at + length t ≤ length s → s' ≡ put at t s
-    → Written s at t (at + length t) s'
-stored_whole {at} {t} {s} {s'} h e = record { after = refl; bytes = e ∙ clip_fits at t s h }
-
-pub stored_part : {at : ℕ} {t s s' : List ℕ} → at < length s → length s ≤ at + length t
-    → s' ≡ put at (take (length s - at) t) s → Written s at t (at + length t) s'
-stored_part {at} {t} {s} {s'} h k e = record {
+-- as much of t as goes in was stored, or nothing
+pub stored_part : {at : ℕ} {t s s' : List ℕ} → at < length s
+    → s' ≡ put at (take (min (length s - at) (length t)) t) s → Written s at t (at + length t) s'
+stored_part {at} {t} {s} {s'} h e = record {
   after = refl;
-  bytes = e ∙ clip_fits at (take (length s - at) t) s (omega (arith, length-take-le (length s - at) t (omega arith)))
-      ∙ clip_room at t s;
+  bytes = rw take_min at e ∙ clip_fits at (take (length s - at) t) s (rw length-take (omega arith)) ∙ clip_room at t s;
 }
 
 pub stored_nothing : {at : ℕ} {t s : List ℕ} → length s ≤ at → Written s at t (at + length t) s
@@ -96,16 +92,6 @@ pub next_written : (f : ℕ → List ℕ) (i : ℕ) {at r e : ℕ} {s s₁ s₂ 
     → Written s₁ r (f i) e s₂ → Written s at (concat_below (i + 1) f) e s₂
 next_written f i {at} {r} {e} {s} {s₁} {s₂} p q = subst (λ (k : ℕ). Written s at (concat_below k f) e s₂)
     (sym (add-one i)) (both_written p q)
-
--- a buffer keeps its length
-pub written_length : {at r : ℕ} {t s s' : List ℕ} → Written s at t r s' → length s' ≡ length s
-written_length {at} {r} {t} {s} {s'} w = ap length w.bytes ∙ same at t s
-  where
-    same : (at : ℕ) (t s : List ℕ) → length (clipped at t s) ≡ length s
-    same at t [] = refl
-    same zero [] (y ∷ s) = refl
-    same zero (x ∷ t) (y ∷ s) = ap suc (same zero t s)
-    same (suc at) t (y ∷ s) = ap suc (same at t s)
 
 -- ---- numbers in decimal
 

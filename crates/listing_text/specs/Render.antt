@@ -1,11 +1,10 @@
 -- Writing a listing's text into a lent buffer. Assumes nothing.
-use Rattle.std.specs.Prelude.{ℕ, ◌*◌, ◌≤◌, Bool, true, ◌&&◌, cond, List, [], ◌∷◌, leb, length}
+use Rattle.std.specs.Prelude.{ℕ, ◌*◌, ◌≤◌, Bool, true, ◌&&◌, cond, List, [], ◌∷◌, leb, length, Result, Ok, Err}
 use Rattle.base.specs.Answers.{Answer, given, refused, all_of}
 use Rattle.report.specs.declared.Report.{Report}
 use Rattle.report.specs.Attach.{Tables, over}
 use Rattle.listing_text.specs.Text.{text_of}
-use Rattle.listing_text.specs.declared.Rendered.{Rendered}
-use Rattle.listing_text.specs.declared.Rendered.TheVariants.{Text, Short}
+use Rattle.listing_text.specs.declared.TooShort.{TooShort}
 
 -- the words of which a listing's lines are made stand in the tables
 abbrev pub tables_hold : Answer Report → Tables → Bool
@@ -27,11 +26,11 @@ module _ (a : Answer Report) (t : Tables) (out : List ℕ) where
   unfoldable pub out_after : List ℕ
   out_after = cond has_room (over (text_of a t) out) out
 
-abbrev pub rendered_answer : Rendered → Answer ℕ
-rendered_answer (Text n) = given n
-rendered_answer Short = refused 4 0
+abbrev pub rendered_answer : Result ℕ TooShort → Answer ℕ
+rendered_answer (Ok n) = given n
+rendered_answer (Err s) = refused 4 0
 
 -- the text lies within the buffer
-abbrev pub within : Rendered → List ℕ → Type 0
-within (Text n) out = n ≤ length out
-within Short out = Unit {0}
+abbrev pub within : Result ℕ TooShort → List ℕ → Type 0
+within (Ok n) out = n ≤ length out
+within (Err s) out = Unit {0}

@@ -7,9 +7,6 @@ mod write;
 
 pub use text::render;
 
-// So many bytes of text at the start of the buffer, or refusal 4: a lent table or the buffer is too short.
+// A lent table or the buffer is too short: refusal 4.
 #[derive(Clone, Copy)]
-pub enum Rendered {
-    Text(usize),
-    Short,
-}
+pub struct TooShort;

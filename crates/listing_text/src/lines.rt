@@ -1,7 +1,7 @@
 // The lines of a listing.
-ghost use Rattle.std.specs.Prelude.{◌≡◌, cond, ◌+◌, ◌*◌, ◌≤◌, length};
-ghost use Rattle.listing_text.specs.Text.{numbers_part, marks_part, attached_line, counter_text, peb_line, map_line, vol_line};
-ghost use Rattle.listing_text.specs.Text.{peb_lines, map_lines, vol_lines, refused_text};
+ghost use Rattle.std.specs.Prelude.{◌+◌, ◌*◌, ◌≤◌, length};
+ghost use Rattle.listing_text.specs.Text.{numbers_part, marks_part, attached_line, counter_text, peb_line, map_line};
+ghost use Rattle.listing_text.specs.Text.{vol_line, peb_lines, map_lines, vol_lines, refused_text};
 ghost use Rattle.listing_text.specs.Written.{Written};
 
 use crate::write::{append, labelled, pair};
@@ -35,7 +35,7 @@ fn marks_part(out: &mut [u8], at: usize, r: Report) -> usize
         out,
         at,
         b" readonly ",
-        bit(r.read_only),
+        u64::from(r.read_only),
         b" table ",
         r.table as u64,
     );
@@ -59,25 +59,18 @@ pub fn attached_line(out: &mut [u8], r: Report) -> usize
     marks_part(out, a, r)
 }
 
-fn bit(b: bool) -> u64
-    ensures { result ≡ cond b 1 0 }
-{
-    if b {
-        return 1;
-    }
-    0
-}
-
 // A blank, and a counter or the word for a lost one.
+#[tactic(auto, unfolding(crate::specs::Text::counter_text, crate::specs::Text::labelled))]
 fn counter_text(out: &mut [u8], at: usize, counter: u32) -> usize
     requires { at ≤ 0x1FFFFFFFFFFF }
     ensures text { Written out.old at (counter_text counter) result out.new }
     ensures end { result ≤ at + 36 }
 {
     if counter == NO_WORD {
-        return append(out, at, b" lost");
+        append(out, at, b" lost")
+    } else {
+        labelled(out, at, b" ", counter as u64)
     }
-    labelled(out, at, b" ", counter as u64)
 }
 
 fn peb_line(out: &mut [u8], at: usize, peb: u32, class: u32, counter: u32) -> usize
@@ -119,11 +112,9 @@ pub fn peb_lines(out: &mut [u8], at: usize, n: u32, pebs: &[u32]) -> usize
     ensures end { result ≤ at + n * 128 }
 {
     let mut end = at;
-    let mut i: u32 = 0;
-    while i < n {
+    for i in 0..n {
         let k = i as usize * PEB_WORDS;
         end = peb_line(out, end, i, pebs[k], pebs[k + 1]);
-        i += 1;
     }
     end
 }
@@ -135,11 +126,9 @@ pub fn map_lines(out: &mut [u8], at: usize, entries: u32, map: &[u32]) -> usize
     ensures end { result ≤ at + entries * 128 }
 {
     let mut end = at;
-    let mut i: u32 = 0;
-    while i < entries {
+    for i in 0..entries {
         let k = i as usize * ENTRY_WORDS;
         end = map_line(out, end, map[k], map[k + 1], map[k + 2]);
-        i += 1;
     }
     end
 }
@@ -150,10 +139,8 @@ pub fn vol_lines(out: &mut [u8], at: usize, states: &[u32]) -> usize
     ensures { Written out.old at (vol_lines 128 states.now) result out.new }
 {
     let mut end = at;
-    let mut v: u32 = 0;
-    while v < 128 {
+    for v in 0..128 {
         end = vol_line(out, end, v, states[v as usize]);
-        v += 1;
     }
     end
 }

@@ -6,18 +6,18 @@ ghost use Rattle.listing_text.specs.Text.{text_of, report_text};
 ghost use Rattle.listing_text.specs.Render.{tables_hold, rendering, out_after, rendered_answer, within};
 ghost use Rattle.listing_text.specs.Written.{Written};
 
-use crate::{Rendered, lines};
-use report::{Attached, Report};
+use crate::{TooShort, lines};
+use report::{Refused, Report};
 use words::{ENTRY_WORDS, PEB_WORDS, STATE_WORDS};
 
 // Are the words of the listing's lines there?
-fn tables_hold(a: Attached, pebs: &[u32], map: &[u32], states: &[u32]) -> bool
+fn tables_hold(a: Result<Report, Refused>, pebs: &[u32], map: &[u32], states: &[u32]) -> bool
     ensures { result ≡ tables_hold (attached_answer a)
         (lent pebs.now map.now states.now) }
 {
     match a {
-        Attached::Given(r) => return report_held(r, pebs, map, states),
-        Attached::Refused { number, place } => return true,
+        Ok(r) => report_held(r, pebs, map, states),
+        Err(_) => true,
     }
 }
 
@@ -25,13 +25,9 @@ fn report_held(r: Report, pebs: &[u32], map: &[u32], states: &[u32]) -> bool
     ensures { result ≡ tables_hold (given r)
         (lent pebs.now map.now states.now) }
 {
-    if pebs.len() < r.peb_count as usize * PEB_WORDS {
-        return false;
-    }
-    if map.len() < r.entries as usize * ENTRY_WORDS {
-        return false;
-    }
-    STATE_WORDS <= states.len()
+    r.peb_count as usize * PEB_WORDS <= pebs.len()
+        && r.entries as usize * ENTRY_WORDS <= map.len()
+        && STATE_WORDS <= states.len()
 }
 
 // The text of a report, as far as it fits; its length.
@@ -48,21 +44,33 @@ fn write_report(out: &mut [u8], r: Report, pebs: &[u32], map: &[u32], states: &[
 }
 
 // The text of an answer, as far as it fits; its length.
-fn write_text(out: &mut [u8], a: Attached, pebs: &[u32], map: &[u32], states: &[u32]) -> usize
+fn write_text(
+    out: &mut [u8],
+    a: Result<Report, Refused>,
+    pebs: &[u32],
+    map: &[u32],
+    states: &[u32],
+) -> usize
     requires { tables_hold (attached_answer a) (lent pebs.now map.now states.now) ≡ true }
     ensures { Written out.old 0
         (text_of (attached_answer a) (lent pebs.now map.now states.now)) result
         out.new }
 {
     match a {
-        Attached::Given(r) => return write_report(out, r, pebs, map, states),
-        Attached::Refused { number, place } => return lines::refused_line(out, number, place),
+        Ok(r) => write_report(out, r, pebs, map, states),
+        Err(e) => lines::refused_line(out, e.number, e.place),
     }
 }
 
 // The text of an answer with its tables, at the start of the buffer. Its length is counted first, so that a buffer
 // which is too short stays as it is.
-pub fn render(a: Attached, pebs: &[u32], map: &[u32], states: &[u32], out: &mut [u8]) -> Rendered
+pub fn render(
+    a: Result<Report, Refused>,
+    pebs: &[u32],
+    map: &[u32],
+    states: &[u32],
+    out: &mut [u8],
+) -> Result<usize, TooShort>
     ensures answer { rendered_answer result ≡ rendering (attached_answer a)
         (lent pebs.now map.now states.now) out.old }
     ensures out { out.new ≡ out_after (attached_answer a)
@@ -70,12 +78,12 @@ pub fn render(a: Attached, pebs: &[u32], map: &[u32], states: &[u32], out: &mut 
     ensures room { within result out.new }
 {
     if !tables_hold(a, pebs, map, states) {
-        return Rendered::Short;
+        return Err(TooShort);
     }
     let mut none = [0u8; 1];
     let len = write_text(&mut none, a, pebs, map, states);
     if out.len() < len {
-        return Rendered::Short;
+        return Err(TooShort);
     }
-    Rendered::Text(write_text(out, a, pebs, map, states))
+    Ok(write_text(out, a, pebs, map, states))
 }

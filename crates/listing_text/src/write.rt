@@ -8,16 +8,11 @@ pub fn append(out: &mut [u8], at: usize, bytes: &[u8]) -> usize
     requires { at + length bytes.now ≤ 0xFFFFFFFFFFFFFFFF }
     ensures { Written out.old at bytes.now result out.new }
 {
-    let end = at + bytes.len();
-    if end <= out.len() {
-        base::store(out, at, bytes);
-        return end;
-    }
     if at < out.len() {
-        let room = out.len() - at;
+        let room = (out.len() - at).min(bytes.len());
         base::store(out, at, &bytes[..room]);
     }
-    end
+    at + bytes.len()
 }
 
 // A number in decimal.

@@ -1,22 +1,20 @@
 -- 01 'The report': what lent tables that hold a report say of one PEB, and of one LEB. Assumes nothing.
-use Rattle.std.specs.Prelude.{ℕ, ◌+◌, ◌*◌, Bool, ◌&&◌, cond, List, eqb, ltb, leb, length}
+use Rattle.std.specs.declared.option.Option as rust
+use Rattle.std.specs.Prelude.{Some, None, ℕ, ◌+◌, ◌*◌, Bool, ◌&&◌, cond, List, eqb, ltb, leb, length}
 use Rattle.std.proofs.Math.Option.{Option, none, some}
 use Rattle.base.specs.Answers.{map_o}
 use Rattle.base.specs.Below.{first_below}
 use Rattle.words.specs.Words.{peb_stride, entry_stride, class_word, counter_word, volume_word, lnum_word, peb_word}
 use Rattle.lookup.specs.declared.PebReport.{PebReport}
-use Rattle.lookup.specs.declared.PebReport.TheVariants.{Given, Absent}
-use Rattle.lookup.specs.declared.LebPlace.{LebPlace}
-use Rattle.lookup.specs.declared.LebPlace.TheVariants as leb-place
 
 -- "Per PEB two u32 words: class, and counter": those of PEB i, of n
 unfoldable pub peb_in : List ℕ → ℕ → ℕ → Option (ℕ × ℕ)
 peb_in pebs n i =
     cond (ltb i n && leb (i * peb_stride + peb_stride) (length pebs)) (some (class_word pebs i, counter_word pebs i)) none
 
-abbrev pub peb_answer : PebReport → Option (ℕ × ℕ)
-peb_answer (Given c k) = some (c, k)
-peb_answer Absent = none
+abbrev pub peb_answer : rust.Option PebReport → Option (ℕ × ℕ)
+peb_answer (Some r) = some (r.class, r.counter)
+peb_answer None = none
 
 -- is entry i that of the volume's LEB?
 abbrev pub is_entry : List ℕ → ℕ → ℕ → ℕ → Bool
@@ -30,6 +28,6 @@ place_at map v l i = cond (is_entry map v l i) (some (peb_word map i)) none
 unfoldable pub place_in : List ℕ → ℕ → ℕ → ℕ → Option ℕ
 place_in map k v l = cond (leb (k * entry_stride) (length map)) (map_o (λ x. x.1) (first_below k (place_at map v l))) none
 
-abbrev pub place_answer : LebPlace → Option ℕ
-place_answer (leb-place.At p) = some p
-place_answer leb-place.Absent = none
+abbrev pub place_answer : rust.Option ℕ → Option ℕ
+place_answer (Some p) = some p
+place_answer None = none

@@ -9,33 +9,27 @@ use words::{ENTRY_WORDS, PEB_WORDS, class_word, counter_word, lnum_word, peb_wor
 
 // A PEB's class and erase counter (0xFFFFFFFF if it is lost).
 #[derive(Clone, Copy)]
-pub enum PebReport {
-    Given { class: u32, counter: u32 },
-    Absent,
+pub struct PebReport {
+    pub class: u32,
+    pub counter: u32,
 }
 
-// The PEB that holds a LEB.
-#[derive(Clone, Copy)]
-pub enum LebPlace {
-    At(u32),
-    Absent,
-}
-
-// What the report says of a PEB; absent where the PEB is not below the report's PEB count, or its words are not there.
-pub fn peb_report(pebs: &[u32], peb_count: u32, peb: u32) -> PebReport
+// What the report says of a PEB; nothing where the PEB is not below the report's PEB count, or its words are not there.
+#[tactic(auto, unfolding(crate::specs::Lookup::peb_in))]
+pub fn peb_report(pebs: &[u32], peb_count: u32, peb: u32) -> Option<PebReport>
     ensures { peb_answer result ≡ peb_in pebs.now peb_count peb }
 {
     if peb_count <= peb {
-        return PebReport::Absent;
+        return None;
     }
     let i = peb as usize;
     if pebs.len() < i * PEB_WORDS + PEB_WORDS {
-        return PebReport::Absent;
+        return None;
     }
-    PebReport::Given {
+    Some(PebReport {
         class: class_word(pebs, i),
         counter: counter_word(pebs, i),
-    }
+    })
 }
 
 // Is entry k that of the volume's LEB?
@@ -43,27 +37,23 @@ fn is_entry(map: &[u32], k: usize, volume: u32, lnum: u32) -> bool
     requires { HasEntry map.now k }
     ensures { result ≡ is_entry map.now volume lnum k }
 {
-    if volume_word(map, k) != volume {
-        return false;
-    }
-    lnum_word(map, k) == lnum
+    volume_word(map, k) == volume && lnum_word(map, k) == lnum
 }
 
-// The PEB of a volume's LEB by the map's entries; absent where it has no entry, or the map has fewer words than so many
+// The PEB of a volume's LEB by the map's entries; none where it has no entry, or the map has fewer words than so many
 // entries.
-pub fn find_leb(map: &[u32], entries: u32, volume: u32, lnum: u32) -> LebPlace
+#[tactic(auto, unfolding(crate::specs::Lookup::place_in))]
+pub fn find_leb(map: &[u32], entries: u32, volume: u32, lnum: u32) -> Option<u32>
     ensures { place_answer result ≡ place_in map.now entries volume lnum }
 {
     let count = entries as usize;
     if map.len() < count * ENTRY_WORDS {
-        return LebPlace::Absent;
+        return None;
     }
-    let mut k: usize = 0;
-    while k < count {
+    for k in 0..count {
         if is_entry(map, k, volume, lnum) {
-            return LebPlace::At(peb_word(map, k));
+            return Some(peb_word(map, k));
         }
-        k += 1;
     }
-    LebPlace::Absent
+    None
 }

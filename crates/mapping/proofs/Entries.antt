@@ -4,18 +4,16 @@ use mathlib.Core.Path.{◌≡◌, refl, sym, ap, ap₂, ◌∙◌}
 use mathlib.Core.Logic.{inl, inr, ⊎_elim}
 use mathlib.Core.Bool.{Bool, true, false, cond, or-true}
 use mathlib.Core.Option.{Option, none, some}
-use mathlib.Core.List.{List, [], ◌∷◌, ◌++◌, append_assoc, append-nil}
+use mathlib.Core.List.{List, [], ◌∷◌, ◌++◌, append_assoc}
 use Prim.Native.Nat.{ℕ, ◌+◌, ◌-◌, ◌≤◌, ◌<◌}
 use native.Mathlib.Omega.{arith}
 use borrow.Author.Tests.{eq-eqb, ne_eqb, eqb-true, ltb-true, lt-ltb}
 use lib.Dec.{eqb, ltb}
-use lib.ListN.{length, take, drop, get_or, replicate, drop_of_length-le}
+use lib.ListN.{length, take, drop, get_or, replicate}
 use lib.Seq.{length-take-le, drop-drop}
 use Rattle.base.specs.Answers.{map_o}
-use Rattle.base.specs.Lists.{part}
 use Rattle.base.specs.Below.{sum_below, concat_below}
 use Rattle.base.proofs.Answers.{or_true_cases, none_some, by_option}
-use Rattle.base.proofs.Lists.{length_part}
 use Rattle.base.proofs.Rows.{rows_tail, concat_cong}
 use Rattle.header.specs.Vid.{layout_volume}
 use Rattle.words.specs.Words.{no_word, entry_stride, most_pebs, map_words_needed, class_word, counter_word, volume_word, lnum_word, peb_word}
@@ -261,16 +259,16 @@ module _ {m : Medium} {t pebs map : List ℕ} (o : Marked m t pebs map) where
     abbrev behind : ℕ
     behind = map_words_needed m.count - map_words_needed k
 
-    pub mapped : {w : List ℕ} → w ≡ replicate behind no_word ++ drop behind (part (map_words_needed k) behind map₃)
-        → Mapped m k pebs pebs' map (take (map_words_needed k) map₃ ++ (w ++ drop behind (drop (map_words_needed k) map₃)))
+    pub mapped : {w : List ℕ} → w ≡ replicate behind no_word
+        → Mapped m k pebs pebs' map
+        (take (map_words_needed k) map₃ ++ (w ++ drop behind (drop (map_words_needed k) map₃)))
     unfolding map_words
     mapped e =
         let at = map_words_needed k in
         let b : at + behind ≡ map_words_needed m.count = omega (arith, x.within) in
-        let z : length (part at behind map₃) ≤ behind = omega (arith, length_part at behind map₃ (omega (arith, b))) in
         record {
           pebs_are = rw (← peb_words_lem) s.pebs_are;
-          map_is = rw (e, drop_of_length-le (part at behind map₃) z, append-nil, drop-drop behind at map₃, b)
+          map_is = rw (e, drop-drop behind at map₃, b)
               (rw (tail_is, collected, words_long)
               (sym (append_assoc (entry_words (entries m)) _ (drop (map_words_needed m.count) map))));
           count_is = omega (arith, words_long, entry_words_length (entries m));

@@ -3,19 +3,25 @@ use mathlib.Core.Path.{◌≡◌, refl, sym, ap, ◌∙◌}
 use mathlib.Core.Bool.{Bool, true, false, not, ◌&&◌, cond}
 use mathlib.Core.Option.{some}
 use mathlib.Core.List.{List}
+use Rattle.std.proofs.Common.{Result, Ok, Err, MatchResult, MatchBool}
+use Rattle.std.specs.List.{range_with_len, HoldsAt, AllWithin}
+use Rattle.std.proofs.lemmas.List.FromFn.{length-range_with_len, get_or-range_with_len}
 use Prim.Native.Nat.{ℕ, ◌+◌, ◌-◌, ◌*◌, ◌≤◌, ◌<◌}
 use native.Mathlib.Omega.{arith}
-use native.Mathlib.Nat.{mul-le-mul_right}
-use borrow.Author.Tests.{le-ltb, lt-ltb, eq-eqb, ne_eqb}
+use native.Mathlib.Nat.{zero-add, mul-le-mul_right}
+use borrow.Author.Tests.{lt-ltb, eq-eqb}
 use lib.Dec.{eqb}
-use lib.ListN.{length, take, drop, length-drop}
+use lib.ListN.{length, take, drop, get_or, length-drop}
 use lib.Seq.{drop-drop}
 use Rattle.base.specs.Lists.{part}
 use Rattle.base.proofs.Lists.{to_end_lem, length_part}
 use Rattle.base.proofs.Lists.{part_take}
 use Rattle.base.proofs.Answers.{by_option}
+use Rattle.base.specs.Below.{any_below}
+use Rattle.base.proofs.Below.{none_intro, any_intro}
 use Rattle.geometry.specs.declared.Geometry.{Geometry}
 use Rattle.header.specs.declared.EcHeader.{EcHeader}
+use Rattle.header.specs.declared.VidHeader.{VidHeader}
 use Rattle.report.specs.View.{
   EcView,
   VidView,
@@ -26,6 +32,7 @@ use Rattle.report.specs.View.{
   Medium,
   medium_of,
   view_of,
+  copy_of,
   peb_at,
   ecs,
   copies,
@@ -35,6 +42,9 @@ use Rattle.report.specs.View.{
 use Rattle.report.specs.Volumes.{Places}
 use Rattle.report.specs.Report.{class_of, class_at, counter_at, is_internal, mean_of, records, places, is_place, stays_in}
 use Rattle.words.specs.Words.{no_word}
+use Rattle.peb_scan.specs.Seen.{vid_seen}
+use Rattle.peb_scan.specs.declared.NoHeader.{NoHeader}
+use Rattle.peb_scan.specs.declared.NoHeader.TheVariants.{Newer, Blank, Bad}
 use Rattle.mover_rules.specs.Headers.{data_end, old_counter}
 use Rattle.mover_checks.specs.Reported.{Reported, is_no_target}
 use Rattle.mover_copy.proofs.Data.{clean_end}
@@ -58,6 +68,29 @@ class_not_5 t ps i e vid_bad n = refl
 pub kept : (m : Medium) (i : ℕ) {w : ℕ} → w ≡ class_at m i → (w ≡ 5 → ⊥) → false ≡ is_internal 1 (copies m.views i)
 unfolding class_at
 kept m i e k = class_not_5 (records m) (places m) i (m.views i).ec (m.views i).vid (λ q. k (e ∙ q))
+
+-- what is seen of a header says whether its block is to be deleted
+pub seen_to_delete : (g : Geometry) (p : List ℕ) (seen : Result VidHeader NoHeader) {b : Bool}
+    → MatchResult seen (λ h. b ≡ (not (is_mappable h.volume) && eqb h.compat 1)) (λ _. b ≡ false)
+    → b ≡ is_internal 1 (good_vid (vid_seen g p seen))
+unfolding copy_of
+seen_to_delete g p (Ok h) e = e
+seen_to_delete g p (Err Newer) e = e
+seen_to_delete g p (Err Blank) e = e
+seen_to_delete g p (Err Bad) e = e
+
+-- an answer for some number below n, or for each
+at_range : (n i : ℕ) → i < n → get_or (range_with_len 0 n) i 0 ≡ i
+at_range n i h = get_or-range_with_len 0 n i 0 h ∙ zero-add i
+
+pub any_is : (n : ℕ) (p : ℕ → Bool) (b : Bool)
+    → MatchBool b ((k : ℕ) × (k < length (range_with_len 0 n)) × HoldsAt (λ i. p i ≡ true) (range_with_len 0 n) k)
+    (AllWithin (λ i. p i ≡ false) (range_with_len 0 n) 0 (length (range_with_len 0 n))) → b ≡ any_below n p
+any_is n p true h =
+    let l : h.0 < n = rw length-range_with_len at h.1 in
+    sym (any_intro n p h.0 l (rw (at_range n h.0 l) at (h.2 0)))
+any_is n p false h =
+    sym (none_intro n p (λ i l. rw (at_range n i l) at (h i 0 (omega arith) (rw length-range_with_len l))))
 
 -- ---- the counter word
 
@@ -90,12 +123,6 @@ module _ {g : Geometry} {n : ℕ} {image pebs : List ℕ} (r : Reported g n imag
       ∙ ap (take (g.peb_size - 64)) (drop-drop 64 (i * g.peb_size) image))
 
 -- ---- the target
-
-pub absent_target : (m : Medium) (t : ℕ) → m.count ≤ t → true ≡ is_no_target m t
-absent_target m t h = rw (le-ltb t m.count h)
-
-pub used_target : (m : Medium) (t : ℕ) → t < m.count → {w : ℕ} → w ≡ class_at m t → (w ≡ 0 → ⊥) → true ≡ is_no_target m t
-used_target m t h e k = rw (lt-ltb t m.count h, ne_eqb (class_at m t) 0 (λ q. k (e ∙ q)))
 
 module _ {g : Geometry} {n : ℕ} {image pebs : List ℕ} (r : Reported g n image pebs) (t : ℕ) (h : t < n) where
   pub free_target : {w at end : ℕ} → w ≡ class_at (medium_of g n image) t → w ≡ 0 → at ≡ t * g.peb_size

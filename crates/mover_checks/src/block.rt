@@ -10,7 +10,6 @@ ghost use Rattle.mover_checks.specs.Reported.{Reported, is_no_target, ec_with};
 use geometry::Geometry;
 use header::{COMPAT_DELETE, EcHeader};
 use mover_copy::data_end;
-use peb_scan::VidSeen;
 use report::class;
 use words::NO_WORD;
 
@@ -19,13 +18,7 @@ fn is_to_delete(p: &[u8], g: Geometry) -> bool
     requires { (Placed g) × (length p.now ≡ g.peb_size) }
     ensures { result ≡ is_internal 1 (good_vid (view_of g p.now).vid) }
 {
-    let v = peb_scan::see_vid(p, g);
-    match v {
-        VidSeen::Good(h) => return peb_scan::is_internal(h, COMPAT_DELETE),
-        VidSeen::Newer => return false,
-        VidSeen::Blank => return false,
-        VidSeen::Bad => return false,
-    }
+    peb_scan::see_vid(p, g).is_ok_and(|h| peb_scan::is_internal(h, COMPAT_DELETE))
 }
 
 // The same of PEB i, whose header is read only if its class allows it.
@@ -33,7 +26,8 @@ fn to_delete_at(image: &[u8], g: Geometry, n: usize, pebs: &[u32], i: usize) -> 
     requires { (Reported g n image.now pebs.now) × (i < n) }
     ensures { result ≡ is_internal 1 (copies (views_of g image.now) i) }
 {
-    if words::class_word(pebs, i) != class::TO_DELETE {
+    let to_delete = words::class_word(pebs, i) == class::TO_DELETE;
+    if !to_delete {
         return false;
     }
     let size = g.peb_size as usize;
@@ -46,14 +40,7 @@ pub fn any_to_delete(image: &[u8], g: Geometry, n: usize, pebs: &[u32]) -> bool
     requires { Reported g n image.now pebs.now }
     ensures { result ≡ any_below n (λ (i : ℕ). is_internal 1 (copies (views_of g image.now) i)) }
 {
-    let mut i: usize = 0;
-    while i < n {
-        if to_delete_at(image, g, n, pebs, i) {
-            return true;
-        }
-        i += 1;
-    }
-    false
+    (0..n).any(|i| to_delete_at(image, g, n, pebs, i))
 }
 
 // Is the target absent, not free, or not 0xFF past its EC header?

@@ -1,13 +1,14 @@
 -- The end of a block's data, and what its copy and new header come to. Assumes nothing.
 use mathlib.Core.Path.{◌≡◌, refl, sym, ap, ◌∙◌}
-use mathlib.Core.Bool.{Bool, true, false, not, ◌&&◌, ◌||◌, cond}
-use mathlib.Core.List.{List, [], ◌∷◌, ◌++◌}
-use Prim.Native.Nat.{ℕ, suc, ◌+◌, ◌-◌, ◌*◌, ◌/◌, ◌≤◌, ◌<◌}
+use mathlib.Core.Bool.{Bool, true, false, ◌&&◌, cond, and-false}
+use mathlib.Core.List.{List, [], ◌∷◌}
+use Rattle.std.proofs.Common.{◌≢◌, MatchOption, Option, None, Some, unwrap_or, option_map}
+use Prim.Native.Nat.{ℕ, zero, suc, ◌+◌, ◌-◌, ◌*◌, ◌/◌, ◌≤◌, ◌<◌}
 use native.Mathlib.Omega.{arith}
 use borrow.Author.Tests.{eq-eqb, ne_eqb}
 use lib.Dec.{eqb}
 use lib.ListN.{length, take, drop, get_or, length-take}
-use lib.Seq.{take-suc, length-take-le, take-add, drop-drop}
+use lib.Seq.{take-add, drop-drop}
 use Rattle.base.specs.Lists.{part}
 use Rattle.crc32.specs.Crc.{crc_from, crc_of}
 use Rattle.crc32.proofs.Laws.{crc_from_append}
@@ -21,42 +22,43 @@ use Rattle.mover_rules.specs.Headers.{data_end, new_size, new_flag, new_crc, new
 use Rattle.mover_copy.specs.Examined.{Fits, damaged_as, examined, renewed_as}
 use Rattle.mover_copy.specs.declared.Examined.{Examined}
 
--- ---- the end of the data, from the last byte down
+-- ---- the end of the data, from the last byte that is not 0xFF
 
-ff_snoc : (l : List ℕ) → all_ff (l ++ (0xFF ∷ [])) ≡ all_ff l
+ff_each : (s : List ℕ) → ((k : ℕ) → k < length s → get_or s k 0 ≡ 0xFF) → all_ff s ≡ true
 unfolding all_ff
-ff_snoc [] = refl
-ff_snoc (b ∷ l) = rw (ff_snoc l)
+ff_each [] f = refl
+ff_each (b ∷ s) f = rw (f 0 (omega arith), ff_each s (λ k h. f (suc k) (omega arith)))
 
-ff_broken : (l : List ℕ) (b : ℕ) → (b ≡ 0xFF → ⊥) → all_ff (l ++ (b ∷ [])) ≡ false
+ff_broken : (s : List ℕ) (i : ℕ) → i < length s → get_or s i 0 ≢ 0xFF → all_ff s ≡ false
 unfolding all_ff
-ff_broken [] b n = rw (ne_eqb b 0xFF n)
-ff_broken (x ∷ l) b n = rw (ff_broken l b n) (go (eqb x 0xFF))
-  where
-    go : (a : Bool) → a && false ≡ false
-    go true = refl
-    go false = refl
+ff_broken [] i h n = absurd (omega arith)
+ff_broken (b ∷ s) zero h n = rw (ne_eqb b 0xFF n)
+ff_broken (b ∷ s) (suc i) h n = rw (ff_broken s i (omega arith) n, and-false (eqb b 0xFF))
 
-end_snoc : (l : List ℕ) → data_end (l ++ (0xFF ∷ [])) ≡ data_end l
-unfolding data_end all_ff
-end_snoc [] = refl
-end_snoc (b ∷ l) = rw (ff_snoc l, end_snoc l)
-
-end_broken : (l : List ℕ) (b : ℕ) → (b ≡ 0xFF → ⊥) → data_end (l ++ (b ∷ [])) ≡ suc (length l)
+end_of_none : (s : List ℕ) → ((k : ℕ) → k < length s → get_or s k 0 ≡ 0xFF) → data_end s ≡ 0
 unfolding data_end
-end_broken [] b n = rw (ff_broken [] b n)
-end_broken (x ∷ l) b n = rw (ff_broken (x ∷ l) b n, end_broken l b n)
+end_of_none [] f = refl
+end_of_none (b ∷ s) f = rw (ff_each (b ∷ s) f)
 
-module _ (s : List ℕ) (i : ℕ) (above : 0 < i) (within : i ≤ length s) where
-  last_byte : take i s ≡ take (i - 1) s ++ (get_or s (i - 1) 0 ∷ [])
-  last_byte = let e : i ≡ suc (i - 1) = omega arith in ap (λ (k : ℕ). take k s) e ∙ take-suc s (i - 1) 0 (omega arith)
+end_of_last : (s : List ℕ) (i : ℕ) → i < length s → get_or s i 0 ≢ 0xFF
+    → ((k : ℕ) → i < k → k < length s → get_or s k 0 ≡ 0xFF) → data_end s ≡ i + 1
+unfolding data_end
+end_of_last [] i h n f = absurd (omega arith)
+end_of_last (b ∷ s) zero h n f =
+    rw (ff_broken (b ∷ s) 0 h n, end_of_none s (λ k l. f (suc k) (omega arith) (omega arith)))
+end_of_last (b ∷ s) (suc i) h n f =
+    let e : data_end s ≡ i + 1 = end_of_last s i (omega arith) n (λ k l m. f (suc k) (omega arith) (omega arith)) in
+    rw (ff_broken (b ∷ s) (suc i) h n, e) (omega arith)
 
-  pub end_go : get_or s (i - 1) 0 ≡ 0xFF → data_end (take (i - 1) s) ≡ data_end (take i s)
-  end_go e = rw (last_byte, e) (sym (end_snoc (take (i - 1) s)))
+-- the place of the last byte that is not 0xFF, if there is one
+abbrev pub IsLast : List ℕ → Option ℕ → Type 0
+IsLast s last = MatchOption last ((k : ℕ) → k < length s → get_or s k 0 ≡ 0xFF)
+    (λ i. (i < length s) × (get_or s i 0 ≢ 0xFF) × ((k : ℕ) → i < k → k < length s → get_or s k 0 ≡ 0xFF))
 
-  pub end_stop : (get_or s (i - 1) 0 ≡ 0xFF → ⊥) → i ≡ data_end (take i s)
-  end_stop n = rw last_byte (sym
-      (end_broken (take (i - 1) s) (get_or s (i - 1) 0) n ∙ rw (length-take-le (i - 1) s (omega arith)) (omega arith)))
+pub end_found : (s : List ℕ) (last : Option ℕ) → IsLast s last
+    → data_end s ≡ unwrap_or (option_map (λ i. i + 1) last) 0
+end_found s None f = end_of_none s f
+end_found s (Some i) f = end_of_last s i f.0 f.1 f.2
 
 -- a block is all 0xFF where its data end at 0
 pub clean_end : (l : List ℕ) → all_ff l ≡ eqb (data_end l) 0
@@ -79,26 +81,6 @@ crc_goes_on p at from to h e q =
     rw (d, e, ← drop-drop from at p) at q
     ∙ sym (crc_from_append 0xFFFFFFFF (part at from p) (part from (to - from) (drop at p)))
     ∙ ap crc_of (sym (take-add from (to - from) (drop at p)) ∙ rw s)
-
-module _ (h : VidHeader) {m : Bool} where
-  pub matching : m ≡ true → false ≡ damaged_as h m
-  matching e = rw e (go (eqb h.copy_flag 0) (eqb h.vol_type 2))
-    where
-      go : (f s : Bool) → false ≡ not (f || true) || (s && false)
-      go true true = refl
-      go true false = refl
-      go false true = refl
-      go false false = refl
-
-  pub flagged : m ≡ false → (h.copy_flag ≡ 0 → ⊥) → true ≡ damaged_as h m
-  flagged e n = rw (e, ne_eqb h.copy_flag 0 n)
-
-  pub plain : m ≡ false → h.copy_flag ≡ 0 → eqb h.vol_type 2 ≡ damaged_as h m
-  plain e f = rw (e, eq-eqb h.copy_flag 0 f) (go (eqb h.vol_type 2))
-    where
-      go : (s : Bool) → s ≡ s && true
-      go true = refl
-      go false = refl
 
 -- ---- the new data size
 

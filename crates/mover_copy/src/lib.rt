@@ -13,7 +13,7 @@ ghost use Rattle.mover_copy.specs.Examined.{Fits, damaged_as, examined, renewed_
 use geometry::Geometry;
 use header::{STATIC, VidHeader};
 
-// What the data of a copy say.
+// What the data of a copy say. A flag beside the rest, since `examine` promises that of a damaged copy too.
 #[derive(Clone, Copy)]
 pub struct Examined {
     // is it unsound, or static with a wrong data CRC?
@@ -35,14 +35,7 @@ struct Crcs {
 pub fn data_end(s: &[u8]) -> usize
     ensures { (result ≡ data_end s.now) × (result ≤ length s.now) }
 {
-    let mut i = s.len();
-    while 0 < i {
-        if s[i - 1] != 0xFF {
-            return i;
-        }
-        i -= 1;
-    }
-    0
+    s.iter().rposition(|b| *b != 0xFF).map_or(0, |i| i + 1)
 }
 
 // The bytes of a dynamic copy that are worth moving: all up to the last that is not 0xFF, in whole units.
@@ -104,13 +97,7 @@ fn both_crcs(p: &[u8], g: Geometry, old: u32, new: u32) -> Crcs
 fn is_damaged(h: VidHeader, matches: bool) -> bool
     ensures { result ≡ damaged_as h matches }
 {
-    if matches {
-        return false;
-    }
-    if h.copy_flag != 0 {
-        return true;
-    }
-    h.vol_type == STATIC
+    !matches && (h.copy_flag != 0 || h.vol_type == STATIC)
 }
 
 // What the data of the copy with the header h say.

@@ -4,16 +4,15 @@
 ghost use Rattle.std.specs.Prelude.{◌≡◌, ◌+◌, ◌-◌, ◌*◌, ◌<◌, min};
 ghost use Rattle.job.specs.Write.{peb_start};
 ghost use Rattle.mover_rules.specs.Write.{data_steps};
-ghost use Rattle.mover_rules.specs.Running.{Measured, Running};
+ghost use Rattle.mover_rules.specs.Running.{Running};
 ghost use Rattle.mover_next.specs.Upcoming.{next_write};
 ghost use Rattle.mover_next.specs.declared.NextWrite.TheVariants.{Store};
 
-use geometry::{Geometry, GeometryRead};
 use mover_rules::Plan;
-use mover_steps::{data_steps, may_run, peb_start, unit_length};
+use mover_steps::{MeasuredPlan, data_steps, peb_start, unit_length};
 
 // The write of a plan's next step: from which byte of the image on, and how many; nothing when all steps are done;
-// refusal 18.
+// refusal 18. Four cases, of which two have values.
 #[derive(Clone, Copy)]
 pub enum NextWrite {
     Store { at: usize, length: usize },
@@ -26,11 +25,12 @@ pub enum NextWrite {
 const HEADER_SIZE: usize = 64;
 
 // Unit j of the data.
-fn next_unit(plan: Plan, g: Geometry, j: u32, image: &[u8]) -> NextWrite
-    requires { (Running g plan image.now) × (j < data_steps plan) }
-    ensures { result ≡ Store (peb_start g plan.target + (g.data_start + j * g.unit))
-        (min plan.unit (plan.vid.data_size - j * g.unit)) }
+fn next_unit(m: MeasuredPlan, j: u32, image: &[u8]) -> NextWrite
+    requires { (Running m.geometry m.plan image.now) × (j < data_steps m.plan) }
+    ensures { result ≡ Store (peb_start m.geometry m.plan.target + (m.geometry.data_start + j * m.geometry.unit))
+        (min m.plan.unit (m.plan.vid.data_size - j * m.geometry.unit)) }
 {
+    let MeasuredPlan { plan, geometry: g } = m;
     let done = j as usize * g.unit as usize;
     let at = peb_start(g, plan.target) + (g.data_start as usize + done);
     NextWrite::Store {
@@ -40,13 +40,13 @@ fn next_unit(plan: Plan, g: Geometry, j: u32, image: &[u8]) -> NextWrite
 }
 
 // The next write where the geometry is known.
-fn next_measured(plan: Plan, g: Geometry, image: &[u8]) -> NextWrite
-    requires { Measured g plan }
-    ensures { result ≡ next_write plan image.now }
+fn next_measured(m: MeasuredPlan, image: &[u8]) -> NextWrite
+    ensures { result ≡ next_write m.plan image.now }
 {
-    if !may_run(plan, g, image) {
+    if !m.may_run(image) {
         return NextWrite::Refused;
     }
+    let MeasuredPlan { plan, geometry: g } = m;
     if plan.steps == 0 {
         return NextWrite::Store {
             at: peb_start(g, plan.target) + g.vid_start as usize,
@@ -56,7 +56,7 @@ fn next_measured(plan: Plan, g: Geometry, image: &[u8]) -> NextWrite
     let j = plan.steps - 1;
     let k = data_steps(plan);
     if j < k {
-        return next_unit(plan, g, j, image);
+        return next_unit(m, j, image);
     }
     let at = peb_start(g, plan.old);
     if j == k {
@@ -78,10 +78,8 @@ fn next_measured(plan: Plan, g: Geometry, image: &[u8]) -> NextWrite
 pub fn next_write(plan: Plan, image: &[u8]) -> NextWrite
     ensures { result ≡ next_write plan image.now }
 {
-    let r = geometry::check_geometry(plan.peb_size, plan.unit, plan.sub_unit);
-    match r {
-        GeometryRead::Good(g) => return next_measured(plan, g, image),
-        GeometryRead::Malformed => return NextWrite::Refused,
-        GeometryRead::Outside => return NextWrite::Refused,
+    match MeasuredPlan::new(plan) {
+        Some(m) => next_measured(m, image),
+        None => NextWrite::Refused,
     }
 }

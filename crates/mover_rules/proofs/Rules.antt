@@ -8,7 +8,7 @@ use native.Mathlib.Omega.{arith}
 use lib.Dec.{eqb}
 use lib.ListN.{length, get_or}
 use borrow.Author.Tests.{ltb-true, leb-true, eqb-false, not-true}
-use Rattle.base.specs.Answers.{Answer, given, refused, all_of}
+use Rattle.base.specs.Answers.{Answer, given, all_of}
 use Rattle.base.proofs.Answers.{each_holds, cond_yes, refused_not}
 use Rattle.geometry.specs.Geometry.{geometry_rules, geometry_of, make_geometry}
 use Rattle.geometry.specs.declared.Geometry.{Geometry}

@@ -1,5 +1,5 @@
 -- 01 'Refusal numbers', 13 to 17, and the beginning of a move. Assumes nothing.
-use Rattle.std.specs.Prelude.{ℕ, ◌-◌, ◌^◌, Bool, false, not, ◌&&◌, ◌||◌, cond, List, [], ◌∷◌, eqb, ltb}
+use Rattle.std.specs.Prelude.{ℕ, ◌-◌, ◌^◌, Bool, false, not, ◌&&◌, ◌||◌, cond, List, [], ◌∷◌, eqb, ltb, Result, Ok, Err}
 use Rattle.std.proofs.Math.Option.{Option, none, some}
 use Rattle.base.specs.Answers.{Answer, given, refused}
 use Rattle.base.specs.Below.{any_below}
@@ -11,8 +11,7 @@ use Rattle.report.specs.Report.{highest_of, is_internal, read_only_of, class_at,
 use Rattle.report.specs.Attach.{AttachRequest, Outcome, early, late, whole, attaching}
 use Rattle.mover_rules.specs.Headers.{is_static, new_vid, old_counter, new_ec}
 use Rattle.mover_rules.specs.declared.Plan.{Plan}
-use Rattle.mover_rules.specs.declared.Begun.{Begun}
-use Rattle.mover_rules.specs.declared.Begun.TheVariants.{Planned, Refused}
+use Rattle.report.specs.declared.Refused.{Refused}
 
 -- is the LEB in the map?
 abbrev pub is_in : ℕ → ℕ → List Entry → Bool
@@ -82,6 +81,6 @@ unfoldable pub beginning : AttachRequest → List ℕ → (ℕ → Bool) → ℕ
 beginning req image room v l t = begin_on (attaching req image room) v l t
 
 -- what each case of the answer is in 01
-abbrev pub begun_answer : Begun → Answer Plan
-begun_answer (Planned p) = given p
-begun_answer (Refused k q) = refused k q
+abbrev pub begun_answer : Result Plan Refused → Answer Plan
+begun_answer (Ok p) = given p
+begun_answer (Err e) = refused e.number e.place

@@ -1,5 +1,5 @@
--- What is known of a plan whose steps may run on an image; contracts of inner functions ask for it, and no public
--- promise does. Assumes nothing.
+-- What is known of a plan whose steps may run on an image: `mover_steps::MeasuredPlan` holds the first record, and
+-- contracts of inner functions ask for the second; `step`, `finish` and `next_write` name neither. Assumes nothing.
 use Rattle.std.specs.Prelude.{◌≡◌, true, ◌≢◌, List, ℕ, ◌+◌, ◌*◌, ◌≤◌, ◌<◌, length}
 use Rattle.base.specs.Answers.{all_of}
 use Rattle.geometry.specs.Geometry.{geometry_rules}

@@ -21,14 +21,7 @@ pub struct Plan {
     pub steps: u32,
 }
 
-// A plan, or a refusal's number and place.
-#[derive(Clone, Copy)]
-pub enum Begun {
-    Planned(Plan),
-    Refused { number: u32, place: u32 },
-}
-
-// The plan as it goes on, done, or refusal 18.
+// The plan as it goes on, done, or refusal 18: three cases, of which one has a value.
 #[derive(Clone, Copy)]
 pub enum Stepped {
     On(Plan),

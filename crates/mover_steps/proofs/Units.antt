@@ -31,15 +31,6 @@ module _ (g : Geometry) (p : Plan) (image : List ℕ) (r : Running g p image) (j
   abbrev at : ℕ
   at = g.data_start + j * g.unit
 
-  pub at_within : at ≤ 262144
-  at_within = omega (
-    arith,
-    unit_within g p image r j h,
-    r.size_fits,
-    r.measured.placed.leb_fills,
-    r.measured.placed.peb_most,
-  )
-
   module _ {f t n : ℕ} (is_f : f ≡ p.old * g.peb_size) (is-t : t ≡ p.target * g.peb_size)
       (is-n : n ≡ min p.unit (size - j * g.unit)) where
     end_within : at + n ≤ g.peb_size

@@ -15,14 +15,21 @@ use Rattle.job.specs.Write.{Write, applied_whole, peb_start}
 use Rattle.job.specs.Relocation.{relocating}
 use Rattle.job.specs.Job.{on, done, step_write, step_answer, stepping}
 use Rattle.job.proofs.Relocated.{vid_write, unit_write, erase_write, ec_write}
-use Rattle.mover_rules.specs.Write.{plan_geometry, data_steps, step_count, unit_bytes, relocation, write_after}
+use Rattle.mover_rules.specs.Write.{data_steps, step_count, unit_bytes, relocation, write_after}
 use Rattle.mover_rules.specs.Step.{runnable, one_on, mover_job}
 use Rattle.mover_rules.specs.declared.Plan.{Plan}
 use Rattle.mover_rules.proofs.Steps.{mover_lawful}
+use Rattle.mover_steps.specs.declared.steps.MeasuredPlan.{MeasuredPlan}
 
 -- ---- the write, where one is left
 
-module _ (g : Geometry) (p : Plan) (is : g ≡ plan_geometry p) (image : List ℕ) where
+module _ (m : MeasuredPlan) (image : List ℕ) where
+  abbrev g : Geometry
+  g = m.geometry
+
+  abbrev p : Plan
+  p = m.plan
+
   -- the image after it
   abbrev pub Left : List ℕ → Type 0
   Left y = y ≡ applied_whole (write_after p image p.steps) image
@@ -30,7 +37,7 @@ module _ (g : Geometry) (p : Plan) (is : g ≡ plan_geometry p) (image : List �
   pub after : {w : Write} (k : ℕ) → p.steps ≡ k → relocating g (relocation p image) k ≡ w
       → write_after p image p.steps ≡ w
   unfolding write_after
-  after k h e = ap (write_after p image) h ∙ (λ i. relocating (sym is i) (relocation p image) k) ∙ e
+  after k h e = ap (write_after p image) h ∙ (λ i. relocating (sym m.measured.is i) (relocation p image) k) ∙ e
 
   by : {y : List ℕ} (k : ℕ) (w : Write) → p.steps ≡ k → relocating g (relocation p image) k ≡ w
       → y ≡ applied_whole w image → Left y

@@ -5,4 +5,4 @@ mod step_finish;
 mod steps;
 
 pub use step_finish::finish;
-pub use steps::{data_steps, may_run, peb_start, step, unit_length};
+pub use steps::{MeasuredPlan, data_steps, peb_start, step, unit_length};

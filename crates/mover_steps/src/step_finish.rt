@@ -12,9 +12,9 @@ pub fn finish(plan: Plan, image: &mut [u8]) -> Stepped
     ensures image { image.new ≡ (finishing mover_job plan image.old).image }
 {
     let mut p = plan;
+    // `loop`: each step says whether it was the last.
     loop {
-        let s = step(p, image);
-        match s {
+        match step(p, image) {
             Stepped::On(next) => p = next,
             Stepped::Done => return Stepped::Done,
             Stepped::Refused => return Stepped::Refused,

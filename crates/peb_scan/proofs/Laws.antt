@@ -1,14 +1,14 @@
 -- Laws of what is seen of a PEB. Assumes nothing.
 use mathlib.Core.Path.{◌≡◌, refl, sym, ap, ◌∙◌}
-use mathlib.Core.Bool.{Bool, true, false, ◌&&◌, cond}
+use mathlib.Core.Bool.{Bool, true, false, cond}
 use mathlib.Core.List.{List, [], ◌∷◌}
-use Prim.Native.Nat.{ℕ, ◌+◌, ◌≤◌, ◌<◌}
-use native.Mathlib.Numerals.{add-one}
+use Prim.Native.Nat.{ℕ, ◌≤◌}
 use native.Mathlib.Omega.{arith}
-use borrow.Author.Tests.{eq-eqb, ne_eqb, eqb-true, le-ltb}
+use borrow.Author.Tests.{ne_eqb, eqb-true, le-ltb}
 use lib.Dec.{eqb}
-use lib.ListN.{length, take, drop, get_or}
-use lib.Seq.{drop-cons, drop-length}
+use lib.ListN.{length, take}
+use Rattle.std.specs.Prelude.{Result, Ok, Err}
+use Rattle.std.specs.List.{list_all}
 use Rattle.base.specs.Answers.{Answer, given, refused}
 use Rattle.base.specs.Lists.{part, eqs}
 use Rattle.base.proofs.Answers.{and_left, not_so}
@@ -16,30 +16,23 @@ use Rattle.base.proofs.Lists.{length_part}
 use Rattle.header.specs.Fields.{Verdict, good, bad, newer, verdict_answer, lent_header}
 use Rattle.header.specs.Ec.{read_ec, ec_read, ec_answer}
 use Rattle.header.specs.Vid.{read_vid, vid_read, vid_answer}
+use Rattle.header.specs.declared.EcHeader.{EcHeader}
 use Rattle.header.specs.declared.VidHeader.{VidHeader}
-use Rattle.header.specs.declared.EcRead.{EcRead}
-use Rattle.header.specs.declared.EcRead.TheVariants as ec
-use Rattle.header.specs.declared.VidRead.{VidRead}
-use Rattle.header.specs.declared.VidRead.TheVariants as vid
+use Rattle.header.specs.declared.ReadError.{ReadError}
+use Rattle.header.specs.declared.ReadError.TheVariants.{Newer, Short, Bad}
 use Rattle.geometry.specs.Placed.{Placed}
 use Rattle.geometry.specs.declared.Geometry.{Geometry}
-use Rattle.report.specs.View.{all_ff, ec_good, ec_newer, ec_blank, ec_lost, vid_good, vid_newer, vid_blank, vid_bad, ec_of, vid_of, copy_of, vid_part, EcView, VidView}
+use Rattle.report.specs.View.{all_ff, ec_blank, ec_lost, vid_blank, vid_bad, ec_of, vid_of, vid_part}
+use Rattle.peb_scan.specs.Seen.{ec_seen, vid_seen, no_header}
+use Rattle.peb_scan.specs.declared.NoHeader.{NoHeader}
+use Rattle.peb_scan.specs.declared.NoHeader.TheVariants as no
 
 -- ---- all 0xFF
 
-ff_step : (s : List ℕ) (i : ℕ) → i < length s → all_ff (drop i s) ≡ eqb (get_or s i 0) 0xFF && all_ff (drop (i + 1) s)
+pub ff_is : (s : List ℕ) → list_all (λ b. eqb b 0xFF) s ≡ all_ff s
 unfolding all_ff
-ff_step s i h = rw (drop-cons s i 0, add-one)
-
-pub ff_go : (s : List ℕ) (i : ℕ) → i < length s → get_or s i 0 ≡ 0xFF → all_ff (drop i s) ≡ all_ff (drop (i + 1) s)
-ff_go s i h e = ff_step s i h ∙ rw (eq-eqb _ _ e)
-
-pub ff_stop : (s : List ℕ) (i : ℕ) → i < length s → (get_or s i 0 ≡ 0xFF → ⊥) → all_ff (drop i s) ≡ false
-ff_stop s i h n = ff_step s i h ∙ rw (ne_eqb _ _ n)
-
-pub ff_end : (s : List ℕ) → all_ff (drop (length s) s) ≡ true
-unfolding all_ff
-ff_end s = rw drop-length
+ff_is [] = refl
+ff_is (b ∷ s) = rw (ff_is s)
 
 -- a blank header has no magic
 ff_magic : (s : List ℕ) (a b c d : ℕ) → (0xFF ≡ a → ⊥) → 4 ≤ length s → all_ff s ≡ true
@@ -100,38 +93,38 @@ module _ {A T : Type 0} (s : List ℕ) (l : length s ≡ 64) (v : Verdict A) (ff
   not_short : {B : Type 0} → refused 4 0 ≡ lent_header v s → B
   not_short e = absurd (not_four v (e ∙ lent_is))
 
--- what the reader's answer about a header, and whether it is all 0xFF, say of the view
-abbrev pub ec_from : Bool → EcRead → EcView
-ec_from b (ec.Good h) = ec_good h
-ec_from b ec.Newer = ec_newer
-ec_from b ec.Lost = cond b ec_blank ec_lost
-ec_from b ec.Short = ec_lost
+-- what is seen, from the reader's answer: in place of its error, what stands in the bytes
+abbrev pub seen_from : {A : Type 0} → List ℕ → Result A ReadError → Result A NoHeader
+seen_from s (Ok h) = Ok h
+seen_from s (Err e) = Err (no_header e s)
 
-pub ec_from_lem : (s : List ℕ) → length s ≡ 64 → (r : EcRead) → ec_answer r ≡ ec_read s
-    → ec_from (all_ff s) r ≡ cond (all_ff s) ec_blank (ec_of (read_ec s))
+ec_or_lost : (b : Bool) → ec_seen (Err (cond b no.Blank no.Bad)) ≡ cond b ec_blank ec_lost
+ec_or_lost true = refl
+ec_or_lost false = refl
+
+pub ec_from_lem : (s : List ℕ) → length s ≡ 64 → (r : Result EcHeader ReadError) → ec_answer r ≡ ec_read s
+    → ec_seen (seen_from s r) ≡ cond (all_ff s) ec_blank (ec_of (read_ec s))
 unfolding ec_read
-ec_from_lem s l (ec.Good h) e = seen_good s l (read_ec s) (ff_ec s l) ec_of ec_blank h e
-ec_from_lem s l ec.Newer e = seen_newer s l (read_ec s) (ff_ec s l) ec_of ec_blank e
-ec_from_lem s l ec.Lost e = seen_bad s l (read_ec s) (ff_ec s l) ec_of ec_blank e
-ec_from_lem s l ec.Short e = not_short s l (read_ec s) (ff_ec s l) ec_of ec_blank e
+ec_from_lem s l (Ok h) e = seen_good s l (read_ec s) (ff_ec s l) ec_of ec_blank h e
+ec_from_lem s l (Err Newer) e = seen_newer s l (read_ec s) (ff_ec s l) ec_of ec_blank e
+ec_from_lem s l (Err Bad) e = ec_or_lost (all_ff s) ∙ seen_bad s l (read_ec s) (ff_ec s l) ec_of ec_blank e
+ec_from_lem s l (Err Short) e = not_short s l (read_ec s) (ff_ec s l) ec_of ec_blank e
 
 module _ (g : Geometry) (p : List ℕ) where
   abbrev read_as : List ℕ → Verdict VidHeader
   read_as = read_vid g.leb_size
 
-  abbrev pub vid_from : Bool → VidRead → VidView
-  vid_from b (vid.Good h) = vid_good (copy_of g p h)
-  vid_from b vid.Newer = vid_newer
-  vid_from b vid.Bad = cond b vid_blank vid_bad
-  vid_from b vid.Short = vid_bad
+  vid_or_bad : (b : Bool) → vid_seen g p (Err (cond b no.Blank no.Bad)) ≡ cond b vid_blank vid_bad
+  vid_or_bad true = refl
+  vid_or_bad false = refl
 
-  pub vid_from_lem : (s : List ℕ) → length s ≡ 64 → (r : VidRead) → vid_answer r ≡ vid_read g.leb_size s
-      → vid_from (all_ff s) r ≡ cond (all_ff s) vid_blank (vid_of g p (read_as s))
+  pub vid_from_lem : (s : List ℕ) → length s ≡ 64 → (r : Result VidHeader ReadError) → vid_answer r ≡ vid_read g.leb_size s
+      → vid_seen g p (seen_from s r) ≡ cond (all_ff s) vid_blank (vid_of g p (read_as s))
   unfolding vid_read
-  vid_from_lem s l (vid.Good h) e = seen_good s l (read_as s) (ff_vid g.leb_size s l) (vid_of g p) vid_blank h e
-  vid_from_lem s l vid.Newer e = seen_newer s l (read_as s) (ff_vid g.leb_size s l) (vid_of g p) vid_blank e
-  vid_from_lem s l vid.Bad e = seen_bad s l (read_as s) (ff_vid g.leb_size s l) (vid_of g p) vid_blank e
-  vid_from_lem s l vid.Short e = not_short s l (read_as s) (ff_vid g.leb_size s l) (vid_of g p) vid_blank e
+  vid_from_lem s l (Ok h) e = seen_good s l (read_as s) (ff_vid g.leb_size s l) (vid_of g p) vid_blank h e
+  vid_from_lem s l (Err Newer) e = seen_newer s l (read_as s) (ff_vid g.leb_size s l) (vid_of g p) vid_blank e
+  vid_from_lem s l (Err Bad) e = vid_or_bad (all_ff s) ∙ seen_bad s l (read_as s) (ff_vid g.leb_size s l) (vid_of g p) vid_blank e
+  vid_from_lem s l (Err Short) e = not_short s l (read_as s) (ff_vid g.leb_size s l) (vid_of g p) vid_blank e
 
 -- the headers of a whole PEB have their 64 bytes
 module _ {g : Geometry} (o : Placed g) (p : List ℕ) (whole : length p ≡ g.peb_size) where

@@ -9,21 +9,21 @@ ghost use Rattle.report.specs.Report.{counter_or};
 ghost use Rattle.report.specs.Scratch.{copy_words, key_words};
 ghost use Rattle.peb_scan.specs.Seen.{ec_seen, vid_seen, small_counter};
 
+use crate::NoHeader;
 use crate::headers::is_mappable;
-use crate::{EcSeen, VidSeen};
-use header::{COMPAT_DELETE, VidHeader};
+use header::{COMPAT_DELETE, EcHeader, VidHeader};
 use report::class;
 use words::{NO_WORD, store_entry};
 
 // The class before any copy is chosen.
-pub fn first_class(e: EcSeen, v: VidSeen) -> u32
+#[tactic(auto, unfolding(report::specs::View::copy_of))]
+pub fn first_class(e: Result<EcHeader, NoHeader>, v: Result<VidHeader, NoHeader>) -> u32
     ensures { (g : Geometry) (p : List ℕ) → result ≡ first_class (ec_seen e) (vid_seen g p v) }
 {
     match v {
-        VidSeen::Good(h) => return good_class(h),
-        VidSeen::Newer => return class::UNREADABLE,
-        VidSeen::Bad => return class::UNREADABLE,
-        VidSeen::Blank => return blank_class(e),
+        Ok(h) => good_class(h),
+        Err(NoHeader::Blank) => blank_class(e),
+        Err(_) => class::UNREADABLE,
     }
 }
 
@@ -41,14 +41,13 @@ fn good_class(h: VidHeader) -> u32
 }
 
 // The class of a block whose VID header is blank.
-fn blank_class(e: EcSeen) -> u32
+fn blank_class(e: Result<EcHeader, NoHeader>) -> u32
     ensures { result ≡ first_class (ec_seen e) vid_blank }
 {
     match e {
-        EcSeen::Good(_) => return class::FREE,
-        EcSeen::Blank => return class::BLANK,
-        EcSeen::Newer => return class::UNREADABLE,
-        EcSeen::Lost => return class::UNREADABLE,
+        Ok(_) => class::FREE,
+        Err(NoHeader::Blank) => class::BLANK,
+        Err(_) => class::UNREADABLE,
     }
 }
 
@@ -60,29 +59,26 @@ pub fn is_idle(peb_class: u32) -> bool
 }
 
 // The counter's word.
-pub fn first_counter(e: EcSeen) -> u32
+pub fn first_counter(e: Result<EcHeader, NoHeader>) -> u32
     requires { small_counter (ec_seen e) }
     ensures { result ≡ counter_or no_word (good_ec (ec_seen e)) }
 {
     match e {
-        EcSeen::Good(h) => return h.counter as u32,
-        EcSeen::Newer => return NO_WORD,
-        EcSeen::Blank => return NO_WORD,
-        EcSeen::Lost => return NO_WORD,
+        Ok(h) => h.counter as u32,
+        Err(_) => NO_WORD,
     }
 }
 
 // The volume, LEB and PEB of a copy, or no words.
-pub fn store_key(map: &mut [u32], i: usize, v: VidSeen)
+#[tactic(auto, unfolding(report::specs::View::copy_of))]
+pub fn store_key(map: &mut [u32], i: usize, v: Result<VidHeader, NoHeader>)
     requires { (i < most_pebs) × HasEntry map.old i }
     ensures { (g : Geometry) (p : List ℕ)
         → map.new ≡ put (i * entry_stride) (key_words i (vid_seen g p v)) map.old }
 {
     match v {
-        VidSeen::Good(h) => store_header(map, i, h),
-        VidSeen::Newer => store_entry(map, i, NO_WORD, NO_WORD, NO_WORD),
-        VidSeen::Blank => store_entry(map, i, NO_WORD, NO_WORD, NO_WORD),
-        VidSeen::Bad => store_entry(map, i, NO_WORD, NO_WORD, NO_WORD),
+        Ok(h) => store_header(map, i, h),
+        Err(_) => store_entry(map, i, NO_WORD, NO_WORD, NO_WORD),
     }
 }
 

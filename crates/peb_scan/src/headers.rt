@@ -1,76 +1,49 @@
 // The two headers of a PEB.
-ghost use Rattle.std.specs.Prelude.{◌≡◌, not, ◌&&◌, cond, List, ℕ, eqb, length};
+ghost use Rattle.std.specs.Prelude.{◌≡◌, not, ◌&&◌, eqb, length};
 ghost use Rattle.geometry.specs.Placed.{Placed};
-ghost use Rattle.geometry.specs.declared.Geometry.{Geometry};
-ghost use Rattle.report.specs.View.{all_ff, is_mappable, view_of, ec_blank, ec_lost, vid_blank, vid_bad};
-ghost use Rattle.peb_scan.specs.Seen.{ec_seen, vid_seen};
+ghost use Rattle.report.specs.View.{all_ff, is_mappable, view_of};
+ghost use Rattle.peb_scan.specs.Seen.{ec_seen, vid_seen, no_header};
 
-use crate::{EcSeen, VidSeen};
+use crate::NoHeader;
 use geometry::Geometry;
-use header::{EcRead, LAYOUT_VOLUME, VidHeader, VidRead};
+use header::{EcHeader, LAYOUT_VOLUME, ReadError, VidHeader};
 
 // Is every byte 0xFF?
+#[tactic(auto, using(crate::proofs::Laws::ff_is))]
 pub fn all_ff(s: &[u8]) -> bool
     ensures { result ≡ all_ff s.now }
 {
-    let mut i: usize = 0;
-    while i < s.len() {
-        if s[i] != 0xFF {
-            return false;
-        }
-        i += 1;
-    }
-    true
+    s.iter().all(|b| *b == 0xFF)
 }
 
 // The EC header of the PEB with the bytes p.
-pub fn see_ec(p: &[u8], g: Geometry) -> EcSeen
+pub fn see_ec(p: &[u8], g: Geometry) -> Result<EcHeader, NoHeader>
     requires { (Placed g) × (length p.now ≡ g.peb_size) }
     ensures { ec_seen result ≡ (view_of g p.now).ec }
 {
     let s = &p[0..64];
-    let r = ec_header::read_ec(s);
-    match r {
-        EcRead::Good(h) => return EcSeen::Good(h),
-        EcRead::Newer => return EcSeen::Newer,
-        EcRead::Lost => return blank_or_lost(s),
-        EcRead::Short => return EcSeen::Lost,
-    }
+    ec_header::read_ec(s).map_err(|e| no_header(e, s))
 }
 
-// A header that is not good: all 0xFF, or not.
-fn blank_or_lost(s: &[u8]) -> EcSeen
-    ensures { ec_seen result ≡ cond (all_ff s.now) ec_blank ec_lost }
+// What stands where the reader finds no good header.
+fn no_header(e: ReadError, s: &[u8]) -> NoHeader
+    ensures { result ≡ no_header e s.now }
 {
-    if all_ff(s) {
-        return EcSeen::Blank;
+    match e {
+        ReadError::Newer => NoHeader::Newer,
+        ReadError::Bad if all_ff(s) => NoHeader::Blank,
+        ReadError::Bad | ReadError::Short => NoHeader::Bad,
     }
-    EcSeen::Lost
 }
 
 // The VID header of the PEB with the bytes p.
-pub fn see_vid(p: &[u8], g: Geometry) -> VidSeen
+pub fn see_vid(p: &[u8], g: Geometry) -> Result<VidHeader, NoHeader>
     requires { (Placed g) × (length p.now ≡ g.peb_size) }
     ensures { vid_seen g p.now result ≡ (view_of g p.now).vid }
 {
     let at = g.vid_start as usize;
     let s = &p[at..at + 64];
-    let r = vid_header::read_vid(s, g.leb_size);
-    match r {
-        VidRead::Good(h) => return VidSeen::Good(h),
-        VidRead::Newer => return VidSeen::Newer,
-        VidRead::Bad => return blank_or_bad(s),
-        VidRead::Short => return VidSeen::Bad,
-    }
-}
-
-fn blank_or_bad(s: &[u8]) -> VidSeen
-    ensures { (g : Geometry) (p : List ℕ) → vid_seen g p result ≡ cond (all_ff s.now) vid_blank vid_bad }
-{
-    if all_ff(s) {
-        return VidSeen::Blank;
-    }
-    VidSeen::Bad
+    vid_header::read_vid(s, g.leb_size).map_err(|e| no_header(e, s))
 }
 
 // Is the volume a user volume or the layout volume?
@@ -84,8 +57,5 @@ pub fn is_mappable(volume: u32) -> bool
 pub fn is_internal(h: VidHeader, compat: u8) -> bool
     ensures { result ≡ (not (is_mappable h.volume) && eqb h.compat compat) }
 {
-    if is_mappable(h.volume) {
-        return false;
-    }
-    h.compat == compat
+    !is_mappable(h.volume) && h.compat == compat
 }

@@ -5,22 +5,11 @@ mod first_words;
 mod headers;
 
 pub use first_words::{first_class, first_counter, is_idle, store_key};
-use header::{EcHeader, VidHeader};
 pub use headers::{is_internal, is_mappable, see_ec, see_vid};
 
-// What an EC header is.
+// What stands where no good header is: a newer one, all 0xFF, or neither (an EC header is lost then).
 #[derive(Clone, Copy)]
-pub enum EcSeen {
-    Good(EcHeader),
-    Newer,
-    Blank,
-    Lost,
-}
-
-// What a VID header is.
-#[derive(Clone, Copy)]
-pub enum VidSeen {
-    Good(VidHeader),
+pub enum NoHeader {
     Newer,
     Blank,
     Bad,

@@ -7,11 +7,12 @@ ghost use Rattle.record_write.specs.Stores.{sizes_stored, kind_stored, name_stor
 
 use volume_record::{
     NAME_SIZE, RECORD_ALIGNMENT, RECORD_CRC, RECORD_DATA_PAD, RECORD_FLAGS, RECORD_MARKER,
-    RECORD_NAME, RECORD_NAME_LENGTH, RECORD_RESERVED, RECORD_SIZE, RECORD_TYPE, RecordWritten,
-    SUMMED_SIZE, VolumeRecord, field_of, set_field,
+    RECORD_NAME, RECORD_NAME_LENGTH, RECORD_RESERVED, RECORD_SIZE, RECORD_TYPE, SUMMED_SIZE,
+    ShortRecord, VolumeRecord, field_of, set_field,
 };
 
 // Reserved PEBs, alignment and data pad are stored.
+#[tactic(auto, unfolding(crate::specs::Stores::sizes_stored))]
 fn store_sizes(v: VolumeRecord, out: &mut [u8])
     requires { 172 ≤ length out.old }
     ensures { out.new ≡ sizes_stored v out.old }
@@ -22,6 +23,7 @@ fn store_sizes(v: VolumeRecord, out: &mut [u8])
 }
 
 // Type, update marker, name length and flags are stored.
+#[tactic(auto, unfolding(crate::specs::Stores::kind_stored))]
 fn store_kind(v: VolumeRecord, out: &mut [u8])
     requires { 172 ≤ length out.old }
     ensures { out.new ≡ kind_stored v out.old }
@@ -33,6 +35,7 @@ fn store_kind(v: VolumeRecord, out: &mut [u8])
 }
 
 // The name field is stored.
+#[tactic(auto, unfolding(crate::specs::Stores::name_stored))]
 fn store_name(name: [u8; NAME_SIZE], out: &mut [u8])
     requires { 172 ≤ length out.old }
     ensures { (out.new ≡ name_stored name out.old) × (length name ≡ 128) }
@@ -42,6 +45,7 @@ fn store_name(name: [u8; NAME_SIZE], out: &mut [u8])
 }
 
 // The CRC is stored.
+#[tactic(auto, unfolding(crate::specs::Stores::crc_stored))]
 fn store_crc(out: &mut [u8])
     requires { 172 ≤ length out.old }
     ensures { out.new ≡ crc_stored out.old }
@@ -50,13 +54,13 @@ fn store_crc(out: &mut [u8])
     set_field(out, RECORD_CRC, crc as u64)
 }
 
-// A record is written to the first 172 bytes, with its CRC and zero padding; Short is refusal 4.
-pub fn write_record(v: VolumeRecord, out: &mut [u8]) -> RecordWritten
+// A record is written to the first 172 bytes, with its CRC and zero padding.
+pub fn write_record(v: VolumeRecord, out: &mut [u8]) -> Result<(), ShortRecord>
     ensures answer { record_written result ≡ record_accepted out.old }
     ensures out { out.new ≡ record_out v out.old }
 {
     if out.len() < RECORD_SIZE {
-        return RecordWritten::Short;
+        return Err(ShortRecord);
     }
     base::fill(out, RECORD_SIZE, 0);
     store_sizes(v, out);
@@ -64,5 +68,5 @@ pub fn write_record(v: VolumeRecord, out: &mut [u8]) -> RecordWritten
     let name = v.name;
     store_name(name, out);
     store_crc(out);
-    RecordWritten::Done
+    Ok(())
 }

@@ -1,6 +1,6 @@
 -- 01 'The report' and 'Refusal numbers': what attaching answers, and what the lent tables hold afterwards. Assumes
 -- nothing.
-use Rattle.std.specs.Prelude.{ℕ, ◌-◌, ◌*◌, Bool, cond, List, [], ◌∷◌, ◌++◌, leb, length, drop, replicate}
+use Rattle.std.specs.Prelude.{ℕ, ◌-◌, ◌*◌, Bool, cond, List, [], ◌∷◌, ◌++◌, leb, length, drop, replicate, Result, Ok, Err}
 use Rattle.std.proofs.Math.Option.{Option, none, some}
 use Rattle.base.specs.Answers.{Answer, given, refused, all_of}
 use Rattle.base.specs.Lists.{table}
@@ -14,8 +14,9 @@ use Rattle.report.specs.Scan.{Refusal, image_seq_of}
 use Rattle.report.specs.Volumes.{Entry}
 use Rattle.report.specs.Report.{class_at, counter_at, entries, state_at, mean_of, highest_of, read_only_of, grade_of, taken, mark, refusal}
 use Rattle.report.specs.declared.Report.{Report}
-use Rattle.report.specs.declared.Attached.{Attached}
-use Rattle.report.specs.declared.Attached.TheVariants.{Given, Refused}
+use Rattle.report.specs.declared.Refused.{Refused}
+use Rattle.geometry.specs.declared.SlipError.{SlipError}
+use Rattle.geometry.specs.declared.SlipError.TheVariants.{Malformed, Outside}
 
 -- the lent tables: the words of the PEBs, of the map and of the volume states
 pub record Tables : Type 0 where
@@ -96,9 +97,14 @@ answer_of (late n r) = refused r.number r.place
 answer_of (whole m) = given (report_of m)
 
 -- what each case of the answer is in 01
-abbrev pub attached_answer : Attached → Answer Report
-attached_answer (Given r) = given r
-attached_answer (Refused k p) = refused k p
+abbrev pub attached_answer : Result Report Refused → Answer Report
+attached_answer (Ok r) = given r
+attached_answer (Err e) = refused e.number e.place
+
+-- refusals 1 and 2, as they leave a call that attaches or builds
+abbrev pub slip_refused : SlipError → Refused
+slip_refused Malformed = record { number = 1; place = 0 }
+slip_refused Outside = record { number = 2; place = 0 }
 
 -- lent words of which the first are given; "lent words .. beyond an answer .. never change"
 abbrev pub over : List ℕ → List ℕ → List ℕ

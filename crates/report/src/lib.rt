@@ -2,11 +2,14 @@
 // specs/ and proofs/.
 #![tactic(auto)]
 
+ghost use Rattle.std.specs.Prelude.{◌≡◌};
+ghost use Rattle.report.specs.Attach.{slip_refused};
+
 pub mod class;
 pub mod refusal;
 pub mod state;
 
-use geometry::Geometry;
+use geometry::{Geometry, SlipError};
 
 // The report's numbers; the classes, counters, map and volume states are in the lent tables. Geometry, PEB count and
 // image sequence are for callers that go on with the image.
@@ -26,9 +29,30 @@ pub struct Report {
     pub grade: u32,
 }
 
-// A report, or a refusal's number and place.
+// A refusal: its number, as in `refusal`, and its place. C may also lend a number that no refusal has, to have it
+// listed.
 #[derive(Clone, Copy)]
-pub enum Attached {
-    Given(Report),
-    Refused { number: u32, place: u32 },
+pub struct Refused {
+    pub number: u32,
+    pub place: u32,
+}
+
+impl From<SlipError> for Refused {
+    ghost from_gives = { λ e r. r ≡ slip_refused e };
+
+    fn from(e: SlipError) -> Refused {
+        match e {
+            SlipError::Malformed => Refused::unplaced(refusal::MALFORMED_SLIP),
+            SlipError::Outside => Refused::unplaced(refusal::BAD_GEOMETRY),
+        }
+    }
+}
+
+impl Refused {
+    // A refusal that names no PEB.
+    pub fn unplaced(number: u32) -> Refused
+        ensures { result ≡ record { number = number; place = 0 } }
+    {
+        Refused { number, place: 0 }
+    }
 }

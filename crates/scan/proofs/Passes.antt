@@ -3,12 +3,13 @@ use mathlib.Core.Path.{◌≡◌, refl, sym, ap, ◌∙◌}
 use mathlib.Core.Bool.{true, false, cond}
 use mathlib.Core.Option.{Option, none, some}
 use mathlib.Core.List.{List, ◌++◌}
-use Prim.Native.Nat.{ℕ, zero, suc, ◌+◌, ◌*◌, ◌-◌, ◌≤◌, ◌<◌}
+use Prim.Native.Nat.{ℕ, suc, ◌+◌, ◌*◌, ◌-◌, ◌≤◌, ◌<◌}
 use native.Mathlib.Numerals.{add-one}
 use native.Mathlib.Omega.{arith}
-use borrow.Author.Tests.{eqb-true, eqb-false, eq-eqb, ne_eqb}
+use borrow.Author.Tests.{eqb-true, eqb-false}
 use lib.Dec.{eqb}
 use lib.ListN.{take, drop}
+use Rattle.std.specs.Prelude.{Result, Ok, Err}
 use Rattle.base.specs.Below.{unless_zero, first_below}
 use Rattle.base.proofs.Answers.{by_test}
 use Rattle.base.proofs.Below.{zero_at, nonzero_keeps, first_is}
@@ -21,16 +22,14 @@ use Rattle.report.specs.View.{EcView, ec_good, ec_newer, ec_blank, ec_lost, View
 use Rattle.report.specs.Class.{is_unused}
 use Rattle.report.specs.Scan.{image_seq_or0, image_seq_of, seq_disagrees, ec_refusal, view_refusal, refusal5678}
 use Rattle.report.specs.Report.{counter_or, has_counter, highest_of, read_only_of}
-use Rattle.report.specs.Volumes.{or_zero}
 use Rattle.report.specs.Scratch.{key_words, keys_of}
 use Rattle.report.proofs.Words.{key_length}
 use Rattle.peb_scan.specs.Seen.{small_counter}
-use Rattle.scan.specs.Totals.{with_ec, with_vid}
-use Rattle.scan.specs.Pass.{TotalsOf, first_row, first_words_of, PebPassed, refused_at, Passed}
+use Rattle.scan.specs.Totals.{with_ec, with_vid, refusal_of}
+use Rattle.scan.specs.Pass.{TotalsOf, first_row, first_words_of, PebPassed, Passed}
 use Rattle.scan.specs.declared.EcTotals.{EcTotals}
 use Rattle.scan.specs.declared.ScanTotals.{ScanTotals}
-use Rattle.scan.specs.declared.PebPass.{PebPass}
-use Rattle.scan.proofs.OnePeb.{small_view, view_zero}
+use Rattle.scan.proofs.OnePeb.{small_view}
 
 -- ---- the image sequence
 
@@ -121,16 +120,6 @@ totals_none vs s a b c d e f = record {
   good_few = omega arith;
 }
 
--- ---- refusals as numbers
-
-some_of : (x : Option ℕ) (k : ℕ) → (k ≡ 0 → ⊥) → or_zero x ≡ k → x ≡ some k
-some_of none k n e = absurd (n (sym e))
-some_of (some y) k n e = ap some e
-
-refused_at_lem : (k i : ℕ) → (k ≡ 0 → ⊥) → refused_at k i ≡ some (record { number = k; place = i })
-refused_at_lem zero i n = absurd (n refl)
-refused_at_lem (suc k) i n = refl
-
 -- ---- the invariant of the pass
 
 module _ (m : Medium) where
@@ -163,14 +152,13 @@ module _ {m : Medium} {i : ℕ} {s : ScanTotals} {pebs₀ pebs map₀ map : List
 
 -- all PEBs are passed
 pub pass_whole : {m : Medium} {s : ScanTotals} {pebs₀ pebs map₀ map : List ℕ}
-    → Passing m m.count s pebs₀ pebs map₀ map
-    → Passed m (record { refusal = 0; place = 0; totals = s }) pebs₀ pebs map₀ map
+    → Passing m m.count s pebs₀ pebs map₀ map → Passed m (Ok s) pebs₀ pebs map₀ map
 unfolding refusal5678
 pass_whole o = record {
   refusal = rw o.none_yet;
-  totals = λ _. o.totals;
-  pebs_are = λ _. o.pebs_are;
-  map_is = λ _. o.map_is;
+  totals = o.totals;
+  pebs_are = o.pebs_are;
+  map_is = o.map_is;
   pebs_tail = pebs_beyond o (omega arith);
   map_tail = map_beyond o (omega arith);
 }
@@ -184,41 +172,40 @@ module _ (g : Geometry) (n : ℕ) (image : List ℕ) where
   lent_peb i = take (i * g.peb_size + g.peb_size - i * g.peb_size) (drop (i * g.peb_size) image)
 
   module _ {i : ℕ} {s : ScanTotals} {pebs₀ pebs map₀ map : List ℕ} (o : Passing medium i s pebs₀ pebs map₀ map)
-      (h : i < n) {t : PebPass} {pebs' map' : List ℕ}
+      (h : i < n) {t : Result ScanTotals ℕ} {pebs' map' : List ℕ}
       (u : PebPassed g i (view_of g (lent_peb i)) s t pebs pebs' map map') where
     view_is : view_of g (lent_peb i) ≡ medium.views i
     view_is = ap (view_of g) (lent_part (i * g.peb_size) g.peb_size image)
 
-    number_is : t.refusal ≡ or_zero (refusal_at medium i)
-    number_is =
+    refusal_is : refusal_of t ≡ refusal_at medium i
+    refusal_is =
         let q = seq_step i medium.views s o.totals (small_view g (peb_at g image i)) in
         u.refusal ∙ rw (view_is, q, view_known g n i medium.views h)
 
     -- the pass goes on
-    pub pass_on : t.refusal ≡ 0 → Passing medium (i + 1) t.totals pebs₀ pebs' map₀ map'
-    pass_on z =
-        let w = rw view_is at u in
+    pub pass_on : {s' : ScanTotals} → t ≡ Ok s' → Passing medium (i + 1) s' pebs₀ pebs' map₀ map'
+    pass_on {s'} z =
+        let w = rw (view_is, z) at u in
         rw add-one (record {
-          totals = totals_step i medium.views s o.totals (small_view g (peb_at g image i)) (w.ec z) (w.vid z);
-          none_yet = rw (o.none_yet, view_zero g (image_seq_of n medium.views) (medium.views i) (sym number_is ∙ z));
-          pebs_are = w.pebs_are ∙ rw (eq-eqb _ _ z, o.pebs_are)
+          totals = totals_step i medium.views s o.totals (small_view g (peb_at g image i)) w.ec w.vid;
+          none_yet = rw (o.none_yet, ← refusal_is, z);
+          pebs_are = w.pebs_are ∙ rw o.pebs_are
               (rows_step i peb_stride (λ j. first_row (medium.views j)) pebs₀ (λ j. refl));
-          map_is = w.map_is ∙ rw (eq-eqb _ _ z, o.map_is)
+          map_is = w.map_is ∙ rw o.map_is
               (rows_step i entry_stride (key_row medium) map₀ (λ j. key_length j (medium.views j).vid));
         })
 
     -- the PEB refuses the image
-    pub pass_refused : (t.refusal ≡ 0 → ⊥)
-        → Passed medium (record { refusal = t.refusal; place = i; totals = t.totals }) pebs₀ pebs' map₀ map'
+    pub pass_refused : {k : ℕ} → t ≡ Err k → Passed medium (Err (record { number = k; place = i })) pebs₀ pebs' map₀ map'
     unfolding refusal5678
-    pass_refused ne =
-        let q : refusal_at medium i ≡ some t.refusal = some_of _ t.refusal ne (sym number_is) in
+    pass_refused {k} z =
+        let w = rw z at u in
+        let q : refusal_at medium i ≡ some k = sym refusal_is ∙ rw z in
         record {
-          refusal = refused_at_lem t.refusal i ne
-              ∙ sym (rw (first_is (refusal_at medium) n i t.refusal h o.none_yet q));
-          totals = λ z. absurd (ne z);
-          pebs_are = λ z. absurd (ne z);
-          map_is = λ z. absurd (ne z);
-          pebs_tail = rw (u.pebs_are, ne_eqb _ _ ne) (pebs_beyond o (omega arith));
-          map_tail = rw (u.map_is, ne_eqb _ _ ne) (map_beyond o (omega arith));
+          refusal = sym (rw (first_is (refusal_at medium) n i k h o.none_yet q));
+          totals = tt;
+          pebs_are = tt;
+          map_is = tt;
+          pebs_tail = rw w.pebs_are (pebs_beyond o (omega arith));
+          map_tail = rw w.map_is (map_beyond o (omega arith));
         }

@@ -1,6 +1,6 @@
 -- What the contracts here cite: the totals over the PEBs passed so far, PEB by PEB. No public promise names them.
 -- Assumes nothing.
-use Rattle.std.specs.Prelude.{◌≡◌, ℕ, zero, suc, ◌+◌, ◌*◌, ◌≤◌, ◌<◌, cond, List, [], ◌∷◌, ◌++◌, eqb, length, drop}
+use Rattle.std.specs.Prelude.{◌≡◌, ℕ, ◌*◌, ◌≤◌, ◌<◌, cond, List, [], ◌∷◌, ◌++◌, length, drop, Result, Ok, Err, IfOk, is_ok}
 use Rattle.std.proofs.Math.Option.{Option, none, some}
 use Rattle.base.specs.Below.{all_below, count_below, sum_below, concat_below}
 use Rattle.base.specs.Lists.{put}
@@ -10,13 +10,11 @@ use Rattle.words.specs.Words.{no_word, peb_stride, entry_stride, most_pebs, peb_
 use Rattle.report.specs.View.{View, Views, Medium, ecs, copies, good_ec}
 use Rattle.report.specs.Class.{first_class, is_unused}
 use Rattle.report.specs.Scan.{Refusal, image_seq_of, view_refusal, refusal5678}
-use Rattle.report.specs.Volumes.{or_zero}
 use Rattle.report.specs.Report.{counter_or, has_counter, highest_of, read_only_of}
 use Rattle.report.specs.Scratch.{key_words, keys_of}
-use Rattle.scan.specs.Totals.{with_ec, with_vid, SmallTotals}
+use Rattle.scan.specs.Totals.{with_ec, with_vid, SmallTotals, refusal_of}
 use Rattle.scan.specs.declared.ScanTotals.{ScanTotals}
-use Rattle.scan.specs.declared.PebPass.{PebPass}
-use Rattle.scan.specs.declared.ImagePass.{ImagePass}
+use Rattle.report.specs.declared.Refused.{Refused}
 
 -- the totals of the first n PEBs
 pub record TotalsOf (n : ℕ) (vs : Views) (s : ScanTotals) : Type 0 where
@@ -45,20 +43,19 @@ first_row v = first_class v.ec v.vid ∷ counter_or no_word (good_ec v.ec) ∷ [
 abbrev pub first_words_of : ℕ → Views → List ℕ
 first_words_of n vs = concat_below n (λ i. first_row (vs i))
 
--- PEB i of the view v, passed after the totals s: the refusal's number or 0; where there is none the totals with it,
--- and its words stored
-pub record PebPassed (g : Geometry) (i : ℕ) (v : View) (s : ScanTotals) (t : PebPass)
+-- PEB i of the view v, passed after the totals s: the refusal's number, or the totals with it, and its words stored
+pub record PebPassed (g : Geometry) (i : ℕ) (v : View) (s : ScanTotals) (t : Result ScanTotals ℕ)
     (pebs pebs' map map' : List ℕ) : Type 0 where
-  pub refusal : t.refusal ≡ or_zero (view_refusal g (with_ec s.ec v.ec).image_seq v)
-  pub ec : t.refusal ≡ 0 → t.totals.ec ≡ with_ec s.ec v.ec
-  pub vid : t.refusal ≡ 0 → t.totals.vid ≡ with_vid s.vid (is_unused v.ec v.vid) v.vid
-  pub pebs_are : pebs' ≡ cond (eqb t.refusal 0) (put (i * peb_stride) (first_row v) pebs) pebs
-  pub map_is : map' ≡ cond (eqb t.refusal 0) (put (i * entry_stride) (key_words i v.vid) map) map
+  pub refusal : refusal_of t ≡ view_refusal g (with_ec s.ec v.ec).image_seq v
+  pub ec : IfOk t (λ r. r.ec ≡ with_ec s.ec v.ec)
+  pub vid : IfOk t (λ r. r.vid ≡ with_vid s.vid (is_unused v.ec v.vid) v.vid)
+  pub pebs_are : pebs' ≡ cond (is_ok t) (put (i * peb_stride) (first_row v) pebs) pebs
+  pub map_is : map' ≡ cond (is_ok t) (put (i * entry_stride) (key_words i v.vid) map) map
 
--- a refusal's number and place, if the number is not 0
-abbrev pub refused_at : ℕ → ℕ → Option Refusal
-refused_at zero place = none
-refused_at (suc k) place = some (record { number = suc k; place = place })
+-- the refusal, if there is one
+abbrev pub refused_at : Result ScanTotals Refused → Option Refusal
+refused_at (Ok s) = none
+refused_at (Err e) = some (record { number = e.number; place = e.place })
 
 -- an image of n PEBs can be passed: they are whole, and have their words in the lent tables
 pub record ImageReady (g : Geometry) (n : ℕ) (image pebs map : List ℕ) : Type 0 where
@@ -69,10 +66,10 @@ pub record ImageReady (g : Geometry) (n : ℕ) (image pebs map : List ℕ) : Typ
   pub long_map : map_words_needed n ≤ length map
 
 -- the pass over all PEBs: refusals 5 to 8; where there is none the totals and words of all. Words beyond stay
-pub record Passed (m : Medium) (r : ImagePass) (pebs pebs' map map' : List ℕ) : Type 0 where
-  pub refusal : refused_at r.refusal r.place ≡ refusal5678 m
-  pub totals : r.refusal ≡ 0 → TotalsOf m.count m.views r.totals
-  pub pebs_are : r.refusal ≡ 0 → pebs' ≡ first_words_of m.count m.views ++ drop (peb_words_needed m.count) pebs
-  pub map_is : r.refusal ≡ 0 → map' ≡ keys_of m.count m.views ++ drop (map_words_needed m.count) map
+pub record Passed (m : Medium) (r : Result ScanTotals Refused) (pebs pebs' map map' : List ℕ) : Type 0 where
+  pub refusal : refused_at r ≡ refusal5678 m
+  pub totals : IfOk r (λ s. TotalsOf m.count m.views s)
+  pub pebs_are : IfOk r (λ s. pebs' ≡ first_words_of m.count m.views ++ drop (peb_words_needed m.count) pebs)
+  pub map_is : IfOk r (λ s. map' ≡ keys_of m.count m.views ++ drop (map_words_needed m.count) map)
   pub pebs_tail : drop (peb_words_needed m.count) pebs' ≡ drop (peb_words_needed m.count) pebs
   pub map_tail : drop (map_words_needed m.count) map' ≡ drop (map_words_needed m.count) map

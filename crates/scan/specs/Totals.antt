@@ -1,5 +1,6 @@
 -- What the contracts here cite: totals with a PEB more. No public promise names them. Assumes nothing.
-use Rattle.std.specs.Prelude.{ℕ, ◌+◌, ◌*◌, ◌≤◌, max, Bool, ◌&&◌, ◌||◌}
+use Rattle.std.specs.Prelude.{ℕ, ◌+◌, ◌*◌, ◌≤◌, max, Bool, ◌&&◌, ◌||◌, Result, Ok, Err}
+use Rattle.std.proofs.Math.Option.{Option, none, some}
 use Rattle.base.specs.Below.{unless_zero}
 use Rattle.words.specs.Words.{most_pebs}
 use Rattle.report.specs.View.{EcView, ec_good, ec_newer, ec_blank, ec_lost, VidView, good_vid}
@@ -34,3 +35,8 @@ with_vid s idle v = with_sequence s idle (sequence_or0 (good_vid v)) (is_interna
 pub record SmallTotals (s : EcTotals) : Type 0 where
   pub counters_small : s.counters ≤ most_pebs * 0x7FFFFFFF
   pub good_few : s.good ≤ most_pebs
+
+-- what each case of a check is: no refusal, or one with its number
+abbrev pub refusal_of : {A : Type 0} → Result A ℕ → Option ℕ
+refusal_of (Ok a) = none
+refusal_of (Err k) = some k

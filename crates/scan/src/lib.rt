@@ -31,18 +31,3 @@ pub struct ScanTotals {
     pub ec: EcTotals,
     pub vid: VidTotals,
 }
-
-// What the pass over one PEB comes to: its refusal (0 if none), and the totals with it.
-#[derive(Clone, Copy)]
-pub struct PebPass {
-    pub refusal: u32,
-    pub totals: ScanTotals,
-}
-
-// What the pass over an image comes to: the first refusal (0 if none) with its PEB, and the totals.
-#[derive(Clone, Copy)]
-pub struct ImagePass {
-    pub refusal: u32,
-    pub place: u32,
-    pub totals: ScanTotals,
-}

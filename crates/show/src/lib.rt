@@ -1,17 +1,17 @@
 // Answers of attaching and moving as the test programs print them.
 #![tactic(auto)]
 
-use report::{Attached, Report};
+use report::{Refused, Report};
 
 mod moves;
 
 pub use moves::{begun, plan_at, stepped};
 
 // A report, or a refusal, and the end of the line.
-pub fn answer(r: Attached) {
+pub fn answer(r: Result<Report, Refused>) {
     match r {
-        Attached::Given(report) => print_report(report),
-        Attached::Refused { number, place } => refusal(number, place),
+        Ok(report) => print_report(report),
+        Err(e) => refusal(e.number, e.place),
     }
     frames::line_end();
 }
@@ -52,18 +52,11 @@ fn print_report(r: Report) {
 
 fn print_marks(r: Report) {
     frames::word(b" readonly");
-    frames::next_number(bit(r.read_only));
+    frames::next_number(u64::from(r.read_only));
     frames::word(b" table");
     frames::next_number(r.table as u64);
     frames::word(b" copies");
     frames::next_number(r.copies_mark as u64);
     frames::word(b" grade");
     frames::next_number(r.grade as u64);
-}
-
-fn bit(b: bool) -> u64 {
-    if b {
-        return 1;
-    }
-    0
 }

@@ -1,7 +1,8 @@
 // Plans and answers of moves, in payloads and on lines.
 ghost use Rattle.std.specs.Prelude.{◌≤◌};
 
-use mover_rules::{Begun, Plan, Stepped};
+use mover_rules::{Plan, Stepped};
+use report::Refused;
 
 // A plan's 81 bytes from `at` on.
 pub fn plan_at(payload: &[u8], at: usize) -> Plan
@@ -20,10 +21,10 @@ pub fn plan_at(payload: &[u8], at: usize) -> Plan
 }
 
 // A plan, or a refusal, and a blank.
-pub fn begun(r: Begun) {
+pub fn begun(r: Result<Plan, Refused>) {
     match r {
-        Begun::Planned(p) => print_plan(p),
-        Begun::Refused { number, place } => crate::refusal(number, place),
+        Ok(p) => print_plan(p),
+        Err(e) => crate::refusal(e.number, e.place),
     }
     frames::word(b" ");
 }

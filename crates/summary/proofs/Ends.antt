@@ -30,7 +30,9 @@ use Rattle.report.specs.Attach.{
   state_words,
   tables_after,
 }
-use Rattle.report.specs.declared.Attached.{Attached}
+use Rattle.report.specs.declared.Report.{Report}
+use Rattle.report.specs.declared.Refused.{Refused}
+use Rattle.std.specs.Prelude.{Result}
 use Rattle.report.proofs.Tables.{entries_fit}
 use Rattle.report.proofs.Words.{entry_words_length, peb_words_length}
 use Rattle.scan.specs.declared.ScanTotals.{ScanTotals}
@@ -58,9 +60,6 @@ module _ (k : ℕ) (w x : List ℕ) {x' : List ℕ} (e : x' ≡ w ++ drop k x) (
 -- words that stand in place of as many lent ones
 over_same : (ws a b : List ℕ) (k : ℕ) → length ws ≡ k → drop k a ≡ drop k b → over ws a ≡ over ws b
 over_same ws a b k e t = ap (λ (z : List ℕ). ws ++ z) (rw e t)
-
-pub filled : (k : ℕ) (x : List ℕ) {x' : List ℕ} → x' ≡ replicate k no_word ++ drop k x → x' ≡ over (replicate k no_word) x
-filled k x e = e ∙ ap (λ (j : ℕ). replicate k no_word ++ drop j x) (sym (length-replicate k no_word))
 
 pub lent_same : {p p' m m' s s' : List ℕ} → p ≡ p' → m ≡ m' → s ≡ s' → lent p m s ≡ lent p' m' s'
 lent_same a b c = rw (a, b, c)
@@ -127,11 +126,11 @@ module _ (m : Medium) where
       (length-replicate state_words_needed no_word) s.states_tail)))
 
   -- what ends so from later words ends so from earlier ones
-  pub ended_from : {t t₁ t' : Tables} {r : Attached} → 2 ≤ m.count → SameBeyond m.count t t₁
+  pub ended_from : {t t₁ t' : Tables} {r : Result Report Refused} → 2 ≤ m.count → SameBeyond m.count t t₁
       → Ended (by_refusal m (refusal m)) r t₁ t' → Ended (by_refusal m (refusal m)) r t t'
   ended_from h s o = record { answer = o.answer; tables_are = o.tables_are ∙ tables_from h s }
 
   -- a refusal 5 to 12
-  pub ended_refused : {t t' : Tables} {r : Attached} {x : Refusal} → refusal m ≡ some x
+  pub ended_refused : {t t' : Tables} {r : Result Report Refused} {x : Refusal} → refusal m ≡ some x
       → Ended (late m.count x) r t t' → Ended (by_refusal m (refusal m)) r t t'
   ended_refused q o = rw q o

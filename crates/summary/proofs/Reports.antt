@@ -2,10 +2,10 @@
 use mathlib.Core.Path.{◌≡◌, refl, sym, ap, ◌∙◌}
 use mathlib.Core.Option.{none, some}
 use mathlib.Core.List.{List, ◌++◌}
-use Prim.Native.Nat.{ℕ, ◌*◌, ◌/◌, ◌%◌, ◌≤◌, ◌<◌}
+use Prim.Native.Nat.{ℕ, ◌*◌, ◌/◌, ◌%◌, ◌≤◌}
 use native.Mathlib.Nat.{mul-mod_right, min-le_left}
 use native.Mathlib.Omega.{arith}
-use borrow.Author.Tests.{lt-ltb, le-ltb, leb-true}
+use borrow.Author.Tests.{leb-true}
 use lib.ListN.{length, drop, length-take}
 use Rattle.base.specs.Answers.{given}
 use Rattle.base.proofs.Answers.{each_holds}
@@ -14,10 +14,10 @@ use Rattle.geometry.specs.declared.Geometry.{Geometry}
 use Rattle.volume_table.specs.Table.{record_count, records_part, table_tests, table_good}
 use Rattle.report.specs.View.{Medium, medium_of}
 use Rattle.report.specs.Volumes.{table_leb, table_records}
-use Rattle.report.specs.Report.{entries, mean_of, grade_of, refusal, records, taken}
+use Rattle.report.specs.Report.{entries, mean_of, grade_of, refusal, records}
 use Rattle.report.specs.Attach.{Tables, lent, peb_words, map_words, state_words, report_of}
 use Rattle.report.specs.declared.Report.{Report}
-use Rattle.report.specs.declared.Attached.TheVariants.{Given}
+use Rattle.std.specs.Prelude.{Some, None, Ok}
 use Rattle.report.proofs.Tables.{TakenIn}
 use Rattle.report.proofs.Tables as tables
 use Rattle.scan.specs.declared.ScanTotals.{ScanTotals}
@@ -78,44 +78,43 @@ module _ {g : Geometry} {n : ℕ} {image : List ℕ} {s : ScanTotals} {r : List 
       states_tail = refl;
     }
 
-    module _ {j : ℕ} (e : misfit_refusal map₁ count j ≡ table_refusal m) where
-      -- an entry that refusal 12 names
-      pub misfit_refusal_lem : j < count → {peb : ℕ} → peb ≡ peb_word map₁ j
-          → refusal m ≡ some (record { number = 12; place = peb })
-      misfit_refusal_lem h q = late_refusal p.past10 ∙ sym e ∙ rw (lt-ltb j count h, q)
+    -- an entry that refusal 12 names
+    pub misfit_refusal_lem : (j : ℕ) → misfit_refusal map₁ (Some j) ≡ table_refusal m → {peb : ℕ} → peb ≡ peb_word map₁ j
+        → refusal m ≡ some (record { number = 12; place = peb })
+    misfit_refusal_lem j e q = late_refusal p.past10 ∙ sym e ∙ rw q
 
-      module _ (h : count ≤ j) where
-        pub past_twelve : Past12 g n image s r l k count (lent pebs₁ map₁ t.states)
-        past_twelve = record {
-          room = record {
-            placed = p.past10.room.placed;
-            whole = p.past10.room.whole;
-            least = p.past10.room.least;
-            few = p.past10.room.few;
-            long_pebs = omega (arith, p.past10.room.long_pebs, lp);
-            long_map = omega (arith, p.past10.room.long_map, lm);
-            long_states = p.past10.room.long_states;
-          };
-          totals = p.past10.totals;
-          pebs_are = words_take (peb_words_needed n) (peb_words m) t.pebs o.pebs_are lp p.past10.room.long_pebs;
-          fitting = none_misfits sorted j e h;
-          taken_is = p.taken_is;
-          mark_is = p.mark_is;
-        }
+    module _ (e : misfit_refusal map₁ None ≡ table_refusal m) where
+      pub past_twelve : Past12 g n image s r l k count (lent pebs₁ map₁ t.states)
+      past_twelve = record {
+        room = record {
+          placed = p.past10.room.placed;
+          whole = p.past10.room.whole;
+          least = p.past10.room.least;
+          few = p.past10.room.few;
+          long_pebs = omega (arith, p.past10.room.long_pebs, lp);
+          long_map = omega (arith, p.past10.room.long_map, lm);
+          long_states = p.past10.room.long_states;
+        };
+        totals = p.past10.totals;
+        pebs_are = words_take (peb_words_needed n) (peb_words m) t.pebs o.pebs_are lp p.past10.room.long_pebs;
+        fitting = none_misfits sorted e;
+        taken_is = p.taken_is;
+        mark_is = p.mark_is;
+      }
 
-        pub report_ended : {report : Report} {states₁ : List ℕ} → report ≡ report_of m
-            → states₁ ≡ state_words m ++ drop state_words_needed t.states → length states₁ ≡ length t.states
-            → Ended (outcome g n image) (Given report) t (lent pebs₁ map₁ states₁)
-        report_ended q se ls =
-            let z : refusal m ≡ none = late_refusal p.past10 ∙ sym e ∙ rw (le-ltb j count h) in
-            rw z
-            (record {
-              answer = ap given q;
-              tables_are =
-                  lent_same (words_over (peb_words_needed n) (peb_words m) t.pebs o.pebs_are lp p.past10.room.long_pebs)
-                  (words_over (map_words_needed n) (map_words n (entries m)) t.map o.map_is lm p.past10.room.long_map)
-                  (words_over state_words_needed (state_words m) t.states se ls p.past10.room.long_states);
-            })
+      pub report_ended : {report : Report} {states₁ : List ℕ} → report ≡ report_of m
+          → states₁ ≡ state_words m ++ drop state_words_needed t.states → length states₁ ≡ length t.states
+          → Ended (outcome g n image) (Ok report) t (lent pebs₁ map₁ states₁)
+      report_ended q se ls =
+          let z : refusal m ≡ none = late_refusal p.past10 ∙ sym e in
+          rw z
+          (record {
+            answer = ap given q;
+            tables_are =
+                lent_same (words_over (peb_words_needed n) (peb_words m) t.pebs o.pebs_are lp p.past10.room.long_pebs)
+                (words_over (map_words_needed n) (map_words n (entries m)) t.map o.map_is lm p.past10.room.long_map)
+                (words_over state_words_needed (state_words m) t.states se ls p.past10.room.long_states);
+          })
 
 -- ---- the report's numbers
 

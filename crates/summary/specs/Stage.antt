@@ -1,6 +1,6 @@
 -- What the contracts here cite: what is known at each stage of attaching, and how it ends. No public promise names
 -- them. Assumes nothing.
-use Rattle.std.specs.Prelude.{◌≡◌, ℕ, ◌*◌, ◌≤◌, List, ◌++◌, length, take, drop}
+use Rattle.std.specs.Prelude.{◌≡◌, ℕ, ◌*◌, ◌≤◌, List, ◌++◌, length, take, drop, Result}
 use Rattle.std.proofs.Math.Option.{none}
 use Rattle.base.specs.Answers.{given}
 use Rattle.words.specs.Words.{peb_words_needed, map_words_needed, state_words_needed}
@@ -11,7 +11,8 @@ use Rattle.report.specs.Scan.{refusal5678, refusal10}
 use Rattle.report.specs.Choice.{refusal9}
 use Rattle.report.specs.Report.{refusal, records, taken, mark}
 use Rattle.report.specs.Attach.{Outcome, Tables, by_refusal, attached_answer, answer_of, tables_after, peb_words}
-use Rattle.report.specs.declared.Attached.{Attached}
+use Rattle.report.specs.declared.Report.{Report}
+use Rattle.report.specs.declared.Refused.{Refused}
 use Rattle.report.specs.Scratch.{keys_of}
 use Rattle.scan.specs.Pass.{TotalsOf, first_words_of}
 use Rattle.scan.specs.declared.ScanTotals.{ScanTotals}
@@ -19,7 +20,7 @@ use Rattle.layout.specs.Layout.{Chosen}
 use Rattle.volumes.specs.Sorted.{NoMisfit}
 
 -- the answer, and the lent tables after it, from those before
-pub record Ended (o : Outcome) (r : Attached) (before after : Tables) : Type 0 where
+pub record Ended (o : Outcome) (r : Result Report Refused) (before after : Tables) : Type 0 where
   pub answer : attached_answer r ≡ answer_of o
   pub tables_are : after ≡ tables_after o before
 

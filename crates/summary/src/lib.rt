@@ -10,7 +10,7 @@ ghost use Rattle.report.specs.Attach.{lent, state_words, report_of};
 ghost use Rattle.summary.specs.Stage.{Ended, Past11, Past12, outcome};
 
 use geometry::Geometry;
-use report::{Attached, Report, refusal};
+use report::{Refused, Report, refusal};
 use scan::ScanTotals;
 pub use tables::refuse;
 
@@ -75,20 +75,18 @@ pub fn report_on(
     pebs: &mut [u32],
     map: &mut [u32],
     states: &mut [u32],
-) -> Attached
+) -> Result<Report, Refused>
     requires { Past11 g n image.now totals table.now lnum mark (lent pebs.old map.old states.old) }
     ensures { Ended (outcome g n image.now) result
         (lent pebs.old map.old states.old)
         (lent pebs.new map.new states.new) }
 {
     let entries = mapping::make_map(table, n, pebs, map);
-    let k = volumes::first_misfit(image, g, n, map, entries, table);
-    if k < entries {
+    if let Some(k) = volumes::first_misfit(image, g, n, map, entries, table) {
         let peb = words::peb_word(map, k);
-        return refuse(refusal::ENTRY_MISFIT, peb, n, pebs, map, states);
+        return Err(refuse(refusal::ENTRY_MISFIT, peb, n, pebs, map, states));
     }
-    let report = report_mapped(
+    Ok(report_mapped(
         image, g, n, totals, table, lnum, mark, entries, pebs, map, states,
-    );
-    Attached::Given(report)
+    ))
 }

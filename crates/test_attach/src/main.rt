@@ -2,20 +2,16 @@
 #![tactic(auto)]
 
 fn main() {
-    for _ in 0..frames::count() {
-        turn();
-    }
+    frames::each(turn);
 }
 
-// The answer to the next frame. Image and lent tables are made anew for each.
-fn turn() {
-    let mut buf = [0u8; 65536];
+// The answer to a frame. Image and lent tables are made anew for each.
+fn turn(payload: &[u8]) {
     let mut image = [0xFFu8; 262144];
     let mut pebs = [0xDEADBEEFu32; 16384];
     let mut map = [0xDEADBEEFu32; 16384];
     let mut states = [0xDEADBEEFu32; 16384];
-    let n = frames::next(&mut buf);
-    answer(&buf[0..n], &mut image, &mut pebs, &mut map, &mut states);
+    answer(payload, &mut image, &mut pebs, &mut map, &mut states);
 }
 
 // Lengths of the lent tables and the image, the slip, and patches.

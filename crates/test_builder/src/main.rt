@@ -1,27 +1,22 @@
 // Builds the image of each frame, attaches it, and prints what both answer and leave.
 #![tactic(auto)]
 
-use builder_rules::Built;
 use geometry::HEAD_SIZE;
-use report::Attached;
+use report::Refused;
 
 // The bytes of a length.
 const LENGTH_SIZE: usize = 4;
 
 fn main() {
-    for _ in 0..frames::count() {
-        turn();
-    }
+    frames::each(turn);
 }
 
-// The answer to the next frame. Content and image are made anew for each.
-fn turn() {
-    let mut buf = [0u8; 65536];
+// The answer to a frame. Content and image are made anew for each.
+fn turn(payload: &[u8]) {
     let mut content = [0xFFu8; 262144];
     let mut image = [0xA5u8; 262144];
     let mut lengths = [0u32; 512];
-    let n = frames::next(&mut buf);
-    answer(&buf[0..n], &mut content, &mut image, &mut lengths);
+    answer(payload, &mut content, &mut image, &mut lengths);
 }
 
 // The slip, and the rest.
@@ -56,8 +51,8 @@ fn answer_with(
 }
 
 fn store_lengths(payload: &[u8], lengths: &mut [u32]) {
-    for i in 0..lengths.len() {
-        lengths[i] = length_of(payload, i);
+    for (i, n) in lengths.iter_mut().enumerate() {
+        *n = length_of(payload, i);
     }
 }
 
@@ -68,22 +63,18 @@ fn length_of(payload: &[u8], i: usize) -> u32 {
 
 // What stands behind k lengths.
 fn rest_behind<'a>(payload: &'a [u8], k: usize) -> &'a [u8] {
-    if payload.len() / LENGTH_SIZE < k {
-        return payload;
-    }
-    frames::rest(payload, k * LENGTH_SIZE)
+    frames::rest(payload, k.saturating_mul(LENGTH_SIZE))
 }
 
 fn build(slip: &[u8], seq: u32, lengths: &[u32], content: &[u8], image: &mut [u8]) {
-    let b = builder::build(slip, seq, lengths, content, image);
-    match b {
-        Built::Done => show_built(slip, image),
-        Built::Refused { number, place } => show_refused(number, place, image),
+    match builder::build(slip, seq, lengths, content, image) {
+        Ok(()) => show_built(slip, image),
+        Err(e) => show_refused(e, image),
     }
 }
 
-fn show_refused(number: u32, place: u32, image: &[u8]) {
-    show::answer(Attached::Refused { number, place });
+fn show_refused(e: Refused, image: &[u8]) {
+    show::answer(Err(e));
     show::image(image);
 }
 
@@ -92,13 +83,12 @@ fn show_built(slip: &[u8], image: &[u8]) {
     frames::word(b"built");
     frames::line_end();
     show::image(image);
-    let mut plain = [0u8; 20];
     // A slip that was built has its head; the language asks for the test.
-    if slip.len() < HEAD_SIZE {
-        return;
+    if let Some(head) = slip.get(..HEAD_SIZE) {
+        let mut plain = [0u8; 20];
+        plain[..HEAD_SIZE].copy_from_slice(head);
+        attach_to(&plain, image);
     }
-    base::store(&mut plain, 0, &slip[0..HEAD_SIZE]);
-    attach_to(&plain, image);
 }
 
 fn attach_to(slip: &[u8], image: &[u8]) {

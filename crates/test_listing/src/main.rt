@@ -2,21 +2,15 @@
 // stayed.
 #![tactic(auto)]
 
-use listing_text::Rendered;
-
 fn main() {
-    for _ in 0..frames::count() {
-        turn();
-    }
+    frames::each(turn);
 }
 
-// The answer to the next frame. Dump and buffer are made anew for each.
-fn turn() {
-    let mut buf = [0u8; 65536];
+// The answer to a frame. Dump and buffer are made anew for each.
+fn turn(payload: &[u8]) {
     let mut dump = [0xFFu8; 61440];
     let mut out = [0xA5u8; 65536];
-    let n = frames::next(&mut buf);
-    answer(&buf[0..n], &mut dump, &mut out);
+    answer(payload, &mut dump, &mut out);
 }
 
 // Whether there was more input, lengths of buffer and dump, and patches.
@@ -31,8 +25,8 @@ fn answer(payload: &[u8], dump: &mut [u8], out: &mut [u8]) {
 
 fn show(dump: &[u8], more: bool, out: &mut [u8]) {
     match listing::list(dump, more, out) {
-        Rendered::Text(n) => show_text(out, n),
-        Rendered::Short => show_short(out),
+        Ok(n) => show_text(out, n),
+        Err(_) => show_short(out),
     }
     frames::word(b"end");
     frames::line_end();
@@ -65,14 +59,5 @@ fn show_short(out: &[u8]) {
 
 // Are the bytes those of before the call?
 fn unchanged(bytes: &[u8]) -> bool {
-    let before = [0xA5u8; 65536];
-    is_start(bytes, &before)
-}
-
-fn is_start(bytes: &[u8], before: &[u8]) -> bool {
-    let n = bytes.len();
-    if before.len() < n {
-        return false;
-    }
-    base::same(bytes, &before[0..n])
+    bytes.iter().all(|b| *b == 0xA5)
 }

@@ -1,30 +1,21 @@
 // Reads or writes a header, as the first byte says, and prints the answer and the lent buffer.
-use header::{EcHeader, EcRead, VidHeader, VidRead, Written};
+use header::{EcHeader, ReadError, VidHeader, WriteError};
 
 pub fn answer(payload: &[u8]) {
-    let operation = frames::number_at(payload, 0, 1);
-    if operation == 1 {
-        print_ec(ec_header::read_ec(frames::rest(payload, 1)));
-        return;
+    match frames::number_at(payload, 0, 1) {
+        1 => print_ec(ec_header::read_ec(frames::rest(payload, 1))),
+        2 => print_vid(vid_header::read_vid(frames::rest(payload, 5), frames::u32_at(payload, 1))),
+        3 => write_ec(payload),
+        _ => write_vid(payload),
     }
-    if operation == 2 {
-        let leb_size = frames::u32_at(payload, 1);
-        print_vid(vid_header::read_vid(frames::rest(payload, 5), leb_size));
-        return;
-    }
-    if operation == 3 {
-        write_ec(payload);
-        return;
-    }
-    write_vid(payload);
 }
 
-fn print_ec(r: EcRead) {
+fn print_ec(r: Result<EcHeader, ReadError>) {
     match r {
-        EcRead::Good(h) => print_good_ec(h),
-        EcRead::Lost => frames::word(b"lost"),
-        EcRead::Newer => frames::word(b"newer"),
-        EcRead::Short => frames::word(b"refused 4"),
+        Ok(h) => print_good_ec(h),
+        Err(ReadError::Bad) => frames::word(b"lost"),
+        Err(ReadError::Newer) => frames::word(b"newer"),
+        Err(ReadError::Short) => frames::word(b"refused 4"),
     }
 }
 
@@ -33,12 +24,12 @@ fn print_good_ec(h: EcHeader) {
     frames::print_ec(h);
 }
 
-fn print_vid(r: VidRead) {
+fn print_vid(r: Result<VidHeader, ReadError>) {
     match r {
-        VidRead::Good(h) => print_good_vid(h),
-        VidRead::Bad => frames::word(b"bad"),
-        VidRead::Newer => frames::word(b"newer"),
-        VidRead::Short => frames::word(b"refused 4"),
+        Ok(h) => print_good_vid(h),
+        Err(ReadError::Bad) => frames::word(b"bad"),
+        Err(ReadError::Newer) => frames::word(b"newer"),
+        Err(ReadError::Short) => frames::word(b"refused 4"),
     }
 }
 
@@ -47,13 +38,13 @@ fn print_good_vid(h: VidHeader) {
     frames::print_vid(h);
 }
 
-fn print_written(r: Written, out: &[u8]) {
+fn print_written(r: Result<(), WriteError>, out: &[u8]) {
     match r {
-        Written::Done => frames::word(b"written"),
-        Written::Short => frames::word(b"refused 4"),
-        Written::NotGood => frames::word(b"refused 19"),
+        Ok(()) => frames::word(b"written"),
+        Err(WriteError::Short) => frames::word(b"refused 4"),
+        Err(WriteError::NotGood) => frames::word(b"refused 19"),
     }
-    if 0 < out.len() {
+    if !out.is_empty() {
         frames::word(b" ");
         frames::hex(out);
     }
@@ -77,8 +68,8 @@ fn write_ec(payload: &[u8]) {
         return;
     }
     let mut out = [0u8; 128];
-    base::store(&mut out, 0, from);
-    ec_into(h, &mut out[0..n]);
+    out[..n].copy_from_slice(from);
+    ec_into(h, &mut out[..n]);
 }
 
 fn write_vid(payload: &[u8]) {
@@ -89,6 +80,6 @@ fn write_vid(payload: &[u8]) {
         return;
     }
     let mut out = [0u8; 128];
-    base::store(&mut out, 0, from);
-    vid_into(h, frames::u32_at(payload, 1), &mut out[0..n]);
+    out[..n].copy_from_slice(from);
+    vid_into(h, frames::u32_at(payload, 1), &mut out[..n]);
 }

@@ -1,11 +1,11 @@
 // The geometry that a slip gives, or the refusal.
-use geometry::{Geometry, GeometryRead};
+use geometry::{Geometry, SlipError};
 
 pub fn answer(slip: &[u8]) {
     match geometry::read_slip(slip) {
-        GeometryRead::Good(g) => print_geometry(g),
-        GeometryRead::Malformed => frames::word(b"refused 1"),
-        GeometryRead::Outside => frames::word(b"refused 2"),
+        Ok(g) => print_geometry(g),
+        Err(SlipError::Malformed) => frames::word(b"refused 1"),
+        Err(SlipError::Outside) => frames::word(b"refused 2"),
     }
 }
 

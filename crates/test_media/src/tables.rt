@@ -1,33 +1,29 @@
 // Judges a volume record or two copies of a volume table, or writes a record, as the first byte says, and prints the
 // answer.
-use volume_record::{RecordKind, RecordRead, RecordWritten, VolumeRecord};
-use volume_table::Taken;
+use volume_record::{RecordKind, RecordRead, VolumeRecord};
 
 pub fn answer(payload: &[u8]) {
-    let operation = frames::number_at(payload, 0, 1);
-    if operation == 3 {
-        write_record(payload);
-        return;
+    match frames::number_at(payload, 0, 1) {
+        1 => judge_record(payload),
+        3 => write_record(payload),
+        _ => judge_tables(payload),
     }
+}
+
+fn judge_record(payload: &[u8]) {
     let leb_size = frames::u32_at(payload, 1);
     let unit = frames::u32_at(payload, 5);
-    if operation == 1 {
-        print_record(volume_record::read_record(frames::rest(payload, 9), leb_size, unit));
-        return;
-    }
+    print_record(volume_record::read_record(frames::rest(payload, 9), leb_size, unit));
+}
+
+fn judge_tables(payload: &[u8]) {
+    let leb_size = frames::u32_at(payload, 1);
+    let unit = frames::u32_at(payload, 5);
     let peb_count = frames::u32_at(payload, 9);
-    let copies = frames::rest(payload, 17);
     let split = frames::number_at(payload, 13, 4) as usize;
-    if copies.len() < split {
-        return;
+    if let Some((copy0, copy1)) = frames::rest(payload, 17).split_at_checked(split) {
+        print_tables(copy0, copy1, leb_size, unit, peb_count);
     }
-    print_tables(
-        &copies[0..split],
-        &copies[split..],
-        leb_size,
-        unit,
-        peb_count,
-    );
 }
 
 // The record at byte 1: its numbers in the order of their bytes, then its name.
@@ -45,36 +41,31 @@ fn record_at(payload: &[u8], name: [u8; 128]) -> VolumeRecord {
 }
 
 fn write_record(payload: &[u8]) {
-    let from = frames::rest(payload, 18);
-    if from.len() < 128 {
+    let Some((name, from)) = frames::rest(payload, 18).split_first_chunk::<128>() else {
         return;
-    }
-    let n = from.len() - 128;
+    };
+    let n = from.len();
     if 256 < n {
         return;
     }
-    let mut name = [0u8; 128];
-    base::store(&mut name, 0, &from[0..128]);
     let mut out = [0u8; 256];
-    base::store(&mut out, 0, &from[128..]);
-    record_into(record_at(payload, name), &mut out[0..n]);
+    out[..n].copy_from_slice(from);
+    record_into(record_at(payload, *name), &mut out[..n]);
 }
 
 fn record_into(v: VolumeRecord, out: &mut [u8]) {
-    let r = record_write::write_record(v, out);
-    match r {
-        RecordWritten::Done => frames::word(b"written"),
-        RecordWritten::Short => frames::word(b"refused 4"),
+    match record_write::write_record(v, out) {
+        Ok(()) => frames::word(b"written"),
+        Err(_) => frames::word(b"refused 4"),
     }
-    if 0 < out.len() {
+    if !out.is_empty() {
         frames::word(b" ");
         frames::hex(out);
     }
 }
 
 fn print_record(r: RecordRead) {
-    let kind = r.kind;
-    match kind {
+    match r.kind {
         RecordKind::Good => print_fields(r.record),
         RecordKind::Empty => frames::word(b"empty"),
         RecordKind::Bad => frames::word(b"bad"),
@@ -91,13 +82,8 @@ fn print_fields(v: VolumeRecord) {
     frames::next_number(v.update_marker as u64);
     frames::next_number(v.name_length as u64);
     frames::next_number(v.flags as u64);
-    let name = v.name;
-    print_name(name);
-}
-
-fn print_name(name: [u8; 128]) {
     frames::word(b" ");
-    frames::hex(&name);
+    frames::hex(&v.name);
 }
 
 fn print_leb(leb: u32) {
@@ -105,16 +91,15 @@ fn print_leb(leb: u32) {
     frames::next_number(leb as u64);
 }
 
-fn print_tables<'a>(copy0: &'a [u8], copy1: &'a [u8], leb_size: u32, unit: u32, peb_count: u32) {
+fn print_tables(copy0: &[u8], copy1: &[u8], leb_size: u32, unit: u32, peb_count: u32) {
     let choice = table_choice::choose_table(copy0, copy1, leb_size, unit, peb_count);
-    let taken = choice.taken;
-    match taken {
-        Taken::Leb(leb) => print_leb(leb),
-        Taken::Neither => frames::word(b"taken 2"),
+    match choice.taken {
+        Some(leb) => print_leb(leb),
+        None => frames::word(b"taken 2"),
     }
     frames::word(b" mark");
     frames::next_number(choice.copies_mark as u64);
-    let records = table_choice::taken_table(copy0, copy1, taken, leb_size);
+    let records = table_choice::taken_table(copy0, copy1, choice.taken, leb_size);
     frames::word(b" records");
     frames::next_number(records.len() as u64);
     frames::next_number(crc32::crc32(records) as u64);

@@ -3,20 +3,12 @@ use mover_rules::{Plan, Stepped};
 
 // An operation on plan and image; any other leaves them.
 pub fn of_steps(s: &[u8], plan: Plan, image: &mut [u8]) -> Plan {
-    let op = frames::number_at(s, 0, 1);
-    if op == 2 {
-        return show::plan_at(s, 1);
-    }
-    if op == 3 {
-        return run(plan, image, frames::number_at(s, 1, 2));
-    }
-    if op == 4 {
-        finish(plan, image);
-        return plan;
-    }
-    if op == 5 {
-        cut(s, image);
-        return plan;
+    match frames::number_at(s, 0, 1) {
+        2 => return show::plan_at(s, 1),
+        3 => return run(plan, image, frames::number_at(s, 1, 2)),
+        4 => finish(plan, image),
+        5 => cut(s, image),
+        _ => {}
     }
     plan
 }
@@ -27,7 +19,7 @@ fn run(plan: Plan, image: &mut [u8], most: u64) -> Plan {
     let mut r = Stepped::On(plan);
     for _ in 0..most {
         p = plan_after(r, p);
-        r = step(p, image);
+        r = mover_steps::step(p, image);
     }
     let last = plan_after(r, p);
     ran(plan.steps, last.steps, r, image);
@@ -37,21 +29,16 @@ fn run(plan: Plan, image: &mut [u8], most: u64) -> Plan {
 // How many steps went on, and the last answer.
 fn ran(from: u32, to: u32, r: Stepped, image: &[u8]) {
     frames::word(b"ran");
-    frames::next_number(std::num::wrapping_sub_u32(to, from) as u64);
+    frames::next_number(to.wrapping_sub(from) as u64);
     frames::word(b" ");
     show::stepped(r);
     show::image(image);
 }
 
-fn step(plan: Plan, image: &mut [u8]) -> Stepped {
-    mover_steps::step(plan, image)
-}
-
 fn plan_after(r: Stepped, plan: Plan) -> Plan {
     match r {
-        Stepped::On(p) => return p,
-        Stepped::Done => return plan,
-        Stepped::Refused => return plan,
+        Stepped::On(p) => p,
+        Stepped::Done | Stepped::Refused => plan,
     }
 }
 

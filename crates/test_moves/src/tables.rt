@@ -1,6 +1,6 @@
 // Operations on the lent tables, or on what they say.
-use lookup::{LebPlace, PebReport};
-use mover_rules::{Begun, Plan};
+use lookup::PebReport;
+use mover_rules::Plan;
 
 // An operation on the tables; any other leaves them and the plan.
 pub fn of_tables(
@@ -12,17 +12,11 @@ pub fn of_tables(
     map: &mut [u32],
     states: &mut [u32],
 ) -> Plan {
-    let op = frames::number_at(s, 0, 1);
-    if op == 1 {
-        return begin(slip, s, plan, image, pebs, map, states);
-    }
-    if op == 6 {
-        attach(slip, image, pebs, map, states);
-        return plan;
-    }
-    if op == 7 {
-        look_up(s, image, pebs, map);
-        return plan;
+    match frames::number_at(s, 0, 1) {
+        1 => return begin(slip, s, plan, image, pebs, map, states),
+        6 => attach(slip, image, pebs, map, states),
+        7 => look_up(s, image, pebs, map),
+        _ => {}
     }
     plan
 }
@@ -44,14 +38,7 @@ fn begin(
     show::begun(r);
     show::image(image);
     show::tables(pebs, map, states);
-    plan_begun(r, plan)
-}
-
-fn plan_begun(r: Begun, plan: Plan) -> Plan {
-    match r {
-        Begun::Planned(p) => return p,
-        Begun::Refused { number, place } => return plan,
-    }
+    r.unwrap_or(plan)
 }
 
 fn attach(slip: &[u8], image: &[u8], pebs: &mut [u32], map: &mut [u32], states: &mut [u32]) {
@@ -63,8 +50,8 @@ fn attach(slip: &[u8], image: &[u8], pebs: &mut [u32], map: &mut [u32], states: 
 // What tables of so many PEBs and entries say of a PEB and of a LEB.
 fn look_up(s: &[u8], image: &[u8], pebs: &[u32], map: &[u32]) {
     match lookup::peb_report(pebs, frames::u32_at(s, 1), frames::u32_at(s, 5)) {
-        PebReport::Given { class, counter } => peb(class, counter),
-        PebReport::Absent => frames::word(b"peb absent"),
+        Some(PebReport { class, counter }) => peb(class, counter),
+        None => frames::word(b"peb absent"),
     }
     match lookup::find_leb(
         map,
@@ -72,8 +59,8 @@ fn look_up(s: &[u8], image: &[u8], pebs: &[u32], map: &[u32]) {
         frames::u32_at(s, 13),
         frames::u32_at(s, 17),
     ) {
-        LebPlace::At(p) => leb(p),
-        LebPlace::Absent => frames::word(b" leb absent "),
+        Some(p) => leb(p),
+        None => frames::word(b" leb absent "),
     }
     show::image(image);
 }

@@ -5,11 +5,11 @@ use mathlib.Core.List.{List, [], ◌∷◌, ◌++◌}
 use Prim.Native.Nat.{ℕ, ◌+◌, ◌-◌, ◌<◌}
 use native.Mathlib.Omega.{arith}
 use borrow.Author.Tests.{ltb-true, eqb-true, eqb-false, le-ltb, ne_eqb}
-use lib.Dec.{T, ltb, eqb}
+use lib.Dec.{ltb, eqb}
 use lib.IntN.{ℤ, pos, negsuc, nat_abs}
-use lib.Signed.{lt_z, non_neg}
 use mir.Syntax.{w64}
-use mir.Val.{Fits, SFits}
+use mir.Val.{SFits}
+use Rattle.std.specs.Int.{FitsUnsignedBits}
 use Rattle.transfer.specs.declared.Progress.{Progress}
 use Rattle.transfer.specs.declared.Transfer.{Transfer}
 use Rattle.transfer.specs.declared.Transfer.TheVariants.{On, Full, Ended, Failed}
@@ -17,21 +17,18 @@ use Rattle.transfer.specs.Transfer.{begun, after_bytes, after_interruption, afte
 
 -- ---- an answer's sign
 
-pub negative : (room : ℕ) (p : Progress) (z : ℤ) (i : Bool) → lt_z z (pos 0) ≡ true
+-- an answer that is a count, and one that is none
+pub counted : (room : ℕ) (p : Progress) (z : ℤ) (i : Bool) (n : ℕ) → FitsUnsignedBits 64 z → n ≡ nat_abs z
+    → after_bytes room p n ≡ after_call room p z i
+unfolding after_call
+counted room p (pos m) i n f e = rw e
+counted room p (negsuc m) i n f e = absurd f
+
+pub not_counted : (room : ℕ) (p : Progress) (z : ℤ) (i : Bool) → SFits w64 z → (FitsUnsignedBits 64 z → ⊥)
     → after_error p i ≡ after_call room p z i
 unfolding after_call
-negative room p (pos n) i h = absurd (omega (arith, ltb-true n 0 h))
-negative room p (negsuc n) i h = refl
-
-pub not_negative : (room : ℕ) (p : Progress) (z : ℤ) (i : Bool) → lt_z z (pos 0) ≡ false
-    → after_bytes room p (nat_abs z) ≡ after_call room p z i
-unfolding after_call
-not_negative room p (pos n) i h = refl
-not_negative room p (negsuc n) i h = absurd (subst T h tt)
-
-pub casts : (z : ℤ) → lt_z z (pos 0) ≡ false → SFits w64 z → T (non_neg z) × Fits w64 (nat_abs z)
-casts (pos n) h f = (tt, record { fits = omega (arith, f.sfits) })
-casts (negsuc n) h f = absurd (subst T h tt)
+not_counted room p (pos m) i s f = absurd (f (omega (arith, s.sfits)))
+not_counted room p (negsuc m) i s f = refl
 
 -- ---- one call
 

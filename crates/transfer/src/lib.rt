@@ -41,24 +41,22 @@ pub fn begin() -> Progress
 pub fn after_call(p: Progress, room: usize, got: isize, interrupted: bool) -> Transfer
     ensures { result ≡ after_call room p got interrupted }
 {
-    if got < 0 {
-        return after_error(p, interrupted);
+    match usize::try_from(got) {
+        Ok(n) => after_bytes(p, room, n),
+        Err(_) => after_error(p, interrupted),
     }
-    after_bytes(p, room, got as usize)
 }
 
 // After a call that moved n bytes. More than there is room for are an answer that no call of C gives.
 fn after_bytes(p: Progress, room: usize, n: usize) -> Transfer
     ensures { result ≡ after_bytes room p n }
 {
-    let moved = p.moved;
     if n == 0 {
-        return Transfer::Ended(moved);
+        return Transfer::Ended(p.moved);
     }
-    if room < moved {
+    let Some(left) = room.checked_sub(p.moved) else {
         return Transfer::Failed;
-    }
-    let left = room - moved;
+    };
     if left < n {
         return Transfer::Failed;
     }
@@ -66,8 +64,8 @@ fn after_bytes(p: Progress, room: usize, n: usize) -> Transfer
         return Transfer::Full;
     }
     Transfer::On(Progress {
-        moved: moved + n,
-        tries: p.tries,
+        moved: p.moved + n,
+        ..p
     })
 }
 
@@ -88,7 +86,7 @@ fn after_interruption(p: Progress) -> Transfer
         return Transfer::Failed;
     }
     Transfer::On(Progress {
-        moved: p.moved,
         tries: p.tries - 1,
+        ..p
     })
 }

@@ -1,5 +1,5 @@
 // The dump from standard input.
-ghost use Rattle.std.specs.Prelude.{◌≡◌, ◌≢◌, ◌+◌, ◌<◌, ◌≤◌, IfOk};
+ghost use Rattle.std.specs.Prelude.{◌≡◌, ◌+◌, ◌<◌, ◌≤◌, IfOk};
 ghost use Rattle.ubilist.specs.Input.{input_of, within};
 
 use crate::calls;
@@ -19,36 +19,35 @@ pub enum Input {
     Whole(usize),
     // More than the program holds.
     More,
-    // A call of `read` failed.
-    Failed,
 }
 
 // Reads into the buffer up to the end of the input. Where a call fails, the error is the last call's.
 pub fn read(stdin: &mut impl Read, held: &mut [u8]) -> io::Result<Input>
-    ensures within { IfOk result (λ i. within i 61440) }
-    ensures told { IfOk result (λ i. i ≢ Input.Failed) }
+    ensures { IfOk result (λ i. within i 61440) }
 {
     let mut p = transfer::begin();
+    // `loop`: what the call before came to says whether another is due.
     loop {
         let got = read_some(stdin, held, p.moved);
         let t = calls::after(p, MOST, &got);
         let Transfer::On(next) = t else {
             got?;
-            return Ok(input_of(t));
+            // no call failed, so this is an input
+            return Ok(input_of(t).unwrap());
         };
         p = next;
     }
 }
 
-// What a row of calls has come to. Where another call is due, it is no input yet.
-fn input_of(t: Transfer) -> Input
+// What a row of calls has come to. Where another call is due, or one failed, it is no input.
+fn input_of(t: Transfer) -> Option<Input>
     ensures { result ≡ input_of t }
 {
     match t {
-        Transfer::Full => return Input::More,
-        Transfer::Ended(n) => return Input::Whole(n),
-        Transfer::Failed => return Input::Failed,
-        Transfer::On(p) => return Input::Failed,
+        Transfer::Full => Some(Input::More),
+        Transfer::Ended(n) => Some(Input::Whole(n)),
+        Transfer::Failed => None,
+        Transfer::On(_) => None,
     }
 }
 

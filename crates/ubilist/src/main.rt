@@ -7,7 +7,6 @@ mod input;
 mod output;
 
 use input::Input;
-use listing_text::Rendered;
 use std::io;
 
 fn main(rt: HostRuntime) -> io::Result<()> {
@@ -16,7 +15,6 @@ fn main(rt: HostRuntime) -> io::Result<()> {
     match input::read(&mut rt.stdin(), &mut held) {
         Ok(Input::Whole(n)) => print_listing(&rt, &held[0..n], false, &mut out),
         Ok(Input::More) => print_listing(&rt, &held, true, &mut out),
-        Ok(Input::Failed) => unreachable!(),
         Err(e) => output::fail(&rt, "standard input", &e),
     }
 }
@@ -29,7 +27,7 @@ fn print_listing(
     more: bool,
     out: &mut [u8],
 ) -> io::Result<()> {
-    let Rendered::Text(n) = listing::list(input, more, out) else {
+    let Ok(n) = listing::list(input, more, out) else {
         return output::say(rt, "the listing is too long");
     };
     output::print(rt, &out[0..n])

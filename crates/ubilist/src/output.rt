@@ -37,6 +37,7 @@ fn write(rt: &impl Print, text: &[u8]) -> io::Result<Transfer> {
         return Ok(Transfer::Full);
     }
     let mut p = transfer::begin();
+    // `loop`: what the call before came to says whether another is due.
     loop {
         let got = rt.write_some(&text[p.moved..]);
         let t = calls::after(p, text.len(), &got);

@@ -8,13 +8,14 @@ ghost use Rattle.header.specs.Vid.{vid_out};
 ghost use Rattle.header.specs.Stores.{kind_stored, volume_stored, data_stored};
 
 use header::{
-    VID_COMPAT, VID_COPY_FLAG, VID_DATA_CRC, VID_DATA_PAD, VID_DATA_SIZE, VID_LNUM, VID_SEQUENCE,
-    VID_TYPE, VID_USED_LEBS, VID_VERSION, VID_VOLUME, VidHeader, VidRead, Written, begin, finish,
-    get, is_header, set,
+    ReadError, VID_COMPAT, VID_COPY_FLAG, VID_DATA_CRC, VID_DATA_PAD, VID_DATA_SIZE, VID_LNUM,
+    VID_SEQUENCE, VID_TYPE, VID_USED_LEBS, VID_VERSION, VID_VOLUME, VidHeader, WriteError, begin,
+    finish, get, is_header, set,
 };
 use vid_rules::rules_hold;
 
 // The fields in a header's bytes.
+#[tactic(auto, unfolding(header::specs::Vid::vid_fields))]
 pub fn vid_fields(s: &[u8]) -> VidHeader
     requires { 64 ≤ length s.now }
     ensures { result ≡ vid_fields s.now }
@@ -43,30 +44,32 @@ pub fn vid_field(header: &[u8], i: usize) -> u64
 }
 
 // What the fields of a header with magic and CRC right make it.
-fn judge_vid(h: VidHeader, leb_size: u32) -> VidRead
+#[tactic(auto, unfolding(header::specs::Vid::judge_vid))]
+fn judge_vid(h: VidHeader, leb_size: u32) -> Result<VidHeader, ReadError>
     ensures { vid_answer result ≡ verdict_answer (judge_vid leb_size h) }
 {
     if h.version == 0 {
-        return VidRead::Bad;
+        return Err(ReadError::Bad);
     }
     if h.version != 1 {
-        return VidRead::Newer;
+        return Err(ReadError::Newer);
     }
     if !rules_hold(h, leb_size) {
-        return VidRead::Bad;
+        return Err(ReadError::Bad);
     }
-    VidRead::Good(h)
+    Ok(h)
 }
 
 // The VID header at the start of a slice, judged by the LEB size.
-pub fn read_vid(header: &[u8], leb_size: u32) -> VidRead
+#[tactic(auto, unfolding(header::specs::Vid::vid_read, header::specs::Vid::read_vid))]
+pub fn read_vid(header: &[u8], leb_size: u32) -> Result<VidHeader, ReadError>
     ensures { vid_answer result ≡ vid_read leb_size header.now }
 {
     if header.len() < 64 {
-        return VidRead::Short;
+        return Err(ReadError::Short);
     }
     if !is_header(header, b"UBI!") {
-        return VidRead::Bad;
+        return Err(ReadError::Bad);
     }
     judge_vid(vid_fields(header), leb_size)
 }
@@ -75,13 +78,11 @@ pub fn read_vid(header: &[u8], leb_size: u32) -> VidRead
 pub fn vid_readable(h: VidHeader, leb_size: u32) -> bool
     ensures { result ≡ is_good (judge_vid leb_size h) }
 {
-    if h.version != 1 {
-        return false;
-    }
-    rules_hold(h, leb_size)
+    judge_vid(h, leb_size).is_ok()
 }
 
 // Version, type, copy flag and compatibility are stored.
+#[tactic(auto, unfolding(header::specs::Stores::kind_stored))]
 fn set_kind(h: VidHeader, out: &mut [u8])
     requires { 64 ≤ length out.old }
     ensures { out.new ≡ kind_stored h out.old }
@@ -93,6 +94,7 @@ fn set_kind(h: VidHeader, out: &mut [u8])
 }
 
 // Volume, LEB and sequence are stored.
+#[tactic(auto, unfolding(header::specs::Stores::volume_stored))]
 fn set_volume(h: VidHeader, out: &mut [u8])
     requires { 64 ≤ length out.old }
     ensures { out.new ≡ volume_stored h out.old }
@@ -103,6 +105,7 @@ fn set_volume(h: VidHeader, out: &mut [u8])
 }
 
 // Data size, used LEBs, data pad and data CRC are stored.
+#[tactic(auto, unfolding(header::specs::Stores::data_stored))]
 fn set_data(h: VidHeader, out: &mut [u8])
     requires { 64 ≤ length out.old }
     ensures { out.new ≡ data_stored h out.old }
@@ -114,20 +117,20 @@ fn set_data(h: VidHeader, out: &mut [u8])
 }
 
 // The header is written to the first 64 bytes, with its CRC and zero padding.
-pub fn write_vid(h: VidHeader, leb_size: u32, out: &mut [u8]) -> Written
+pub fn write_vid(h: VidHeader, leb_size: u32, out: &mut [u8]) -> Result<(), WriteError>
     ensures { (written result ≡ vid_written leb_size h out.old)
         × (out.new ≡ vid_out leb_size h out.old) }
 {
     if out.len() < 64 {
-        return Written::Short;
+        return Err(WriteError::Short);
     }
     if !vid_readable(h, leb_size) {
-        return Written::NotGood;
+        return Err(WriteError::NotGood);
     }
     begin(out, b"UBI!");
     set_kind(h, out);
     set_volume(h, out);
     set_data(h, out);
     finish(out);
-    Written::Done
+    Ok(())
 }

@@ -21,32 +21,26 @@ fn is_type(t: u8) -> bool
 fn is_internal(compat: u8) -> bool
     ensures { result ≡ (eqb compat 1 || (eqb compat 2 || (eqb compat 4 || eqb compat 5))) }
 {
-    if compat == COMPAT_DELETE {
-        return true;
-    }
-    if compat == COMPAT_READ_ONLY {
-        return true;
-    }
-    compat == COMPAT_PRESERVE || compat == COMPAT_REJECT
+    matches!(
+        compat,
+        COMPAT_DELETE | COMPAT_READ_ONLY | COMPAT_PRESERVE | COMPAT_REJECT
+    )
 }
 
 // Does the compatibility go with the volume?
+#[tactic(auto, unfolding(header::specs::Vid::volume_rule))]
 fn volume_rule(h: VidHeader) -> bool
     ensures { result ≡ volume_rule h }
 {
-    if h.volume < 128 {
-        return h.compat == COMPAT_NONE;
+    match h.volume {
+        0..=127 => h.compat == COMPAT_NONE,
+        LAYOUT_VOLUME..=0x7FFFFFFF => is_internal(h.compat),
+        _ => false,
     }
-    if h.volume < LAYOUT_VOLUME {
-        return false;
-    }
-    if 0x7FFFFFFF < h.volume {
-        return false;
-    }
-    is_internal(h.compat)
 }
 
 // The rule of a static volume's block.
+#[tactic(auto, unfolding(header::specs::Vid::static_rule))]
 fn static_rule(h: VidHeader, leb_size: u32) -> bool
     requires { h.data_pad ≤ leb_size }
     ensures { result ≡ static_rule leb_size h }
@@ -54,19 +48,13 @@ fn static_rule(h: VidHeader, leb_size: u32) -> bool
     if h.vol_type != STATIC {
         return true;
     }
-    if h.used_lebs <= h.lnum {
-        return false;
-    }
-    if h.data_size == 0 {
-        return false;
-    }
-    if h.lnum + 1 == h.used_lebs {
-        return true;
-    }
-    h.data_size == leb_size - h.data_pad
+    h.lnum < h.used_lebs
+        && 0 < h.data_size
+        && (h.lnum + 1 == h.used_lebs || h.data_size == leb_size - h.data_pad)
 }
 
 // The rule of a dynamic volume's block.
+#[tactic(auto, unfolding(header::specs::Vid::dynamic_rule))]
 fn dynamic_rule(h: VidHeader) -> bool
     ensures { result ≡ dynamic_rule h }
 {
@@ -76,67 +64,37 @@ fn dynamic_rule(h: VidHeader) -> bool
     if h.used_lebs != 0 {
         return false;
     }
-    if h.copy_flag == 0 {
-        if h.data_size != 0 {
-            return false;
-        }
-        return h.data_crc == 0;
+    match h.copy_flag {
+        0 => h.data_size == 0 && h.data_crc == 0,
+        1 => 0 < h.data_size,
+        _ => true,
     }
-    if h.copy_flag == 1 {
-        return 0 < h.data_size;
-    }
-    true
 }
 
 // The rule of a layout block.
+#[tactic(auto, unfolding(header::specs::Vid::layout_rule))]
 fn layout_rule(h: VidHeader) -> bool
     ensures { result ≡ layout_rule h }
 {
     if h.volume != LAYOUT_VOLUME {
         return true;
     }
-    if h.vol_type != DYNAMIC {
-        return false;
-    }
-    if h.compat != COMPAT_REJECT {
-        return false;
-    }
-    if h.data_pad != 0 {
-        return false;
-    }
-    h.lnum <= 1
+    h.vol_type == DYNAMIC && h.compat == COMPAT_REJECT && h.data_pad == 0 && h.lnum <= 1
 }
 
 // Do all rules hold?
+#[tactic(auto, unfolding(header::specs::Vid::vid_rules))]
 pub fn rules_hold(h: VidHeader, leb_size: u32) -> bool
     ensures { result ≡ all_of (vid_rules leb_size h) }
 {
-    if 1 < h.copy_flag {
-        return false;
-    }
-    if !is_type(h.vol_type) {
-        return false;
-    }
-    if !volume_rule(h) {
-        return false;
-    }
-    if 0x7FFFFFFF < h.lnum {
-        return false;
-    }
-    if 0x7FFFFFFF < h.used_lebs {
-        return false;
-    }
-    if leb_size as u64 <= 2 * h.data_pad as u64 {
-        return false;
-    }
-    if leb_size - h.data_pad < h.data_size {
-        return false;
-    }
-    if !static_rule(h, leb_size) {
-        return false;
-    }
-    if !dynamic_rule(h) {
-        return false;
-    }
-    layout_rule(h)
+    h.copy_flag <= 1
+        && is_type(h.vol_type)
+        && volume_rule(h)
+        && h.lnum <= 0x7FFFFFFF
+        && h.used_lebs <= 0x7FFFFFFF
+        && 2 * u64::from(h.data_pad) < u64::from(leb_size)
+        && h.data_size <= leb_size - h.data_pad
+        && static_rule(h, leb_size)
+        && dynamic_rule(h)
+        && layout_rule(h)
 }

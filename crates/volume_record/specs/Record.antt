@@ -1,5 +1,5 @@
 -- 01 'The volume table': a volume record. Assumes nothing.
-use Rattle.std.specs.Prelude.{ℕ, ◌%◌, Bool, not, ◌&&◌, ◌||◌, cond, List, [], ◌∷◌, ◌++◌, eqb, ltb, leb, length, take, drop, get_or, replicate}
+use Rattle.std.specs.Prelude.{Result, Ok, Err, ℕ, ◌%◌, Bool, not, ◌&&◌, ◌||◌, cond, List, [], ◌∷◌, ◌++◌, eqb, ltb, leb, length, take, drop, get_or, replicate}
 use Rattle.std.specs.Int.Bits.{bit_and}
 use Rattle.base.specs.Answers.{Answer, given, refused, all_of}
 use Rattle.base.specs.Below.{all_below}
@@ -8,8 +8,7 @@ use Rattle.field.specs.Be.{to_be}
 use Rattle.field.specs.Fields.{field, bytes_in, number_in}
 use Rattle.crc32.specs.Crc.{crc_of}
 use Rattle.volume_record.specs.declared.VolumeRecord.{VolumeRecord}
-use Rattle.volume_record.specs.declared.RecordWritten.{RecordWritten}
-use Rattle.volume_record.specs.declared.RecordWritten.TheVariants as written
+use Rattle.volume_record.specs.declared.ShortRecord.{ShortRecord}
 use Rattle.volume_record.specs.declared.RecordKind.{RecordKind}
 use Rattle.volume_record.specs.declared.RecordKind.TheVariants.{Empty, Good, Bad, Short}
 
@@ -102,9 +101,9 @@ abbrev pub record_accepted : List ℕ → Answer (Unit {0})
 record_accepted out = cond (leb 172 (length out)) (given tt) (refused 4 0)
 
 -- what each case of the writer's answer is in 01
-abbrev pub record_written : RecordWritten → Answer (Unit {0})
-record_written written.Done = given tt
-record_written written.Short = refused 4 0
+abbrev pub record_written : Result (Unit {0}) ShortRecord → Answer (Unit {0})
+record_written (Ok u) = given u
+record_written (Err s) = refused 4 0
 
 -- the lent bytes afterwards: refusal 4 changes nothing, and bytes beyond 172 never change
 unfoldable pub record_out : VolumeRecord → List ℕ → List ℕ

@@ -63,9 +63,7 @@ pub fn field_bytes<'a>(r: &'a [u8], i: usize) -> &'a [u8]
     ensures { result.now ≡ bytes_in (row record_fields i) r.now }
 {
     let f = field_of(i);
-    let at = f.at;
-    let end = at + f.width;
-    &r[at..end]
+    &r[f.at..f.at + f.width]
 }
 
 // The number in field i of the record at the start of a slice.

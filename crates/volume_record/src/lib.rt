@@ -38,14 +38,11 @@ pub enum RecordKind {
     Short,
 }
 
-// What writing a record comes to.
+// Too few bytes are lent for a record: refusal 4.
 #[derive(Clone, Copy)]
-pub enum RecordWritten {
-    Done,
-    Short,
-}
+pub struct ShortRecord;
 
-// The answer beside the record: an enum cannot hold an array.
+// The answer, and beside it the record of the bytes, good or not: so the promise of `read_record` has it.
 #[derive(Clone, Copy)]
 pub struct RecordRead {
     pub kind: RecordKind,

@@ -22,11 +22,12 @@ fn name_field(r: &[u8]) -> [u8; NAME_SIZE]
     ensures { result ≡ bytes_in record_name r.now }
 {
     let mut name = [0u8; NAME_SIZE];
-    base::store(&mut name, 0, field_bytes(r, RECORD_NAME));
+    name.copy_from_slice(field_bytes(r, RECORD_NAME));
     name
 }
 
 // The numbers and the name in a record's bytes.
+#[tactic(auto, unfolding(crate::specs::Record::record_of))]
 pub fn parse(r: &[u8]) -> VolumeRecord
     requires { 172 ≤ length r.now }
     ensures { result ≡ record_of r.now }
@@ -50,12 +51,13 @@ pub fn empty_record() -> [u8; RECORD_SIZE]
     let zeroes = [0u8; SUMMED_SIZE];
     let sum = crc32::crc32(&zeroes);
     let mut r = [0xFFu8; RECORD_SIZE];
-    base::store(&mut r, 0, &zeroes);
+    r[..SUMMED_SIZE].copy_from_slice(&zeroes);
     set_field(&mut r, RECORD_CRC, sum as u64);
     r
 }
 
 // Is a record empty? It is compared whole: reserved 0 alone does not make it so.
+#[tactic(auto, unfolding(crate::specs::Record::is_empty))]
 pub fn is_empty(r: &[u8], empty: &[u8]) -> bool
     requires { (length r.now ≡ 172) × (empty.now ≡ empty_record) }
     ensures { result ≡ is_empty r.now }
@@ -68,29 +70,14 @@ fn name_ends(name: [u8; NAME_SIZE], n: usize) -> bool
     requires { n < 128 }
     ensures { result ≡ name_ends name n }
 {
-    let mut i: usize = 0;
-    while i < n {
-        if name[i] == 0 {
-            return false;
-        }
-        i += 1;
-    }
-    name[n] == 0
+    name[..n].iter().all(|b| *b != 0) && name[n] == 0
 }
 
 // Is the alignment 1 or a multiple of the unit?
 fn is_aligned(alignment: u32, unit: u32) -> bool
-    requires { 0 < alignment }
     ensures { result ≡ (eqb alignment 1 || eqb (alignment % unit) 0) }
 {
-    if alignment == 1 {
-        return true;
-    }
-    // nothing above 0 is a multiple of 0
-    if unit == 0 {
-        return false;
-    }
-    alignment % unit == 0
+    alignment == 1 || alignment.is_multiple_of(unit)
 }
 
 // Is the volume dynamic or static?
@@ -101,52 +88,31 @@ fn is_type(t: u8) -> bool
 }
 
 // Do the numbers and the name keep the rules of a record that is not empty?
+#[tactic(auto, unfolding(crate::specs::Record::record_rules))]
 fn rules_hold(v: VolumeRecord, leb_size: u32, unit: u32) -> bool
     ensures { result ≡ all_of (record_rules leb_size unit v) }
 {
-    if v.reserved == 0 {
+    if v.reserved == 0 || v.alignment == 0 || leb_size < v.alignment {
         return false;
     }
-    if v.alignment == 0 {
-        return false;
-    }
-    if leb_size < v.alignment {
-        return false;
-    }
-    if !is_aligned(v.alignment, unit) {
-        return false;
-    }
-    if v.data_pad != leb_size % v.alignment {
-        return false;
-    }
-    if !is_type(v.vol_type) {
-        return false;
-    }
-    if 1 < v.update_marker {
-        return false;
-    }
-    if v.name_length == 0 {
-        return false;
-    }
-    if 127 < v.name_length {
-        return false;
-    }
-    let name = v.name;
-    if !name_ends(name, v.name_length as usize) {
-        return false;
-    }
-    v.flags & OTHER_FLAGS == 0
+    is_aligned(v.alignment, unit)
+        && v.data_pad == leb_size % v.alignment
+        && is_type(v.vol_type)
+        && v.update_marker <= 1
+        && v.name_length != 0
+        && v.name_length <= 127
+        && name_ends(v.name, v.name_length as usize)
+        && v.flags & OTHER_FLAGS == 0
 }
 
 // Is a record that is not empty good: its CRC, then its numbers and name?
+#[tactic(auto, unfolding(crate::specs::Record::record_good, crate::specs::Record::record_crc_matches))]
 pub fn is_good(r: &[u8], v: VolumeRecord, leb_size: u32, unit: u32) -> bool
     requires { (length r.now ≡ 172) × (v ≡ record_of r.now) }
     ensures { result ≡ record_good leb_size unit r.now }
 {
-    if crc32::crc32(&r[0..SUMMED_SIZE]) as u64 != get_field(r, RECORD_CRC) {
-        return false;
-    }
-    rules_hold(v, leb_size, unit)
+    crc32::crc32(&r[0..SUMMED_SIZE]) as u64 == get_field(r, RECORD_CRC)
+        && rules_hold(v, leb_size, unit)
 }
 
 // The record at the start of a slice: what it is, with its numbers and name.

@@ -1,5 +1,5 @@
 -- Laws of the volume table. Assumes nothing.
-use mathlib.Core.Path.{◌≡◌, refl, sym, ap, ◌∙◌}
+use mathlib.Core.Path.{◌≡◌, refl, sym, ◌∙◌}
 use mathlib.Core.Bool.{Bool, true, false, not, ◌&&◌, and-true, and-false, and_self, cond}
 use Rattle.base.specs.Answers.{Answer, given, refused}
 use mathlib.Core.List.{List}
@@ -14,13 +14,15 @@ use lib.ListN.{length, take, drop, get_or, length-take}
 use lib.Seq.{take_all}
 use Rattle.base.specs.Below.{any_below}
 use Rattle.base.specs.Lists.{part, eqs}
-use Rattle.base.proofs.Answers.{clash, by_test, one_broken}
+use denote.Bor.{Bor}
+use mathlib.Core.Logic.{⊎_elim}
+use Rattle.std.specs.Prelude.{Option, Some, None}
+use Rattle.std.specs.Option.{unwrap_or}
+use Rattle.std.specs.Slice.{IsGetRangeResult}
+use Rattle.base.proofs.Answers.{cond_yes, cond_no, one_broken}
 use Rattle.base.proofs.Below.{none_intro, all_fails, all_more, not_above, above_zero}
 use Rattle.base.proofs.Lists.{eqs_true}
-use Rattle.field.specs.Fields.{bytes_in, number_in}
-use Rattle.volume_record.specs.Fields.{record_name_length, record_name}
-use Rattle.volume_record.specs.Record.{record_of, record_good, is_empty}
-use Rattle.volume_record.specs.declared.VolumeRecord.{VolumeRecord}
+use Rattle.volume_record.specs.Record.{record_of, is_empty}
 use Rattle.volume_table.specs.Sums.{tallied, TallyOf}
 use Rattle.volume_table.specs.Table.{record_count, records_part, record_at, empty_or_good, name_of, same_names}
 use Rattle.volume_table.specs.Table.{autoresizes, table_rules, table_tests, table_good, taken_leb, taken_records}
@@ -33,15 +35,11 @@ pub count_small : (size : ℕ) → record_count size ≤ 128
 unfolding record_count
 count_small size = min-le_left 128 _
 
-pub part_short : (size : ℕ) (content : List ℕ) {n : ℕ} → n ≡ record_count size → length content < 172 * n
-    → content ≡ records_part size content
-unfolding records_part
-part_short size content e h = sym (take_all (172 * record_count size) content (omega arith))
-
-pub part_long : (size : ℕ) (content : List ℕ) {n : ℕ} → n ≡ record_count size
-    → take (172 * n - 0) content ≡ records_part size content
-unfolding records_part
-part_long size content e = rw (sub-zero, e)
+-- the first n bytes where there are so many, else all
+pub front : (s : Bor (List ℕ)) (n : ℕ) (o : Option (Bor (List ℕ))) → IsGetRangeResult s.now 0 n o
+    → (unwrap_or o s).now ≡ take n s.now
+front s n None h = ⊎_elim (λ l. absurd (omega arith)) (λ l. sym (take_all n s.now (omega arith))) h.0
+front s n (Some p) h = h.0.2 ∙ rw sub-zero
 
 -- a copy that is long enough for its records has them all
 pub all_there : (size : ℕ) (content : List ℕ) {n : ℕ} {t : List ℕ} → n ≡ record_count size → t ≡ records_part size content
@@ -54,33 +52,12 @@ cut_short : (size : ℕ) (content : List ℕ) {n : ℕ} → n ≡ record_count s
 unfolding records_part
 cut_short size content p h = omega (arith, length-take (172 * record_count size) content)
 
--- ---- names
-
--- a name ends with its field
-pub name_whole_field : (r : List ℕ) {n : ℕ} {b : List ℕ} → b ≡ bytes_in record_name r → n ≡ number_in record_name_length r
-    → length b < n → b ≡ name_of r
-unfolding name_of record_of
-name_whole_field r {n} {b} p q h = rw (← p, ← q) (sym (take_all n b (omega arith)))
-
-pub name_front : (r : List ℕ) {n : ℕ} {b : List ℕ} → b ≡ bytes_in record_name r → n ≡ number_in record_name_length r
-    → take (n - 0) b ≡ name_of r
-unfolding name_of record_of
-name_front r p q = rw (sub-zero, p, q)
-
 -- ---- two records with one name
 
 -- a record where it stands
 pub empty_at : (at : ℕ) (t : List ℕ) {b : Bool} → b ≡ is_empty (take (at + 172 - at) (drop at t))
     → b ≡ is_empty (part at 172 t)
 empty_at at t q = rw add-sub_cancel_left at q
-
-pub other_name : (a b : List ℕ) → eqs (name_of a) (name_of b) ≡ false
-    → false ≡ not (is_empty a) && eqs (name_of a) (name_of b)
-other_name a b p = rw (p, and-false)
-
-pub one_name : (a b : List ℕ) {e : Bool} → eqs (name_of a) (name_of b) ≡ true → e ≡ is_empty a
-    → not e ≡ not (is_empty a) && eqs (name_of a) (name_of b)
-one_name a b p q = rw (p, q, and-true)
 
 module _ (t : List ℕ) (j : ℕ) where
   -- has record i the name of record j, and neither is empty?
@@ -96,24 +73,6 @@ module _ (t : List ℕ) (j : ℕ) where
   unfolding same_names
   repeats_as i p q r = r ∙ rw (← p, q)
 
--- ---- the sums with one record more
-
-pub fine_empty : (size unit : ℕ) (r : List ℕ) {b : Bool} → b ≡ is_empty r → b ≡ true → true ≡ empty_or_good size unit r
-unfolding empty_or_good
-fine_empty size unit r p t = rw (← p, t)
-
-pub fine_other : (size unit : ℕ) (r : List ℕ) {b g : Bool} → b ≡ is_empty r → b ≡ false → g ≡ record_good size unit r
-    → g ≡ empty_or_good size unit r
-unfolding empty_or_good
-fine_other size unit r p t g = g ∙ rw (← p, t)
-
-pub tallied_as : (size unit : ℕ) (s : Tally) (r : List ℕ) {v : VolumeRecord} {f : Bool} → v ≡ record_of r
-    → f ≡ empty_or_good size unit r
-    → record { good = f; reserved = s.reserved + v.reserved; autoresize = s.autoresize + bit_and v.flags 1 } ≡ tallied
-    size unit s r
-unfolding tallied
-tallied_as size unit s r p q = rw (p, q)
-
 -- ---- the sums
 
 -- a bit counts as it is
@@ -126,33 +85,30 @@ module _ (size unit : ℕ) (t : List ℕ) where
   abbrev fine_at : ℕ → Bool
   fine_at i = empty_or_good size unit (record_at t i)
 
-  pub tally_none : TallyOf 0 size unit t (record { good = true; reserved = 0; autoresize = 0 })
-  tally_none = record { good = refl; reserved = λ _. refl; autoresize = λ _. refl }
+  pub tally_none : TallyOf 0 size unit t (Some (record { reserved = 0; autoresize = 0 }))
+  tally_none = record { good = refl; reserved = refl; autoresize = refl }
 
-  module _ (i : ℕ) (s u : Tally) (e : u ≡ tallied size unit s (record_at t i)) where
+  module _ (i : ℕ) (s : Tally) where
     -- one record more, and it is empty or good
-    pub tally_more : TallyOf i size unit t s → s.good ≡ true → u.good ≡ true → TallyOf (i + 1) size unit t u
+    pub tally_more : {u : Tally} → TallyOf i size unit t (Some s) → Some u ≡ tallied size unit s (record_at t i)
+        → TallyOf (i + 1) size unit t (Some u)
     unfolding tallied autoresizes
-    tally_more h f g = record {
-      good = g ∙ sym (all_more fine_at i (sym h.good ∙ f) (sym (ap (λ (x : Tally). x.good) e) ∙ g));
-      reserved = λ _. ap (λ (x : Tally). x.reserved) e ∙ rw (add-one, h.reserved f);
-      autoresize = λ _.
-          ap (λ (x : Tally). x.autoresize) e
-          ∙ rw (
-            add-one,
-            h.autoresize f,
-            ←
-                (bit_counts (bit_and (record_of (record_at t i)).flags 1) (and_le_r (record_of (record_at t i)).flags 1)),
-          );
-    }
+    tally_more {u} h e =
+        let y = cond_yes (fine_at i) (λ q. cc) (sym e) in
+        let f = (record_of (record_at t i)).flags in
+        record {
+          good = sym (all_more fine_at i (sym h.good) y.0);
+          reserved = rw (add-one, ← h.reserved) (cc);
+          autoresize = rw (add-one, ← h.autoresize, ← (bit_counts (bit_and f 1) (and_le_r f 1))) (cc);
+        }
 
     -- it is neither: the rest does not matter
-    pub tally_stop : (n : ℕ) → i < n → u.good ≡ false → TallyOf n size unit t u
+    pub tally_stop : (n : ℕ) → i < n → None ≡ tallied size unit s (record_at t i) → TallyOf n size unit t None
     unfolding tallied
-    tally_stop n h g = record {
-      good = g ∙ sym (all_fails n fine_at i h (sym (ap (λ (x : Tally). x.good) e) ∙ g));
-      reserved = λ b. clash g b;
-      autoresize = λ b. clash g b;
+    tally_stop n h e = record {
+      good = sym (all_fails n fine_at i h (cond_no (fine_at i) (λ q. cc) (sym e)).0);
+      reserved = tt;
+      autoresize = tt;
     }
 
 -- ---- is the table good?
@@ -176,28 +132,28 @@ too_short size unit pebs content p h =
     one_fails size unit pebs content p refl 1 (lt-leb _ _ (cut_short size content p h))
 
 -- the count n, the records t and their sums s, as computed
-pub record Summed (size unit : ℕ) (content : List ℕ) (n : ℕ) (t : List ℕ) (s : Tally) : Type 0 where
+pub record Summed (size unit : ℕ) (content : List ℕ) (n : ℕ) (t : List ℕ) (s : Option Tally) : Type 0 where
   pub count : n ≡ record_count size
   pub records : t ≡ records_part size content
   pub sums : TallyOf n size unit t s
 
-module _ (size unit pebs : ℕ) (content : List ℕ) {n : ℕ} {t : List ℕ} {s : Tally}
-    (h : Summed size unit content n t s) where
-  fails : (k : ℕ) → get_or (table_tests n size unit pebs t) k true ≡ false → false ≡ table_good size unit pebs content
-  fails = one_fails size unit pebs content h.count h.records
+module _ (size unit pebs : ℕ) (content : List ℕ) {n : ℕ} {t : List ℕ} where
+  fails : {s : Option Tally} → Summed size unit content n t s → (k : ℕ)
+      → get_or (table_tests n size unit pebs t) k true ≡ false → false ≡ table_good size unit pebs content
+  fails h = one_fails size unit pebs content h.count h.records
 
-  pub not_fine : s.good ≡ false → false ≡ table_good size unit pebs content
+  pub not_fine : Summed size unit content n t None → false ≡ table_good size unit pebs content
   unfolding table_tests table_rules
-  not_fine f = fails 2 (sym h.sums.good ∙ f)
+  not_fine h = fails h 2 (sym h.sums.good)
 
-  module _ (f : s.good ≡ true) where
+  module _ {s : Tally} (h : Summed size unit content n t (Some s)) where
     pub too_many : 1 < s.autoresize → false ≡ table_good size unit pebs content
     unfolding table_tests table_rules
-    too_many l = fails 4 (lt-leb _ _ (rw (h.sums.autoresize f) at l))
+    too_many l = fails h 4 (lt-leb _ _ (rw h.sums.autoresize at l))
 
     pub too_much_lem : pebs - 2 < s.reserved → false ≡ table_good size unit pebs content
     unfolding table_tests table_rules
-    too_much_lem l = fails 5 (lt-leb _ _ (rw (h.sums.reserved f) at l))
+    too_much_lem l = fails h 5 (lt-leb _ _ (rw h.sums.reserved at l))
 
     -- with the other rules kept, the names decide
     pub names_decide : {d : Bool} → (n ≡ 0 → ⊥) → 172 * n ≤ length t → s.autoresize ≤ 1 → s.reserved ≤ pebs - 2
@@ -211,11 +167,9 @@ module _ (size unit pebs : ℕ) (content : List ℕ) {n : ℕ} {t : List ℕ} {s
           above_zero _ z,
           le-leb _ _ l,
           ← h.sums.good,
-          f,
-          ←
-              (h.sums.autoresize f),
+          ← h.sums.autoresize,
           le-leb _ _ a,
-          ← (h.sums.reserved f),
+          ← h.sums.reserved,
           le-leb _ _ r,
         )
         (sym (and-true (not (any_below n (λ (j : ℕ). any_below j (repeats t j))))))

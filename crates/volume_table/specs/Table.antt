@@ -1,12 +1,10 @@
 -- 01 'The volume table': a table's records, the table taken, the copies mark. Assumes nothing.
-use Rattle.std.specs.Prelude.{ℕ, ◌-◌, ◌*◌, ◌/◌, min, Bool, not, ◌&&◌, ◌||◌, cond, List, [], ◌∷◌, eqb, ltb, leb, length, take}
+use Rattle.std.specs.Prelude.{ℕ, ◌-◌, ◌*◌, ◌/◌, min, Bool, not, ◌&&◌, ◌||◌, cond, List, [], ◌∷◌, eqb, ltb, leb, length, take, Option, Some, None}
 use Rattle.std.specs.Int.Bits.{bit_and}
 use Rattle.base.specs.Answers.{Answer, given, refused, all_of}
 use Rattle.base.specs.Below.{all_below, any_below, count_below, sum_below}
 use Rattle.base.specs.Lists.{part, eqs}
 use Rattle.volume_record.specs.Record.{record_of, is_empty, record_good}
-use Rattle.volume_table.specs.declared.Taken.{Taken}
-use Rattle.volume_table.specs.declared.Taken.TheVariants.{Leb, Neither}
 
 -- "There are as many as fit a LEB, at most 128."
 unfoldable pub record_count : ℕ → ℕ
@@ -83,6 +81,6 @@ module _ (size unit pebs : ℕ) (copy0 copy1 : List ℕ) where
       (cond (eqs (records_part size copy0) (records_part size copy1)) 0 2) 1
 
 -- what each case of the answer is in 01: the layout LEB whose table is taken; refusal 11
-abbrev pub taken_number : Taken → Answer ℕ
-taken_number (Leb k) = given k
-taken_number Neither = refused 11 0
+abbrev pub taken_number : Option ℕ → Answer ℕ
+taken_number (Some k) = given k
+taken_number None = refused 11 0

@@ -5,24 +5,16 @@ mod table;
 
 pub use table::{record_count, records_part, table_good};
 
-// The layout LEB whose table is taken: 0 or 1. Neither is refusal 11.
-#[derive(Clone, Copy)]
-pub enum Taken {
-    Leb(u32),
-    Neither,
-}
-
+// The layout LEB whose table is taken, 0 or 1, if one is (none is refusal 11), and the copies mark.
 #[derive(Clone, Copy)]
 pub struct TableChoice {
-    pub taken: Taken,
+    pub taken: Option<u32>,
     pub copies_mark: u32,
 }
 
-// What a pass over records adds up: PEBs reserved, and how many autoresize. `good` is of the last record, empty or
-// good; the pass ends at one that is neither.
+// What a pass over records adds up: PEBs reserved, and how many autoresize.
 #[derive(Clone, Copy)]
 struct Tally {
-    good: bool,
     reserved: u64,
     autoresize: u32,
 }

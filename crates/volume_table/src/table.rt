@@ -1,5 +1,5 @@
 // The volume table: its records, and whether it is good.
-ghost use Rattle.std.specs.Prelude.{◌≡◌, not, ◌&&◌, ℕ, ◌+◌, ◌-◌, ◌*◌, ◌^◌, ◌≤◌, ◌<◌, length};
+ghost use Rattle.std.specs.Prelude.{◌≡◌, IfSome, not, ◌&&◌, ℕ, ◌+◌, ◌-◌, ◌*◌, ◌^◌, ◌≤◌, ◌<◌, length};
 ghost use Rattle.base.specs.Below.{any_below};
 ghost use Rattle.base.specs.Lists.{eqs};
 ghost use Rattle.volume_record.specs.Record.{empty_record, is_empty};
@@ -16,15 +16,15 @@ use volume_record::{
 // "at most 128"
 const MOST_RECORDS: usize = 128;
 
+// "at most one autoresizes"
+const MOST_AUTORESIZE: u32 = 1;
+
 // How many records a table has.
+#[tactic(auto, unfolding(crate::specs::Table::record_count))]
 pub fn record_count(leb_size: u32) -> usize
     ensures { result ≡ record_count leb_size }
 {
-    let fit = leb_size as usize / RECORD_SIZE;
-    if fit < MOST_RECORDS {
-        return fit;
-    }
-    MOST_RECORDS
+    (leb_size as usize / RECORD_SIZE).min(MOST_RECORDS)
 }
 
 // The records' part of a layout LEB's content; all of it where it is shorter.
@@ -32,10 +32,7 @@ pub fn records_part<'a>(content: &'a [u8], leb_size: u32) -> &'a [u8]
     ensures { result.now ≡ records_part leb_size content.now }
 {
     let len = RECORD_SIZE * record_count(leb_size);
-    if content.len() < len {
-        return content;
-    }
-    &content[0..len]
+    content.get(..len).unwrap_or(content)
 }
 
 // The name's bytes, where they stand in a record; a name ends with its field.
@@ -45,10 +42,7 @@ fn name_of<'a>(r: &'a [u8]) -> &'a [u8]
 {
     let name = field_bytes(r, RECORD_NAME);
     let n = get_field(r, RECORD_NAME_LENGTH) as usize;
-    if name.len() < n {
-        return name;
-    }
-    &name[0..n]
+    name.get(..n).unwrap_or(name)
 }
 
 // Is the record r not empty, with the name of the record s?
@@ -56,10 +50,7 @@ fn names_clash(r: &[u8], s: &[u8], empty: &[u8]) -> bool
     requires { (length r.now ≡ 172) × ((length s.now ≡ 172) × (empty.now ≡ empty_record)) }
     ensures { result ≡ (not (is_empty r.now) && eqs (name_of r.now) (name_of s.now)) }
 {
-    if !base::same(name_of(r), name_of(s)) {
-        return false;
-    }
-    !is_empty(r, empty)
+    base::same(name_of(r), name_of(s)) && !is_empty(r, empty)
 }
 
 // Does record j, if it is not empty, have the name of one before it?
@@ -73,13 +64,11 @@ fn name_repeats(t: &[u8], j: usize, empty: &[u8]) -> bool
     if is_empty(s, empty) {
         return false;
     }
-    let mut i: usize = 0;
-    while i < j {
+    for i in 0..j {
         let a = RECORD_SIZE * i;
         if names_clash(&t[a..a + RECORD_SIZE], s, empty) {
             return true;
         }
-        i += 1;
     }
     false
 }
@@ -90,60 +79,47 @@ fn names_differ(t: &[u8], n: usize, empty: &[u8]) -> bool
     ensures { result ≡ not (any_below n (λ (j : ℕ). any_below j (λ (i : ℕ).
         same_names (record_at t.now i) (record_at t.now j)))) }
 {
-    let mut j: usize = 0;
-    while j < n {
+    for j in 0..n {
         if name_repeats(t, j, empty) {
             return false;
         }
-        j += 1;
     }
     true
 }
 
-// The sums with one record more.
-fn tally_record(sum: Tally, r: &[u8], leb_size: u32, unit: u32, empty: &[u8]) -> Tally
+// The sums with one record more, if it is empty or good.
+#[tactic(auto, unfolding(crate::specs::Sums::tallied, crate::specs::Table::empty_or_good))]
+fn tally_record(sum: Tally, r: &[u8], leb_size: u32, unit: u32, empty: &[u8]) -> Option<Tally>
     requires { (length r.now ≡ 172) × ((empty.now ≡ empty_record)
         × ((sum.reserved < 2 ^ 40) × (sum.autoresize < 128))) }
-    ensures { (result ≡ tallied leb_size unit sum r.now)
-        × ((result.reserved < sum.reserved + 2 ^ 32) × (result.autoresize ≤ sum.autoresize + 1)) }
+    ensures sums { result ≡ tallied leb_size unit sum r.now }
+    ensures small { IfSome result (λ u. (u.reserved < sum.reserved + 2 ^ 32)
+        × (u.autoresize ≤ sum.autoresize + 1)) }
 {
     let v = parse(r);
-    let reserved = sum.reserved + v.reserved as u64;
-    let autoresize = sum.autoresize + (v.flags & AUTORESIZE) as u32;
-    if is_empty(r, empty) {
-        return Tally {
-            good: true,
-            reserved,
-            autoresize,
-        };
+    if !is_empty(r, empty) && !is_good(r, v, leb_size, unit) {
+        return None;
     }
-    Tally {
-        good: is_good(r, v, leb_size, unit),
-        reserved,
-        autoresize,
-    }
+    Some(Tally {
+        reserved: sum.reserved + v.reserved as u64,
+        autoresize: sum.autoresize + (v.flags & AUTORESIZE) as u32,
+    })
 }
 
-// The first n records: are all empty or good, and what they reserve and how many autoresize if so.
-fn tally(t: &[u8], n: usize, leb_size: u32, unit: u32, empty: &[u8]) -> Tally
+// What the first n records reserve and how many autoresize, if all are empty or good.
+fn tally(t: &[u8], n: usize, leb_size: u32, unit: u32, empty: &[u8]) -> Option<Tally>
     requires { (n ≤ 128) × ((172 * n ≤ length t.now) × (empty.now ≡ empty_record)) }
     ensures { TallyOf n leb_size unit t.now result }
 {
     let mut sum = Tally {
-        good: true,
         reserved: 0,
         autoresize: 0,
     };
-    let mut i: usize = 0;
-    while i < n {
+    for i in 0..n {
         let at = RECORD_SIZE * i;
-        sum = tally_record(sum, &t[at..at + RECORD_SIZE], leb_size, unit, empty);
-        if !sum.good {
-            return sum;
-        }
-        i += 1;
+        sum = tally_record(sum, &t[at..at + RECORD_SIZE], leb_size, unit, empty)?;
     }
-    sum
+    Some(sum)
 }
 
 // Is the table in a layout LEB's content good?
@@ -159,25 +135,17 @@ pub fn table_good(content: &[u8], leb_size: u32, unit: u32, peb_count: u32) -> b
     }
     let t = records_part(content, leb_size);
     let empty = empty_record();
-    let sum = tally(t, n, leb_size, unit, &empty);
-    if !sum.good {
+    let Some(sum) = tally(t, n, leb_size, unit, &empty) else {
         return false;
-    }
-    if 1 < sum.autoresize {
-        return false;
-    }
-    if most_reserved(peb_count) < sum.reserved {
-        return false;
-    }
-    names_differ(t, n, &empty)
+    };
+    sum.autoresize <= MOST_AUTORESIZE
+        && sum.reserved <= most_reserved(peb_count)
+        && names_differ(t, n, &empty)
 }
 
 // "PEB count less 2", and not below 0.
 fn most_reserved(peb_count: u32) -> u64
     ensures { result ≡ reserved_limit peb_count }
 {
-    if peb_count < 2 {
-        return 0;
-    }
-    (peb_count - 2) as u64
+    u64::from(peb_count.saturating_sub(2))
 }

@@ -1,6 +1,6 @@
 -- How many entries a volume has in the map, and that fewer than u numbers below u pass a test exactly if one does not.
 -- Assumes nothing.
-use mathlib.Core.Path.{◌≡◌, refl, sym, ◌∙◌}
+use mathlib.Core.Path.{◌≡◌, refl, sym, ap, ◌∙◌}
 use mathlib.Core.Logic.{⊎_elim, ◌≢◌}
 use mathlib.Core.Bool.{or-true, or-false, Bool, true, false, not, cond}
 use mathlib.Core.Option.{Option, none, some}
@@ -10,6 +10,7 @@ use native.Mathlib.Omega.{arith}
 use borrow.Author.Tests.{eq-eqb, ne_eqb, lt-ltb, le-ltb}
 use lib.Dec.{eqb, ltb}
 use lib.ListN.{length, get_or}
+use Rattle.std.specs.List.{filter, range_with_len}
 use Rattle.base.specs.Below.{any_below, count_below, concat_below}
 use Rattle.base.proofs.Below.{lt_or_le, below_suc}
 use Rattle.header.specs.Vid.{layout_volume}
@@ -53,15 +54,25 @@ fewer (suc u) p =
     by_test (p u) (λ e. rw (e, or-false) (one_less (count_below u p) u ∙ fewer u p))
     (λ e. rw (e, or-true) (lt-ltb (count_below u p + 0) (suc u) (omega (arith, count_most u p))))
 
+count_front : (n : ℕ) (p : ℕ → Bool) → count_below (suc n) p ≡ cond (p 0) 1 0 + count_below n (λ i. p (suc i))
+count_front zero p = omega arith
+count_front (suc n) p = omega (arith, count_front n p)
+
+-- the same in a list of numbers from a on
+pub filter_below : (n a : ℕ) (p q : ℕ → Bool) → ((i : ℕ) → q i ≡ p (a + i))
+    → length (filter p (range_with_len a n)) ≡ count_below n q
+filter_below zero a p q e = refl
+filter_below (suc n) a p q e =
+    let h = filter_below n (a + 1) p (λ i. q (suc i)) (λ i. e (suc i) ∙ ap p (omega arith)) in
+    let z : q 0 ≡ p a = e 0 ∙ ap p (omega arith) in
+    let f : count_below (suc n) q ≡ cond (p a) 1 0 + count_below n (λ i. q (suc i)) = rw (← z) (count_front n q) in
+    by_test (p a) (λ b. rw b (omega (arith, h, rw b at f))) (λ b. rw b (omega (arith, h, rw b at f)))
+
 -- ---- entries of one volume
 
 unfoldable count_of : ℕ → List Entry → ℕ
 count_of v [] = 0
 count_of v (e ∷ es) = cond (eqb e.volume v) 1 0 + count_of v es
-
-count_front : (n : ℕ) (p : ℕ → Bool) → count_below (suc n) p ≡ cond (p 0) 1 0 + count_below n (λ i. p (suc i))
-count_front zero p = omega arith
-count_front (suc n) p = omega (arith, count_front n p)
 
 count_list : (v : ℕ) (d : Entry) (es : List Entry)
     → count_below (length es) (λ k. eqb (get_or es k d).volume v) ≡ count_of v es

@@ -1,26 +1,25 @@
 -- What an entry of a user volume says of its LEB, by the report's definitions. Assumes nothing.
 use mathlib.Core.Path.{◌≡◌, refl, sym, ap, ◌∙◌}
 use mathlib.Core.Logic.{◌⊎◌, inl, inr}
-use mathlib.Core.Bool.{Bool, true, false, not, ◌||◌, and-false, or-false}
 use mathlib.Core.Option.{none, some}
 use mathlib.Core.List.{List}
 use Prim.Native.Nat.{ℕ, ◌<◌}
 use native.Mathlib.Omega.{arith}
-use borrow.Author.Tests.{lt-ltb, ltb-true, ltb-false, not-true, not-false}
-use lib.Dec.{ltb}
+use borrow.Author.Tests.{lt-ltb, eq-eqb, eqb-true}
 use Rattle.base.specs.Answers.{map_o}
 use Rattle.base.specs.Below.{first_below}
 use Rattle.geometry.specs.declared.Geometry.{Geometry}
 use Rattle.volume_record.specs.Record.{record_of}
 use Rattle.volume_table.specs.Table.{record_at}
 use Rattle.report.specs.View.{copy_of}
-use Rattle.report.specs.Volumes.{Face, face_of, record_for, reserved_of, used_of}
+use Rattle.report.specs.Volumes.{face_of, record_for, reserved_of, used_of}
 use Rattle.report.proofs.Tables.{reserved_is}
 use Rattle.copies.specs.InPlace.{header_at, face_at}
 use Rattle.copies.proofs.Copies.{face_is}
 use Rattle.words.specs.Words.{volume_word, lnum_word, peb_word}
-use Rattle.volumes.specs.Sorted.{faulty_by, FirstOf, SortedMap}
-use Rattle.base.proofs.Answers.{by_test, either_way, by_option}
+use Rattle.std.specs.Prelude.{Some}
+use Rattle.volumes.specs.Sorted.{is_of, FirstBelow, SortedMap}
+use Rattle.base.proofs.Answers.{clash, by_option}
 use Rattle.base.proofs.Below.{first_lowest}
 use Rattle.volumes.proofs.Words.{fs, ps, rs, place_is, leb_below, index_of, lower_first}
 
@@ -66,12 +65,13 @@ module _ {g : Geometry} {n : ℕ} {image map table : List ℕ} {count : ℕ} (s 
       by_option (ps s v l) (λ q. inl (face_is g n image v l ∙ ap (map_o (face_at g image)) q))
       (λ p q. let r = index_of s hv h q in inr (record { at = r.0; below = r.1; volume = r.2; leb = r.3 }))
 
-  module _ {first : ℕ} (f : FirstOf map count v first) where
+  module _ {first : ℕ} (f : FirstBelow count (is_of map v) (Some first)) where
     -- below the LEB of the first entry there is none
-    pub used_first : first < count → used_of (rs s) (fs s) v ≡ some (header_at g image (peb_word map first)).used_lebs
+    pub used_first : used_of (rs s) (fs s) v ≡ some (header_at g image (peb_word map first)).used_lebs
     unfolding used_of
-    used_first h =
-        let e : volume_word map first ≡ v = f.here h in
+    used_first =
+        let h = f.0 in
+        let e : volume_word map first ≡ v = eqb-true (volume_word map first) v f.1 in
         let w : first_below most (fs s v) ≡ some (lnum_word map first, face_at g image (peb_word map first)) =
         first_lowest most (fs s v) (lnum_word map first) (face_at g image (peb_word map first)) (leb_within h e)
         (face_here h e)
@@ -81,29 +81,6 @@ module _ {g : Geometry} {n : ℕ} {image map table : List ℕ} {count : ℕ} (s 
         below : {l : ℕ} → l < lnum_word map first → (fs s v l ≡ none) ⊎ EntryOf map count v l → fs s v l ≡ none
         below k (inl q) = q
         below k (inr q) =
-            absurd (f.before q.at (lower_first s q.below h (q.volume ∙ sym (f.here h)) (omega (arith, q.leb)))
-            q.volume)
-
-    -- the first entry is one where there is one
-    pub first_there : {k : ℕ} → k < count → volume_word map k ≡ v → first < count
-    first_there {k} h e =
-        by_test (ltb k first) (λ q. absurd (f.before k (ltb-true k first q) e))
-        (λ q. omega (arith, ltb-false k first q))
-
--- ---- an entry at fault
-
-module _ (asks : Bool) (f : Face) where
-  pub fault_unasked : {s : Bool} → not asks ≡ true → s ≡ f.sound → not s ≡ faulty_by asks f
-  fault_unasked a e = rw (e, not-true asks a) (sym (or-false (not f.sound)))
-
-  pub fault_dynamic : {s : Bool} → f.right ≡ true → s ≡ f.sound → not s ≡ faulty_by asks f
-  fault_dynamic r e = rw (e, r, and-false asks) (sym (or-false (not f.sound)))
-
-  -- a wrong CRC is a fault, whatever the flag
-  pub fault_static : {m : Bool} (a : Bool) → not asks ≡ false → f.right ≡ m → f.sound ≡ a || m
-      → not m ≡ faulty_by asks f
-  fault_static {m} a k r e = rw (e, r, not-false asks k) (go a m)
-    where
-      go : (a m : Bool) → not m ≡ not (a || m) || not m
-      go true m = refl
-      go false m = either_way (λ x. not x ≡ not x || not x) m refl refl
+            let e = eqb-true (volume_word map first) v f.1 in
+            let z = lower_first s q.below f.0 (q.volume ∙ sym e) (omega (arith, q.leb)) in
+            clash (f.2 q.at z) (eq-eqb (volume_word map q.at) v q.volume)

@@ -6,11 +6,11 @@ use mathlib.Core.Option.{Option, none, some}
 use mathlib.Core.List.{List}
 use Prim.Native.Nat.{ℕ, ◌≤◌, ◌<◌}
 use native.Mathlib.Omega.{arith}
-use borrow.Author.Tests.{eqb-true, eq-eqb, ne_eqb, ltb-true, ltb-false}
+use borrow.Author.Tests.{eqb-true, eq-eqb, ne_eqb}
 use lib.Dec.{eqb, ltb}
 use Rattle.base.specs.Answers.{map_o}
 use Rattle.base.specs.Below.{any_below, count_below}
-use Rattle.base.proofs.Answers.{and_left, and_right, by_test, same_test, by_option}
+use Rattle.base.proofs.Answers.{clash, and_left, and_right, same_test, by_option}
 use Rattle.base.proofs.Below.{any_intro, any_cong, first_none, any_hit}
 use Rattle.geometry.specs.declared.Geometry.{Geometry}
 use Rattle.volume_record.specs.Record.{record_of}
@@ -24,7 +24,9 @@ use Rattle.copies.specs.InPlace.{header_at, copy_at, face_at}
 use Rattle.copies.proofs.Copies.{static_below, copy_at_lem, face_is}
 use Rattle.volumes.specs.declared.RecordNumbers.{RecordNumbers}
 use Rattle.words.specs.Words.{volume_word, lnum_word, peb_word}
-use Rattle.volumes.specs.Sorted.{faulty_by, numbers_of, asks_by, is_of, fault_at, FirstOf, LacksLeb, SortedMap, NoMisfit}
+use Rattle.volumes.specs.Sorted.{faulty_by, numbers_of, asks_by, is_of, fault_at, FirstBelow, fewer_than_used, LacksLeb, SortedMap, NoMisfit}
+use Rattle.std.specs.declared.option.Option as rust
+use Rattle.std.specs.Prelude.{Some, None}
 use Rattle.volumes.proofs.Counts.{count_cong, count_upto, fewer, has, count_map}
 use Rattle.volumes.proofs.Words.{fs, ps, rs, es, nth, volume_is}
 use Rattle.volumes.proofs.Faces.{record_there, record_not, most, leb_within, face_here, EntryOf, face_or}
@@ -117,37 +119,37 @@ module _ {g : Geometry} {n : ℕ} {image map table : List ℕ} {count : ℕ} (d 
             (λ l _. sym (ap is_missing (face_is g n image v l) ∙ missing_has (face_at g image) (ps s v l))))
 
       -- nothing is mapped
-      unmapped : {first : ℕ} → FirstOf map count v first → count ≤ first
-          → lacks rec (used_of (rs s) (fs s) v) (fs s v) ≡ false
+      unmapped : FirstBelow count (is_of map v) None → lacks rec (used_of (rs s) (fs s) v) (fs s v) ≡ false
       unfolding used_of
-      unmapped f h =
+      unmapped b =
           rw (first_none (most s hv) (fs s v) (λ l k. ⊎_elim (λ (q : fs s v l ≡ none). q)
-          (λ (q : EntryOf map count v l). absurd (f.before q.at (omega (arith, q.below)) q.volume))
+          (λ (q : EntryOf map count v l). clash (b q.at q.below) (eq-eqb (volume_word map q.at) v q.volume))
           (face_or s hv k)))
 
-      lacking : {b : Bool} → LacksLeb g image map count v b → b ≡ lacks rec (used_of (rs s) (fs s) v) (fs s v)
+      lacking_from : (first : rust.Option ℕ) → FirstBelow count (is_of map v) first
+          → fewer_than_used g image map count v first ≡ lacks rec (used_of (rs s) (fs s) v) (fs s v)
       unfolding copy_of face_of
-      lacking x =
-          let k = x.first in
-          x.is
-          ∙ by_test (ltb k count)
-          (λ q. let h : k < count = ltb-true k count q in
-          let e : volume_word map k ≡ v = x.is_first.here h in
-          let f = fits (lnum_word map k) (face_at g image (peb_word map k)) (rw reserves at (leb_within s hv h e))
-          (face_here s hv h e) in
+      lacking_from None b = sym (unmapped b)
+      lacking_from (Some k) b =
+          let e = eqb-true (volume_word map k) v b.1 in
+          let f = fits (lnum_word map k) (face_at g image (peb_word map k)) (rw reserves at (leb_within s hv b.0 e))
+          (face_here s hv b.0 e) in
           let z = f.same_type ∙ static in
-          rw q (missing (header_at g image (peb_word map k)).used_lebs (f.same_used z) (f.used_within z)))
-          (λ q. rw q (sym (unmapped x.is_first (ltb-false k count q))))
+          missing (header_at g image (peb_word map k)).used_lebs (f.same_used z) (f.used_within z)
+
+      lacking : {b : Bool} → LacksLeb g image map count v b → b ≡ lacks rec (used_of (rs s) (fs s) v) (fs s v)
+      lacking x = x.is ∙ lacking_from x.first x.is_first
 
   -- ---- the state, as it is told from the record that was read
+
+  pub state_none : (record_of (record_at table v)).reserved ≡ 0 → 0 ≡ state_at (medium_of g n image) v
+  unfolding state_at state_of
+  state_none e =
+      rw (record_not (rs s) v (ap (λ (x : List ℕ). (record_of (record_at x v)).reserved) (sym s.table_is) ∙ e))
 
   module _ {r : RecordNumbers} (is : r ≡ numbers_of (record_of (record_at table v))) where
     number : {A : Type 0} (f : RecordNumbers → A) → f r ≡ f (numbers_of rec)
     number f = ap f (is ∙ ap (λ (x : List ℕ). numbers_of (record_of (record_at x v))) s.table_is)
-
-    pub state_none : r.reserved ≡ 0 → 0 ≡ state_at (medium_of g n image) v
-    unfolding numbers_of state_at state_of
-    state_none e = rw (record_not (rs s) v (sym (number (λ k. k.reserved)) ∙ e))
 
     module _ (n0 : r.reserved ≡ 0 → ⊥) where
       there : 0 < rec.reserved

@@ -1,5 +1,5 @@
 // Refusal 12: entries that differ from their volume's record or first entry.
-ghost use Rattle.std.specs.Prelude.{◌≡◌, ◌≤◌, ◌<◌};
+ghost use Rattle.std.specs.Prelude.{◌≡◌, ◌<◌, IfSome};
 ghost use Rattle.report.specs.View.{medium_of};
 ghost use Rattle.copies.specs.InPlace.{header_at, HasCopy};
 ghost use Rattle.volumes.specs.Sorted.{Entries, misfit_by, misfit_entry, FirstMisfit, VolumeMisfit, misfit_refusal, table_refusal, SortedMap};
@@ -13,25 +13,20 @@ use header::{STATIC, VID_DATA_PAD, VID_TYPE, VID_USED_LEBS};
 use words::{peb_word, volume_word};
 
 // Does refusal 12 name PEB i's copy, where its volume's first entry has these used LEBs?
+#[tactic(auto, unfolding(crate::specs::Sorted::misfit_by))]
 fn misfits(image: &[u8], g: Geometry, i: usize, r: RecordNumbers, used: u64) -> bool
     requires { HasCopy g image.now i }
     ensures { result ≡ misfit_by r used (header_at g image.now i) }
 {
     let kind = header_field(image, g, i, VID_TYPE);
-    if kind != r.vol_type as u64 {
-        return true;
-    }
-    if header_field(image, g, i, VID_DATA_PAD) != r.data_pad as u64 {
+    if kind != r.vol_type as u64 || header_field(image, g, i, VID_DATA_PAD) != r.data_pad as u64 {
         return true;
     }
     if kind != STATIC as u64 {
         return false;
     }
     let own = header_field(image, g, i, VID_USED_LEBS);
-    if own != used {
-        return true;
-    }
-    (r.reserved as u64) < own
+    own != used || (r.reserved as u64) < own
 }
 
 // Is entry k one of the volume, and named by refusal 12?
@@ -55,7 +50,7 @@ fn misfit_at(
     misfits(image, g, peb_word(map, k) as usize, r, used)
 }
 
-// The first entry of the volume that refusal 12 names, or `count`.
+// The first entry of the volume that refusal 12 names, if there is one.
 fn misfit_in(
     image: &[u8],
     g: Geometry,
@@ -63,19 +58,12 @@ fn misfit_in(
     count: usize,
     volume: u32,
     r: RecordNumbers,
-) -> usize
+) -> Option<usize>
     requires { Entries g image.now map.now count }
     ensures { FirstMisfit g image.now map.now count volume r result }
 {
-    let first = first_of(map, count, volume);
-    let mut k = first;
-    while k < count {
-        if misfit_at(image, g, map, count, volume, r, first, k) {
-            return k;
-        }
-        k += 1;
-    }
-    k
+    let first = first_of(map, count, volume)?;
+    (first..count).find(|k| misfit_at(image, g, map, count, volume, r, first, *k))
 }
 
 // The same, with the record read; a volume without one has no entry.
@@ -87,18 +75,15 @@ fn misfit_of(
     count: usize,
     records: &[u8],
     volume: u32,
-) -> usize
+) -> Option<usize>
     requires { (SortedMap g n image.now map.now records.now count) × (volume < 128) }
     ensures { VolumeMisfit (medium_of g n image.now) map.now count volume result }
 {
-    let r = record_numbers(records, g.leb_size, volume as usize);
-    if r.reserved == 0 {
-        return count;
-    }
+    let r = record_numbers(records, g.leb_size, volume as usize)?;
     misfit_in(image, g, map, count, volume, r)
 }
 
-// The first entry of the map that refusal 12 names, or `count`.
+// The first entry of the map that refusal 12 names, if there is one.
 pub fn first_misfit(
     image: &[u8],
     g: Geometry,
@@ -106,18 +91,15 @@ pub fn first_misfit(
     map: &[u32],
     count: usize,
     records: &[u8],
-) -> usize
+) -> Option<usize>
     requires { SortedMap g n image.now map.now records.now count }
-    ensures { (misfit_refusal map.now count result ≡ table_refusal (medium_of g n image.now))
-        × (result ≤ count) }
+    ensures { (misfit_refusal map.now result ≡ table_refusal (medium_of g n image.now))
+        × IfSome result (λ k. k < count) }
 {
-    let mut volume: u32 = 0;
-    while volume < 128 {
-        let k = misfit_of(image, g, n, map, count, records, volume);
-        if k < count {
-            return k;
+    for volume in 0..128 {
+        if let Some(k) = misfit_of(image, g, n, map, count, records, volume) {
+            return Some(k);
         }
-        volume += 1;
     }
-    count
+    None
 }

@@ -2,8 +2,8 @@
 ghost use Rattle.std.specs.Prelude.{◌≡◌, ◌+◌, ◌*◌, ◌≤◌, ◌<◌, length};
 ghost use Rattle.base.specs.Lists.{part};
 ghost use Rattle.volume_record.specs.Record.{record_of};
-ghost use Rattle.volume_table.specs.Table.{record_count, record_at};
-ghost use Rattle.volumes.specs.Sorted.{numbers_of};
+ghost use Rattle.volume_table.specs.Table.{record_count};
+ghost use Rattle.volumes.specs.Sorted.{numbers_of, NumbersOf};
 
 use crate::RecordNumbers;
 use volume_record::{
@@ -26,19 +26,17 @@ fn numbers_at(records: &[u8], at: usize) -> RecordNumbers
     }
 }
 
-// The numbers of a volume's record; zeroes where the table has none.
-pub fn record_numbers(records: &[u8], leb_size: u32, volume: usize) -> RecordNumbers
+// The numbers of a volume's record, if the table has one that reserves PEBs.
+pub fn record_numbers(records: &[u8], leb_size: u32, volume: usize) -> Option<RecordNumbers>
     requires { (length records.now ≡ 172 * record_count leb_size) × (volume < 128) }
-    ensures { result ≡ numbers_of (record_of (record_at records.now volume)) }
+    ensures { NumbersOf records.now volume result }
 {
     if volume_table::record_count(leb_size) <= volume {
-        return RecordNumbers {
-            reserved: 0,
-            data_pad: 0,
-            vol_type: 0,
-            marker: 0,
-            flags: 0,
-        };
+        return None;
     }
-    numbers_at(records, RECORD_SIZE * volume)
+    let r = numbers_at(records, RECORD_SIZE * volume);
+    if r.reserved == 0 {
+        return None;
+    }
+    Some(r)
 }

@@ -20,10 +20,7 @@ use words::{STATE_WORDS, peb_word};
 fn asks_crc(r: RecordNumbers) -> bool
     ensures { result ≡ asks_by r }
 {
-    if r.vol_type != STATIC {
-        return false;
-    }
-    r.flags & SKIP_CRC != SKIP_CRC
+    r.vol_type == STATIC && r.flags & SKIP_CRC != SKIP_CRC
 }
 
 // Is a LEB of the static volume missing? Its entries are distinct LEBs below used LEBs: one is where there are fewer.
@@ -31,10 +28,9 @@ fn lacks_leb(image: &[u8], g: Geometry, map: &[u32], count: usize, volume: u32) 
     requires { Entries g image.now map.now count }
     ensures { LacksLeb g image.now map.now count volume result }
 {
-    let first = first_of(map, count, volume);
-    if first == count {
+    let Some(first) = first_of(map, count, volume) else {
         return false;
-    }
+    };
     let found = entries_of(map, count, volume) as u64;
     found < header_field(image, g, peb_word(map, first) as usize, VID_USED_LEBS)
 }
@@ -52,20 +48,16 @@ fn volume_state(
     requires { (NoMisfit g n image.now map.now records.now count) × (volume < 128) }
     ensures { result ≡ state_at (medium_of g n image.now) volume }
 {
-    let r = record_numbers(records, g.leb_size, volume as usize);
-    if r.reserved == 0 {
+    let Some(r) = record_numbers(records, g.leb_size, volume as usize) else {
         return state::ABSENT;
-    }
+    };
     if r.marker == 1 {
         return state::UPDATING;
     }
     if any_faulty(image, g, map, count, volume, asks_crc(r)) {
         return state::DAMAGED;
     }
-    if r.vol_type != STATIC {
-        return state::GOOD;
-    }
-    if lacks_leb(image, g, map, count, volume) {
+    if r.vol_type == STATIC && lacks_leb(image, g, map, count, volume) {
         return state::DAMAGED;
     }
     state::GOOD
@@ -85,9 +77,7 @@ pub fn fill_states(
     ensures { states.new
         ≡ state_words (medium_of g n image.now) ++ drop state_words_needed states.old }
 {
-    let mut volume: usize = 0;
-    while volume < STATE_WORDS {
+    for volume in 0..STATE_WORDS {
         states[volume] = volume_state(image, g, n, map, count, records, volume as u32);
-        volume += 1;
     }
 }

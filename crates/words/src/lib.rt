@@ -96,9 +96,5 @@ pub fn fill_words(words: &mut [u32], n: usize)
     requires { n ≤ length words.old }
     ensures { words.new ≡ replicate n no_word ++ drop n words.old }
 {
-    let mut i: usize = 0;
-    while i < n {
-        words[i] = NO_WORD;
-        i += 1;
-    }
+    words[..n].fill(NO_WORD);
 }

@@ -13,5 +13,5 @@ pub report_on-requires : goal.report_on-requires
 report_on-requires c =
     table_past c.requires c.layout_content-copy0.ensures c.layout_content-copy1.ensures
     c.choose_table-choice.result.taken
-    c.choose_table-choice.ensures.taken c.choose_table-choice.ensures.mark c.in-Leb.is
+    c.choose_table-choice.ensures.taken c.choose_table-choice.ensures.mark c.in-Some.is
     c.taken_table-table.ensures

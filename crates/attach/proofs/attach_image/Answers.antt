@@ -8,8 +8,9 @@ use Rattle.attach.proofs.attach_image.Goals as goal
 pub returns-then-not-image_fits : goal.returns-then-not-image_fits
 returns-then-not-image_fits c =
     let a = c.args in
-    refused3 a.g a.image.now (lent a.pebs.now a.map.now a.states.now)
-    (sym c.image_fits.ensures ∙ c.if-not-image_fits.true)
+    rw c.unplaced.ensures
+    (refused3 a.g a.image.now (lent a.pebs.now a.map.now a.states.now)
+    (sym c.image_fits.ensures ∙ c.if-not-image_fits.true))
 
 pub long_enough-requires : goal.long_enough-requires
 long_enough-requires c =
@@ -19,9 +20,10 @@ long_enough-requires c =
 pub returns-then-not-long_enough : goal.returns-then-not-long_enough
 returns-then-not-long_enough c =
     let a = c.args in
-    refused4 a.g a.image.now (lent a.pebs.now a.map.now a.states.now)
+    rw c.unplaced-then-not-long_enough.ensures
+    (refused4 a.g a.image.now (lent a.pebs.now a.map.now a.states.now)
     (sym c.image_fits.ensures ∙ c.if-not-image_fits.false)
-    (sym c.long_enough.ensures ∙ c.if-not-long_enough.true)
+    (sym c.long_enough.ensures ∙ c.if-not-long_enough.true))
 
 pub attach_pebs-requires : goal.attach_pebs-requires
 attach_pebs-requires c =

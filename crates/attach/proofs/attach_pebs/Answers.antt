@@ -4,22 +4,14 @@ use Rattle.attach.proofs.Stages.{pass_refusal, pass_beyond, past_eight}
 use borrow.Author.Rules.{rules}
 use Rattle.attach.proofs.attach_pebs.Goals as goal
 
-pub returns-then-p-ne0 : goal.returns-then-p-ne0
-returns-then-p-ne0 c =
-    let rm = c.requires in
-    let p = c.pass-p in
-    ended_from _ rm.least (pass_beyond rm p.result _ _ p.ensures)
-    (ended_refused _ (pass_refusal rm p.result _ _ p.ensures c.if-p-ne0.true) c.refuse.ensures)
-
 pub attach_passed-requires : goal.attach_passed-requires
-attach_passed-requires c =
-    let p = c.pass-p in
-    past_eight c.requires p.result _ _ p.ensures (search rules)
-    (search rules)
-    c.if-p-ne0.false
+attach_passed-requires c = past_eight c.requires c.in-Ok.ensures (search rules) (search rules)
 
-pub returns : goal.returns
-returns c =
+pub returns-in-Ok : goal.returns-in-Ok
+returns-in-Ok c = ended_from _ c.requires.least (pass_beyond c.requires c.in-Ok.ensures) c.attach_passed.ensures
+
+pub returns-in-Err : goal.returns-in-Err
+returns-in-Err c =
     let rm = c.requires in
-    let p = c.pass-p in
-    ended_from _ rm.least (pass_beyond rm p.result _ _ p.ensures) c.attach_passed.ensures
+    ended_from _ rm.least (pass_beyond rm c.in-Err.ensures)
+    (ended_refused _ (pass_refusal rm c.in-Err.ensures) c.refuse.ensures)

@@ -1,25 +1,22 @@
 -- `builder_content::content_fits` meets its contract. Assumes nothing.
 use native.Mathlib.Omega.{arith}
-use Rattle.builder_rules.specs.Blocks.{BuildPlan}
 use Rattle.builder_rules.specs.Filling.{plan_from}
 use Rattle.builder_content.proofs.Laws.{other_count, other_sum, lengths_decide}
 use Rattle.builder_content.proofs.content_fits.Goals as goal
 
 pub returns-then-lengths-count : goal.returns-then-lengths-count
 returns-then-lengths-count c =
-    let plan : BuildPlan = plan_from c.args.g 0 c.args.count c.args.table.now c.args.lengths.now c.args.content.now in
-    other_count plan (λ e. absurd (c.if-lengths-count.true e))
+    let a = c.args in
+    other_count (plan_from a.g 0 a.count a.table.now a.lengths.now a.content.now) c.if-lengths-count.true
 
-pub returns-then-sum_of-content : goal.returns-then-sum_of-content
-returns-then-sum_of-content c =
-    let plan : BuildPlan = plan_from c.args.g 0 c.args.count c.args.table.now c.args.lengths.now c.args.content.now in
-    other_sum plan (omega arith) c.sum_of.ensures (λ e. absurd (c.if-sum_of-content.true e))
-
-pub lengths_fit-requires : goal.lengths_fit-requires
-lengths_fit-requires c =
-    (omega arith, (omega arith, λ v h. c.requires.1.1 v (omega arith)))
+pub returns-then-sum_of-bytes : goal.returns-then-sum_of-bytes
+returns-then-sum_of-bytes c =
+    let a = c.args in
+    other_sum (plan_from a.g 0 a.count a.table.now a.lengths.now a.content.now) (omega arith) c.sum_of.ensures
+    c.if-sum_of-bytes.true
 
 pub returns : goal.returns
 returns c =
-    let plan : BuildPlan = plan_from c.args.g 0 c.args.count c.args.table.now c.args.lengths.now c.args.content.now in
-    lengths_decide plan (omega arith) c.sum_of.ensures (omega arith) c.lengths_fit.ensures
+    let a = c.args in
+    lengths_decide (plan_from a.g 0 a.count a.table.now a.lengths.now a.content.now) (omega arith) c.sum_of.ensures
+    (omega arith) c.lengths_fit.ensures

@@ -27,4 +27,4 @@ unfolding length_at
 returns c =
     let a = c.args in
     let t = rw lent_part at (value_is c.same.ensures c.if-not-same.false) in
-    rw (is_field a.slip.now a.at t (omega arith)) (omega arith)
+    rw (is_field a.slip.now a.at t (omega arith), c.read-len.ensures.0)

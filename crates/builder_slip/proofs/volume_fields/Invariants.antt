@@ -9,8 +9,13 @@ use Rattle.builder_rules.specs.Slip.{field_start}
 use Rattle.builder_slip.proofs.Laws.{other}
 use Rattle.builder_slip.proofs.volume_fields.Given as goal
 
-abbrev pub invariant-loop-at : goal.invariant-loop-at
-invariant-loop-at l = (l.at ≡ field_start l.slip l.count) × ((l.at ≤ length l.slip) × ((17 + l.count ≤ l.at) × (first_below l.count (other l.slip) ≡ none)))
+abbrev pub invariant-loop-end : goal.invariant-loop-end
+invariant-loop-end l = record {
+  starts : l.at ≡ field_start l.slip l.count;
+  within : l.at ≤ length l.slip;
+  apart : 17 + l.count ≤ l.at;
+  volumes : first_below l.count (other l.slip) ≡ none;
+}
 
-abbrev pub decreases-loop-at : goal.decreases-loop-at
-decreases-loop-at l = length l.slip - l.at
+abbrev pub decreases-loop-end : goal.decreases-loop-end
+decreases-loop-end l = length l.slip - l.at

@@ -1,12 +1,8 @@
--- `field::read` meets its contract: after i turns v is the number of the first i bytes. Assumes nothing.
+-- `field::read` meets its contract: v is the number of the bytes so far. Assumes nothing.
 use mathlib.Core.Path.{◌≡◌}
-use Prim.Native.Nat.{◌≤◌, ◌<◌, ◌-◌, ◌^◌}
-use Rattle.base.specs.Lists.{part}
+use lib.ListN.{take}
 use Rattle.field.specs.Be.{be_of}
 use Rattle.field.proofs.read.Given as goal
 
-abbrev pub invariant-loop-i : goal.invariant-loop-i
-invariant-loop-i l = (l.i ≤ l.width) × ((l.v < 256 ^ l.i) × (l.v ≡ be_of (part l.at l.i l.s)))
-
-abbrev pub decreases-loop-i : goal.decreases-loop-i
-decreases-loop-i l = l.width - l.i
+abbrev pub invariant-loop-b : goal.invariant-loop-b
+invariant-loop-b l = l.v ≡ be_of (take l.b-index l.b-items)

@@ -1,9 +1,6 @@
 -- `frames::patches` meets its contract. Assumes nothing.
-use Rattle.std.proofs.Common.{◌≡◌, ◌-◌, ◌≤◌, length}
+use Rattle.std.proofs.Common.{◌≤◌, length}
 use Rattle.frames.proofs.patches.Given as goal
 
 abbrev pub invariant-loop : goal.invariant-loop
-invariant-loop l = (l.end-2 ≤ length l.payload) × (length l.image ≡ length l.initial.image)
-
-abbrev pub decreases-loop : goal.decreases-loop
-decreases-loop l = l.end - l.counter
+invariant-loop l = l.end-2 ≤ length l.payload

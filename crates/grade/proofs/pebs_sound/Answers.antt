@@ -1,33 +1,17 @@
--- `grade::pebs_sound` meets its contract: the PEBs before i are sound. Assumes nothing.
-use mathlib.Core.Path.{◌≡◌, refl, sym, ◌∙◌}
-use mathlib.Core.Bool.{true}
-use Prim.Native.Nat.{◌-◌}
+-- `grade::pebs_sound` meets its contract. Assumes nothing.
+use mathlib.Core.Path.{refl, ◌∙◌}
 use native.Mathlib.Omega.{arith}
-use Rattle.base.proofs.Below.{all_fails, all_more}
+use Rattle.std.proofs.Common.{rules, tests}
+use Rattle.std.proofs.lemmas.Iterator.{YieldsList-from_range}
+use Rattle.std.proofs.lemmas.Iterator.Search.{all_from_yields_List}
 use Rattle.grade.specs.Words.{sound_peb}
+use Rattle.grade.proofs.Graded.{all_in_range}
 use Rattle.grade.proofs.pebs_sound.Goals as goal
-
-pub loop-i-init : goal.loop-i-init
-loop-i-init c =
-    (omega arith, refl)
-
-pub returns-then-not-peb_sound : goal.returns-then-not-peb_sound
-returns-then-not-peb_sound c =
-    let a = c.args in
-    sym
-    (all_fails a.n (sound_peb a.pebs.now) c.loop-i.i (omega arith)
-    (sym c.peb_sound.ensures ∙ c.if-not-peb_sound.true))
-
-pub loop-i-preserved : goal.loop-i-preserved
-loop-i-preserved c =
-    let a = c.args in (
-      omega arith,
-      all_more (sound_peb a.pebs.now) c.loop-i.i c.loop-i.invariant.1
-          (sym c.peb_sound.ensures ∙ c.if-not-peb_sound.false),
-    )
 
 pub returns : goal.returns
 returns c =
-    let l = c.loop-i in
-    let e : l.i ≡ c.args.n = omega arith in
-    sym (rw e at l.invariant.1)
+    let a = c.args in
+    all_from_yields_List (sound_peb a.pebs.now) _ _ _ c.all.ensures.ran
+    (YieldsList-from_range 0 a.n a.n refl (omega arith))
+    (λ x b q k. search (rules, tests))
+    ∙ all_in_range (sound_peb a.pebs.now) a.n

@@ -9,8 +9,7 @@ pub overflow_cast-result-2 : goal.overflow_cast-result-2
 overflow_cast-result-2 c =
     let p = c.requires in omega (arith, (within p.fitting.sorted).1, p.room.few)
 
-pub returns : goal.returns
-returns c =
-    let z = c.fill_states.ensures in
-    let g = graded c.requires z (search rules) in
-    record { answer = report_is c.requires c.mean.ensures (c.grade-grade.ensures c.args.g c.args.image.now g); states = z }
+pub returns-clause-answer : goal.returns-clause-answer
+returns-clause-answer c =
+    let g = graded c.requires c.fill_states.ensures (search rules) in
+    report_is c.requires c.mean.ensures (c.grade-grade.ensures c.args.g c.args.image.now g)

@@ -1,14 +1,9 @@
 -- `words::store_peb` meets its contract. Assumes nothing.
 use Prim.Native.Nat.{◌*◌}
 use native.Mathlib.Omega.{arith}
-use lib.ListN.{length-set}
 use Rattle.words.specs.Words.{peb_stride}
 use Rattle.words.proofs.Laws.{set_two}
 use Rattle.words.proofs.store_peb.Goals as goal
-
-pub bounds-pebs-i-2 : goal.bounds-pebs-i-2
-bounds-pebs-i-2 c =
-    simp length-set (omega arith)
 
 pub returns : goal.returns
 returns c =

@@ -7,7 +7,9 @@ use Rattle.capi.proofs.Laws.{to_last}
 use Rattle.capi.proofs.moving.run_steps.Given as goal
 
 abbrev pub invariant-loop-next : goal.invariant-loop-next
-invariant-loop-next l = (length l.image ≡ length l.initial.image) × ((l.lent ≡ l.initial.lent) × (to_last l.p l.image ≡ to_last l.initial.p l.initial.image))
+invariant-loop-next l =
+    (length l.image ≡ length l.initial.image)
+    × ((l.lent ≡ l.initial.lent) × (to_last l.p l.image ≡ to_last l.initial.p l.initial.image))
 
 abbrev pub decreases-loop-next : goal.decreases-loop-next
 decreases-loop-next l = step_count l.p - l.p.steps

@@ -4,23 +4,14 @@ use mathlib.Core.Bool.{false}
 use Prim.Native.Nat.{ℕ}
 use mathlib.Core.List.{List}
 use native.Mathlib.Omega.{arith}
-use borrow.Author.Rules.{rules}
 use Rattle.base.proofs.Below.{any_intro, none_intro}
 use Rattle.choice.specs.Keyed.{same_leb}
-use Rattle.choice.proofs.Chains.{along_from, along_next, walk_on, walk_end, other_leb}
+use Rattle.choice.proofs.Chains.{along_next, walk_on, walk_end, other_leb}
 use Rattle.choice.proofs.chain.has_lower_copy.Goals as goal
 
 -- PEB k has another LEB than PEB i
 abbrev Other : List ℕ → ℕ → ℕ → Type 0
 Other map i k = same_leb map i k ≡ false
-
-pub loop-j-init : goal.loop-j-init
-loop-j-init c =
-    (rw c.link-j.ensures (along_from c.requires.1.1.0 c.args.i c.requires.0), λ k h l. absurd (omega arith))
-
-pub same_leb-requires : goal.same_leb-requires
-same_leb-requires c =
-    let r = c.loop-j.invariant.0.range in search rules
 
 pub returns-then-same_leb : goal.returns-then-same_leb
 returns-then-same_leb c =
@@ -28,10 +19,6 @@ returns-then-same_leb c =
     let r = c.loop-j.invariant.0.range in
     let e = sym c.same_leb.ensures ∙ c.if-same_leb.true in
     sym (any_intro a.i (same_leb a.map.now a.i) c.loop-j.j (omega arith) e)
-
-pub link-j-requires-in-loop-j : goal.link-j-requires-in-loop-j
-link-j-requires-in-loop-j c =
-    let r = c.loop-j.invariant.0.range in search rules
 
 pub loop-j-preserved : goal.loop-j-preserved
 loop-j-preserved c =

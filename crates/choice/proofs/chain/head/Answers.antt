@@ -1,15 +1,10 @@
 -- `choice::chain::head` meets its contract. Assumes nothing.
 use mathlib.Core.Path.{sym, ap, ap₂, ◌∙◌}
 use Prim.Native.Nat.{ℕ}
-use native.Mathlib.Omega.{arith}
 use lib.ListN.{get_or}
 use Rattle.choice.specs.Chain.{bucket_of}
 use Rattle.choice.proofs.Chains.{in_bucket}
 use Rattle.choice.proofs.chain.head.Goals as goal
-
-pub overflow_cast-result : goal.overflow_cast-result
-overflow_cast-result c =
-    omega (arith, c.type_inv.heads c.bucket-at.result)
 
 pub returns : goal.returns
 returns c =

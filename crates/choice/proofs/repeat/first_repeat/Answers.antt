@@ -1,16 +1,15 @@
 -- `choice::repeat::first_repeat` meets its contract: the PEBs passed repeat no lower one. Assumes nothing.
 use mathlib.Core.Path.{◌≡◌}
-use Prim.Native.Nat.{◌-◌, ℕ}
+use Prim.Native.Nat.{ℕ}
 use native.Mathlib.Omega.{arith}
-use borrow.Author.Rules.{rules}
 use mathlib.Core.Bool.{false}
 use mathlib.Core.List.{List}
 use Rattle.geometry.specs.declared.Geometry.{Geometry}
 use Rattle.report.specs.View.{views_of, copies}
 use Rattle.report.specs.Choice.{repeats}
 use Rattle.base.proofs.Below.{one_more}
-use Rattle.choice.proofs.Words.{within, repeats_told}
-use Rattle.choice.proofs.Chains.{along_from, along_next, walk_on, walk_end, other_copy}
+use Rattle.choice.proofs.Words.{repeats_told}
+use Rattle.choice.proofs.Chains.{along_next, walk_on, walk_end, other_copy}
 use Rattle.choice.proofs.Repeats.{Fresh, no_repeat, a_repeat}
 use Rattle.choice.proofs.repeat.first_repeat.Goals as goal
 
@@ -18,32 +17,16 @@ use Rattle.choice.proofs.repeat.first_repeat.Goals as goal
 abbrev Apart : Geometry → List ℕ → ℕ → ℕ → Type 0
 Apart g image i m = repeats (copies (views_of g image) i) (copies (views_of g image) m) ≡ false
 
-pub pebs-init : goal.pebs-init
-pebs-init c =
-    (omega arith, λ k h. absurd (omega arith))
-
-pub loop-j-init : goal.loop-j-init
-loop-j-init c =
-    (rw c.link-j.ensures (along_from c.requires.1 c.pebs.i (omega arith)), λ m h k. absurd (omega arith))
-
-pub is_repeat-requires : goal.is_repeat-requires
-is_repeat-requires c =
-    let r = c.loop-j.invariant.0.range in
-    (within c.requires.0 c.pebs.i (omega arith), within c.requires.0 c.loop-j.j (omega arith))
-
-pub link-j-requires-in-loop-j : goal.link-j-requires-in-loop-j
-link-j-requires-in-loop-j c =
-    let r = c.loop-j.invariant.0.range in search rules
-
 pub loop-j-preserved : goal.loop-j-preserved
 loop-j-preserved c =
     let i = c.pebs.i in
     let v = c.loop-j.invariant in
-    let r = v.0.range in
+    let r = v.1.range in
     let e = repeats_told c.requires.0 i c.loop-j.j (omega arith) (omega arith) c.is_repeat.ensures
     c.if-is_repeat.false in (
-      rw c.link-j-in-loop-j.ensures (along_next v.0 c.requires.1 (omega arith) (omega arith)),
-      walk_on v.0 (Apart c.args.g c.args.image.now i) v.1
+      v.0,
+      rw c.link-j-in-loop-j.ensures (along_next v.1 c.requires.1 (omega arith) (omega arith)),
+      walk_on v.1 (Apart c.args.g c.args.image.now i) v.2
           (λ x k f. other_copy c.args.map.now i x f c.requires.0 (omega arith) (omega arith)) e,
     )
 
@@ -51,9 +34,9 @@ pub pebs-preserved : goal.pebs-preserved
 pebs-preserved c =
     let p = c.pebs in
     let v = c.loop-j.invariant in (
-      omega arith,
+      v.0,
       one_more (Fresh (copies (views_of c.args.g c.args.image.now))) p.i p.invariant.1
-          (walk_end v.0 (Apart c.args.g c.args.image.now p.i) v.1
+          (walk_end v.1 (Apart c.args.g c.args.image.now p.i) v.2
           (λ x k f. other_copy c.args.map.now p.i x f c.requires.0 (omega arith) (omega arith)) (omega arith)),
     )
 
@@ -61,12 +44,12 @@ pub returns-after-pebs : goal.returns-after-pebs
 returns-after-pebs c =
     let a = c.args in
     let e : c.pebs.i ≡ a.n = omega arith in
-    (rw e (no_repeat a.n (copies (views_of a.g a.image.now)) (rw e at c.pebs.invariant.1)), omega arith)
+    rw c.pebs.invariant.0 (no_repeat a.n (copies (views_of a.g a.image.now)) (rw e at c.pebs.invariant.1), tt)
 
 pub returns-then-is_repeat : goal.returns-then-is_repeat
 returns-then-is_repeat c =
     let p = c.pebs in
-    let r = c.loop-j.invariant.0.range in
+    let r = c.loop-j.invariant.1.range in
     let e = repeats_told c.requires.0 p.i c.loop-j.j (omega arith) (omega arith) c.is_repeat.ensures
     c.if-is_repeat.true in (
       a_repeat c.args.n (copies (views_of c.args.g c.args.image.now)) (omega arith) (omega arith)

@@ -1,31 +1,21 @@
 -- `crc32::fold::clear` meets its contract: zeros from the 137th word on. Assumes nothing.
-use Rattle.crc32.proofs.Pending.{clear_turn}
-use Rattle.crc32.specs.Fold.{zeros}
-use mathlib.Core.Path.{◌≡◌, sym}
-use Prim.Native.Nat.{◌-◌}
+use mathlib.Core.Path.{◌≡◌, ◌∙◌}
 use native.Mathlib.Omega.{arith}
-use lib.ListN.{take, length-set}
-use mathlib.Core.List.{append-nil}
+use lib.ListN.{length, replicate}
+use borrow.Author.Rules.{rules}
+use borrow.Rule.Slice.PartMut.{same_len_mid}
+use Rattle.std.proofs.lemmas.Slice.{take-put_mid}
+use Rattle.base.proofs.Lists.{length_part}
+use Rattle.crc32.specs.Fold.{zeros}
 use Rattle.crc32.proofs.fold.clear.Goals as goal
 
-pub loop-j-init : goal.loop-j-init
-unfolding zeros
-loop-j-init c =
-    (omega arith, (c.requires, sym (append-nil (take 137 c.args.kept.now))))
-
-pub loop-j-preserved : goal.loop-j-preserved
-loop-j-preserved c =
-    let l = c.loop-j in (
-      omega arith,
-      (
-        simp length-set l.invariant.1.0,
-        clear_turn 137 l.j (take 137 c.args.kept.now) l.kept
-            (omega arith) l.invariant.1.1,
-      ),
-    )
-
 pub returns : goal.returns
+unfolding zeros
 returns c =
-    let l = c.loop-j in
-    let e : l.j ≡ 85 = omega arith in
-    (l.invariant.1.0, rw e at l.invariant.1.1)
+    let b = c.args.kept.now in
+    let f = c.fill in
+    let z : f.new.self ≡ replicate 85 0 = search rules in
+    let n : length f.new.self ≡ 85 = f.ensures.len ∙ length_part 137 85 b (omega arith) in (
+      same_len_mid 137 85 b f.new.self f.ensures.len ∙ c.requires,
+      rw (← z) (take-put_mid 137 85 b f.new.self 222 (omega arith) (omega arith)),
+    )

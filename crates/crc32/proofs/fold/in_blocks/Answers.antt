@@ -1,30 +1,12 @@
 -- `crc32::fold::in_blocks` meets its contract. Assumes nothing.
-use Rattle.crc32.proofs.Folding.{block_done}
 use Rattle.crc32.proofs.Pending.{cleared}
 use lib.ListN.{length, take, length-drop}
 use lib.Seq.{length-take-le}
 use Rattle.base.proofs.Lists.{to_end_lem}
 use Rattle.crc32.specs.Crc.{crc_from}
 use native.Mathlib.Omega.{arith}
-use Prim.Native.Nat.{◌-◌}
-use mathlib.Core.Path.{◌≡◌, refl, ap₂, ◌∙◌}
+use mathlib.Core.Path.{◌≡◌, ap₂, ◌∙◌}
 use Rattle.crc32.proofs.fold.in_blocks.Goals as goal
-
-pub loop-i-init : goal.loop-i-init
-loop-i-init c =
-    (c.requires.1.1, (c.requires.1.0, refl))
-
-pub loop-i-preserved : goal.loop-i-preserved
-loop-i-preserved c =
-    let l = c.loop-i in let s = c.args.bytes.now in
-    let n = c.block_length-n.result in let f = c.fold_block in (
-      omega arith,
-      (
-        c.slide.ensures.0,
-        block_done s l.kept f.new.kept c.slide.new.kept l.i n c.slide.ensures.1
-            (rw to_end_lem at f.ensures.1) ∙ l.invariant.1.1,
-      ),
-    )
 
 pub reduce-requires : goal.reduce-requires
 reduce-requires c =

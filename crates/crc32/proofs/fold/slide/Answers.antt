@@ -1,33 +1,14 @@
 -- `crc32::fold::slide` meets its contract. Assumes nothing.
-use Rattle.crc32.proofs.Pending.{slide_low, slide_rest}
-use mathlib.Core.Path.{◌≡◌, refl}
-use Prim.Native.Nat.{◌-◌}
+use mathlib.Core.Path.{◌≡◌}
+use native.Mathlib.Nat.{add-sub_cancel_left}
 use native.Mathlib.Omega.{arith}
-use lib.ListN.{length-set}
+use lib.ListN.{drop, length-drop}
+use lib.Seq.{paste, take-paste}
 use Rattle.crc32.proofs.fold.slide.Goals as goal
-
-pub loop-j-init : goal.loop-j-init
-loop-j-init c =
-    (omega arith, (c.requires.0, (refl, refl)))
-
-pub loop-j-preserved : goal.loop-j-preserved
-loop-j-preserved c =
-    let l = c.loop-j in
-    let b₀ = c.args.kept.now in
-    let i = l.invariant.1 in
-    let long = c.requires.0 in (
-      omega arith,
-      (
-        simp length-set i.0,
-        (
-          slide_low c.args.n b₀ l.kept l.j (omega arith) (omega arith) i.1.1 i.1.0,
-          slide_rest c.args.n b₀ l.kept l.j (omega arith) (omega arith) i.1.1,
-        ),
-      ),
-    )
 
 pub returns : goal.returns
 returns c =
-    let l = c.loop-j in
-    let e : l.j ≡ 137 = omega arith in
-    (l.invariant.1.0, rw e at l.invariant.1.1.0)
+    let n = c.args.n in
+    let b = c.args.kept.now in
+    let k : c.copy_within.new.self ≡ paste b 0 (drop n b) 137 = rw add-sub_cancel_left at c.copy_within.ensures.after in
+    (omega arith, rw k (take-paste b 0 (drop n b) 137 (omega arith) (omega (arith, length-drop n b))))

@@ -2,7 +2,6 @@
 -- nothing.
 use Rattle.crc32.proofs.LookUp.{two_halves}
 use mathlib.Core.Path.{◌∙◌, ◌≡◌}
-use Prim.Native.Nat.{◌-◌}
 use native.Mathlib.Omega.{arith}
 use lib.ListN.{length}
 use lib.Seq.{drop-length}
@@ -10,16 +9,16 @@ use Rattle.crc32.specs.Crc.{crc_from}
 use Rattle.crc32.proofs.Laws.{crc_from_step}
 use Rattle.crc32.proofs.words.by_bytes.Goals as goal
 
-pub loop-i-preserved : goal.loop-i-preserved
-loop-i-preserved c =
-    let l = c.loop-i in
-    let s = c.args.bytes.now in let b = c.byte_at in
-    let e = two_halves l.c b.result c.nibble.result c.nibble-c.result c.nibble.ensures c.nibble-c.ensures in
-    (omega arith, rw (e, b.ensures.0) (crc_from_step s l.i l.c (omega arith) ∙ l.invariant.1))
+pub loop-b-preserved : goal.loop-b-preserved
+loop-b-preserved c =
+    let l = c.loop-b in
+    let s = c.args.bytes.now in
+    let e = two_halves l.c c.from.result c.nibble.result c.nibble-c.result c.nibble.ensures c.nibble-c.ensures in
+    rw (e, c.from.ensures) (crc_from_step s l.b-index l.c c.loop-b-test.true ∙ l.invariant)
 
 pub returns : goal.returns
 unfolding crc_from
 returns c =
     let s = c.args.bytes.now in
-    let e : c.loop-i.i ≡ length s = omega arith in
-    rw (e, drop-length) at c.loop-i.invariant.1
+    let e : c.loop-b.b-index ≡ length s = omega arith in
+    rw (e, drop-length) at c.loop-b.invariant

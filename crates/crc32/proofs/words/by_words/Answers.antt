@@ -1,24 +1,19 @@
 -- `crc32::words::by_words` meets its contract. Assumes nothing.
 use Rattle.crc32.proofs.LookUp.{crc_from_three}
-use Rattle.base.proofs.Lists.{to_end_lem}
 use native.Mathlib.Omega.{arith}
-use Prim.Native.Nat.{◌-◌}
-use mathlib.Core.Path.{◌∙◌}
+use Prim.Native.Nat.{◌*◌, ◌+◌}
+use mathlib.Core.Path.{◌≡◌, ◌∙◌}
 use Rattle.crc32.proofs.words.by_words.Goals as goal
 
-pub loop-i-preserved : goal.loop-i-preserved
-loop-i-preserved c =
-    let l = c.loop-i in
-    let e = crc_from_three l.c l.i c.args.bytes.now (λ k. (c.type_inv.bytes k).fits) (omega arith) in (
-      omega arith,
-      rw (
-        c.three-c.ensures,
-        c.read_four.ensures,
-        c.read_four-in-loop-i.ensures,
-        c.read_four-in-loop-i-2.ensures,
-      ) (e ∙ l.invariant.1),
-    )
-
-pub returns : goal.returns
-returns c =
-    c.by_four.ensures ∙ rw to_end_lem c.loop-i.invariant.1
+pub loop-k-preserved : goal.loop-k-preserved
+loop-k-preserved c =
+    let l = c.loop-k in
+    let n : 12 * (l.k + 1) ≡ 12 * l.k + 12 = omega arith in
+    let e = crc_from_three l.c (12 * l.k) c.args.bytes.now (λ k. (c.type_inv.bytes k).fits) (omega arith) in
+    rw (
+      n,
+      c.three-c.ensures,
+      c.read_four.ensures,
+      c.read_four-in-loop-k.ensures,
+      c.read_four-in-loop-k-2.ensures,
+    ) (e ∙ l.invariant)

@@ -1,12 +1,9 @@
 -- `geometry::rules::check_geometry` meets its contract: one broken rule refuses, else the geometry is the one of the
 -- rules. Assumes nothing.
-use mathlib.Core.Path.{◌≡◌}
-use Prim.Native.Nat.{◌<◌}
 use native.Mathlib.Omega.{arith}
-use mathlib.Core.Bool.{true}
 use borrow.Author.Tests.{lt-leb, ne_eqb}
 use Rattle.base.proofs.Answers.{value_is}
-use Rattle.geometry.specs.Geometry.{good_unit, geometry_rules}
+use Rattle.geometry.specs.Geometry.{geometry_rules}
 use Rattle.geometry.proofs.Laws.{unit_range, outside, inside, too_short}
 use Rattle.geometry.proofs.rules.check_geometry.Goals as goal
 
@@ -32,17 +29,14 @@ unfolding geometry_rules
 returns-then-peb_size-lt1024 c =
     outside c.args.peb_size c.args.unit c.args.sub_unit 3 (lt-leb _ _ c.if-peb_size-lt1024.true)
 
-pub returns-then-peb_size-gt262144 : goal.returns-then-peb_size-gt262144
+pub returns-then-peb_size-gt-MOST_PEB_SIZE : goal.returns-then-peb_size-gt-MOST_PEB_SIZE
 unfolding geometry_rules
-returns-then-peb_size-gt262144 c =
-    outside c.args.peb_size c.args.unit c.args.sub_unit 4 (lt-leb _ _ c.if-peb_size-gt262144.true)
+returns-then-peb_size-gt-MOST_PEB_SIZE c =
+    outside c.args.peb_size c.args.unit c.args.sub_unit 4 (lt-leb _ _ c.if-peb_size-gt-MOST_PEB_SIZE.true)
 
 pub nonzero_rem-peb_size : goal.nonzero_rem-peb_size
 nonzero_rem-peb_size c =
-    let unit-good : good_unit c.args.unit ≡ true = value_is c.is_unit.ensures c.if-not-is_unit.false in
-    let unit-small : (0 < c.args.unit) ×
-    (c.args.unit < 8192) = unit_range c.args.unit unit-good in
-    omega (arith, unit-small)
+    omega (arith, unit_range c.args.unit (value_is c.is_unit.ensures c.if-not-is_unit.false))
 
 pub returns-then-peb_size-unit-ne0 : goal.returns-then-peb_size-unit-ne0
 unfolding geometry_rules
@@ -51,33 +45,27 @@ returns-then-peb_size-unit-ne0 c =
 
 pub round_up-vid_start-requires : goal.round_up-vid_start-requires
 round_up-vid_start-requires c =
-    let sub-unit-good : good_unit c.args.sub_unit ≡ true = value_is c.is_unit-2.ensures c.if-not-is_unit-2.false in
-    let sub-unit-small : (0 < c.args.sub_unit) × (c.args.sub_unit < 8192) = unit_range c.args.sub_unit sub-unit-good in
-    omega (arith, sub-unit-small)
+    omega (arith, unit_range c.args.sub_unit (value_is c.is_unit-2.ensures c.if-not-is_unit-2.false))
 
 pub overflow_add-vid_start : goal.overflow_add-vid_start
 overflow_add-vid_start c =
-    let sub-unit-good : good_unit c.args.sub_unit ≡ true = value_is c.is_unit-2.ensures c.if-not-is_unit-2.false in
-    let sub-unit-small : (0 < c.args.sub_unit) × (c.args.sub_unit < 8192) = unit_range c.args.sub_unit sub-unit-good in
-    omega (arith, sub-unit-small)
+    omega (arith, unit_range c.args.sub_unit (value_is c.is_unit-2.ensures c.if-not-is_unit-2.false))
 
 pub round_up-data_start-requires : goal.round_up-data_start-requires
 round_up-data_start-requires c =
-    let sub-unit-good : good_unit c.args.sub_unit ≡ true = value_is c.is_unit-2.ensures c.if-not-is_unit-2.false in
-    let sub-unit-small : (0 < c.args.sub_unit) × (c.args.sub_unit < 8192) = unit_range c.args.sub_unit sub-unit-good in
-    let unit-good : good_unit c.args.unit ≡ true = value_is c.is_unit.ensures c.if-not-is_unit.false in
-    let unit-small : (0 < c.args.unit) ×
-    (c.args.unit < 8192) = unit_range c.args.unit unit-good in
-    omega (arith, sub-unit-small, unit-small)
+    omega (
+      arith,
+      unit_range c.args.sub_unit (value_is c.is_unit-2.ensures c.if-not-is_unit-2.false),
+      unit_range c.args.unit (value_is c.is_unit.ensures c.if-not-is_unit.false),
+    )
 
 pub overflow_add-data_start : goal.overflow_add-data_start
 overflow_add-data_start c =
-    let sub-unit-good : good_unit c.args.sub_unit ≡ true = value_is c.is_unit-2.ensures c.if-not-is_unit-2.false in
-    let sub-unit-small : (0 < c.args.sub_unit) × (c.args.sub_unit < 8192) = unit_range c.args.sub_unit sub-unit-good in
-    let unit-good : good_unit c.args.unit ≡ true = value_is c.is_unit.ensures c.if-not-is_unit.false in
-    let unit-small : (0 < c.args.unit) ×
-    (c.args.unit < 8192) = unit_range c.args.unit unit-good in
-    omega (arith, sub-unit-small, unit-small)
+    omega (
+      arith,
+      unit_range c.args.sub_unit (value_is c.is_unit-2.ensures c.if-not-is_unit-2.false),
+      unit_range c.args.unit (value_is c.is_unit.ensures c.if-not-is_unit.false),
+    )
 
 pub returns-then-peb_size-data_start : goal.returns-then-peb_size-data_start
 returns-then-peb_size-data_start c =
@@ -87,10 +75,9 @@ returns-then-peb_size-data_start c =
 
 pub returns : goal.returns
 returns c =
-    let sub-unit-good : good_unit c.args.sub_unit ≡ true = value_is c.is_unit-2.ensures c.if-not-is_unit-2.false in
-    let unit-good : good_unit c.args.unit ≡ true = value_is c.is_unit.ensures c.if-not-is_unit.false in
     let a = c.args in
     inside a.peb_size a.unit a.sub_unit c.round_up-vid_start.result c.round_up-data_start.result
-    unit-good sub-unit-good c.if-unit-sub_unit.false c.if-peb_size-lt1024.false c.if-peb_size-gt262144.false
+    (value_is c.is_unit.ensures c.if-not-is_unit.false) (value_is c.is_unit-2.ensures c.if-not-is_unit-2.false)
+    c.if-unit-sub_unit.false c.if-peb_size-lt1024.false c.if-peb_size-gt-MOST_PEB_SIZE.false
     c.if-peb_size-unit-ne0.false c.round_up-vid_start.ensures.0 c.round_up-data_start.ensures.0
     c.if-peb_size-data_start.false

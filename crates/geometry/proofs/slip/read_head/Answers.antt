@@ -1,9 +1,7 @@
 -- `geometry::slip::read_head` meets its contract. Assumes nothing.
 use mathlib.Core.Path.{◌≡◌, ◌∙◌}
 use mathlib.Core.Bool.{true}
-use Prim.Native.Nat.{◌≤◌}
 use native.Mathlib.Omega.{arith}
-use lib.ListN.{length}
 use Rattle.base.specs.Answers.{all_of}
 use Rattle.base.proofs.Answers.{value_is}
 use Rattle.geometry.specs.Slip.{value_at, head_rules, head_read}
@@ -17,21 +15,15 @@ returns-then-not-has_head c =
 
 pub read-peb_size-requires : goal.read-peb_size-requires
 read-peb_size-requires c =
-    let headed : all_of (head_rules c.args.slip.now) ≡ true = value_is c.has_head.ensures c.if-not-has_head.false in
-    let whole : 17 ≤ length c.args.slip.now = head_length c.args.slip.now headed in
-    omega (arith, whole)
+    omega (arith, head_length c.args.slip.now (value_is c.has_head.ensures c.if-not-has_head.false))
 
 pub read-unit-requires : goal.read-unit-requires
 read-unit-requires c =
-    let headed : all_of (head_rules c.args.slip.now) ≡ true = value_is c.has_head.ensures c.if-not-has_head.false in
-    let whole : 17 ≤ length c.args.slip.now = head_length c.args.slip.now headed in
-    omega (arith, whole)
+    omega (arith, head_length c.args.slip.now (value_is c.has_head.ensures c.if-not-has_head.false))
 
 pub read-sub_unit-requires : goal.read-sub_unit-requires
 read-sub_unit-requires c =
-    let headed : all_of (head_rules c.args.slip.now) ≡ true = value_is c.has_head.ensures c.if-not-has_head.false in
-    let whole : 17 ≤ length c.args.slip.now = head_length c.args.slip.now headed in
-    omega (arith, whole)
+    omega (arith, head_length c.args.slip.now (value_is c.has_head.ensures c.if-not-has_head.false))
 
 pub returns : goal.returns
 unfolding head_read value_at

@@ -2,6 +2,6 @@
 use Rattle.listing_text.proofs.Laws.{both_written}
 use Rattle.listing_text.proofs.lines.attached_line.Goals as goal
 
-pub returns : goal.returns
-returns c =
-    record { text = both_written c.numbers_part-a.ensures.text c.marks_part.ensures.text; end = c.marks_part.ensures.end }
+pub returns-clause-text : goal.returns-clause-text
+returns-clause-text c =
+    both_written c.numbers_part-a.ensures.text c.marks_part.ensures.text

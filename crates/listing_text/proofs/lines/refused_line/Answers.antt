@@ -6,5 +6,4 @@ use Rattle.listing_text.proofs.lines.refused_line.Goals as goal
 pub returns : goal.returns
 unfolding refused_text pair labelled
 returns c =
-    both_written c.pair-a.ensures.text
-    c.append.ensures
+    both_written c.pair-a.ensures.text c.append.ensures

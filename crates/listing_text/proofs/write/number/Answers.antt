@@ -3,12 +3,6 @@ use native.Mathlib.Omega.{arith}
 use Rattle.listing_text.proofs.Laws.{number_written, decimal_short, twenty_digits}
 use Rattle.listing_text.proofs.write.number.Goals as goal
 
-pub append-requires : goal.append-requires
-append-requires c =
-    let n = c.args.n in
-    let d = c.decimal-count in
-    omega (arith, d.ensures.in_bounds.1, twenty_digits n d.result (omega arith) d.ensures.len)
-
 pub returns : goal.returns
 returns c =
     let d = c.decimal-count in

@@ -1,32 +1,19 @@
 -- `mover_checks::block::is_to_delete` meets its contract. Assumes nothing.
-use mathlib.Core.Path.{sym, ap, ◌∙◌}
-use Rattle.report.specs.View.{VidView, copy_of, good_vid}
+use mathlib.Core.Path.{◌≡◌, ap, ◌∙◌}
+use mathlib.Core.Bool.{false, not, ◌&&◌}
+use borrow.Author.Rules.{rules}
+use lib.Dec.{eqb}
+use Rattle.std.proofs.Common.{MatchResult}
+use Rattle.report.specs.View.{VidView, good_vid, is_mappable}
 use Rattle.report.specs.Report.{is_internal}
-use Rattle.peb_scan.specs.Seen.{vid_seen}
+use Rattle.mover_checks.proofs.Words.{seen_to_delete}
 use Rattle.mover_checks.proofs.block.is_to_delete.Goals as goal
 
-pub returns-in-Good : goal.returns-in-Good
-unfolding copy_of
-returns-in-Good c =
+pub returns : goal.returns
+returns c =
     let a = c.args in
-    c.is_internal.ensures
-    ∙ ap (λ (v : VidView). is_internal 1 (good_vid v))
-    (sym (ap (vid_seen a.g a.p.now) c.in-Good.is) ∙ c.see_vid-v.ensures)
-
-pub returns-in-Newer : goal.returns-in-Newer
-returns-in-Newer c =
-    let a = c.args in
-    ap (λ (v : VidView). is_internal 1 (good_vid v))
-    (sym (ap (vid_seen a.g a.p.now) c.in-Newer.is) ∙ c.see_vid-v.ensures)
-
-pub returns-in-Blank : goal.returns-in-Blank
-returns-in-Blank c =
-    let a = c.args in
-    ap (λ (v : VidView). is_internal 1 (good_vid v))
-    (sym (ap (vid_seen a.g a.p.now) c.in-Blank.is) ∙ c.see_vid-v.ensures)
-
-pub returns-in-Bad : goal.returns-in-Bad
-returns-in-Bad c =
-    let a = c.args in
-    ap (λ (v : VidView). is_internal 1 (good_vid v))
-    (sym (ap (vid_seen a.g a.p.now) c.in-Bad.is) ∙ c.see_vid-v.ensures)
+    let told : MatchResult c.see_vid.result
+    (λ h. c.is_ok_and.result ≡ (not (is_mappable h.volume) && eqb h.compat 1))
+    (λ _. c.is_ok_and.result ≡ false) = search rules in
+    seen_to_delete a.g a.p.now c.see_vid.result told
+    ∙ ap (λ (v : VidView). is_internal 1 (good_vid v)) c.see_vid.ensures

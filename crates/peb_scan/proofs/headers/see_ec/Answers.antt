@@ -1,34 +1,15 @@
 -- `peb_scan::headers::see_ec` meets its contract. Assumes nothing.
-use mathlib.Core.Path.{◌≡◌, ◌∙◌}
+use mathlib.Core.Path.{◌≡◌, ◌∙◌, ap}
+use borrow.Author.Rules.{rules}
 use lib.ListN.{take}
-use Rattle.report.specs.View.{all_ff, view_of}
-use Rattle.peb_scan.proofs.Laws.{ec_from, ec_from_lem, ec_long}
+use Rattle.report.specs.View.{view_of}
+use Rattle.peb_scan.specs.Seen.{ec_seen}
+use Rattle.peb_scan.proofs.Laws.{seen_from, ec_from_lem, ec_long}
 use Rattle.peb_scan.proofs.headers.see_ec.Goals as goal
 
-pub returns-in-Good : goal.returns-in-Good
+pub returns : goal.returns
 unfolding view_of
-returns-in-Good c =
-    let from : let a = c.args in
-    ec_from (all_ff (take 64 a.p.now)) c.read_ec-r.result ≡ (view_of a.g a.p.now).ec = ec_from_lem _ (ec_long c.requires.0 c.args.p.now c.requires.1) c.read_ec-r.result c.read_ec-r.ensures in
-    rw c.in-Good.is at from
-
-pub returns-in-Newer : goal.returns-in-Newer
-unfolding view_of
-returns-in-Newer c =
-    let from : let a = c.args in
-    ec_from (all_ff (take 64 a.p.now)) c.read_ec-r.result ≡ (view_of a.g a.p.now).ec = ec_from_lem _ (ec_long c.requires.0 c.args.p.now c.requires.1) c.read_ec-r.result c.read_ec-r.ensures in
-    rw c.in-Newer.is at from
-
-pub returns-in-Lost : goal.returns-in-Lost
-unfolding view_of
-returns-in-Lost c =
-    let from : let a = c.args in
-    ec_from (all_ff (take 64 a.p.now)) c.read_ec-r.result ≡ (view_of a.g a.p.now).ec = ec_from_lem _ (ec_long c.requires.0 c.args.p.now c.requires.1) c.read_ec-r.result c.read_ec-r.ensures in
-    c.blank_or_lost.ensures ∙ rw c.in-Lost.is at from
-
-pub returns-in-Short : goal.returns-in-Short
-unfolding view_of
-returns-in-Short c =
-    let from : let a = c.args in
-    ec_from (all_ff (take 64 a.p.now)) c.read_ec-r.result ≡ (view_of a.g a.p.now).ec = ec_from_lem _ (ec_long c.requires.0 c.args.p.now c.requires.1) c.read_ec-r.result c.read_ec-r.ensures in
-    rw c.in-Short.is at from
+returns c =
+    let s = take 64 c.args.p.now in
+    let e : c.map_err.result ≡ seen_from s c.read_ec.result = search rules in
+    ap ec_seen e ∙ ec_from_lem s (ec_long c.requires.0 c.args.p.now c.requires.1) c.read_ec.result c.read_ec.ensures

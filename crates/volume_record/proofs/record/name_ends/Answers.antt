@@ -1,20 +1,26 @@
--- `volume_record::record::name_ends` meets its contract: none of the first i bytes is zero. Assumes nothing.
-use mathlib.Core.Path.{◌≡◌}
-use mathlib.Core.Bool.{true}
-use Prim.Native.Nat.{◌-◌}
+-- `volume_record::record::name_ends` meets its contract. Assumes nothing.
+use mathlib.Core.Path.{◌∙◌}
+use mathlib.Core.Bool.{not}
 use native.Mathlib.Omega.{arith}
-use Rattle.volume_record.proofs.Records.{name_more, name_cut, name_whole}
+use borrow.Author.Rules.{rules}
+use lib.Dec.{eqb}
+use lib.ListN.{take}
+use Rattle.std.proofs.Common.{tests}
+use Rattle.std.proofs.lemmas.Iterator.{YieldsList-from_slice}
+use Rattle.std.proofs.lemmas.Iterator.Search.{all_from_yields_List}
+use Rattle.volume_record.proofs.Records.{name_tested}
 use Rattle.volume_record.proofs.record.name_ends.Goals as goal
 
-pub returns-then-name-i-eq0 : goal.returns-then-name-i-eq0
-returns-then-name-i-eq0 c =
-    name_cut c.args.name c.args.n c.loop-i.i (omega arith) c.if-name-i-eq0.true
+pub returns-then-all : goal.returns-then-all
+returns-then-all c =
+    let a = c.args in
+    rw c.if-all.true at (name_tested a.name a.n (omega arith)
+    (all_from_yields_List (λ x. not (eqb x 0)) _ _ _ c.all.ensures.ran (YieldsList-from_slice (take a.n a.name) cc)
+    (λ x b q k. search (rules, tests))))
 
-pub loop-i-preserved : goal.loop-i-preserved
-loop-i-preserved c =
-    (omega arith, name_more c.args.name c.loop-i.i c.loop-i.invariant.1 c.if-name-i-eq0.false)
-
-pub returns : goal.returns
-returns c =
-    let e : c.loop-i.i ≡ c.args.n = omega arith in
-    name_whole c.args.name c.args.n (rw e at c.loop-i.invariant.1)
+pub returns-else-all : goal.returns-else-all
+returns-else-all c =
+    let a = c.args in
+    c.if-all.false ∙ rw c.if-all.false at (name_tested a.name a.n (omega arith)
+    (all_from_yields_List (λ x. not (eqb x 0)) _ _ _ c.all.ensures.ran (YieldsList-from_slice (take a.n a.name) cc)
+    (λ x b q k. search (rules, tests))))

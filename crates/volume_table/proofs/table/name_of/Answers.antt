@@ -1,13 +1,13 @@
--- `volume_table::table::name_of` meets its contract. Assumes nothing.
-use Rattle.volume_table.proofs.Tables.{name_whole_field, name_front}
+-- `volume_table::table::name_of` meets its contract: a name ends with its field. Assumes nothing.
+use mathlib.Core.Path.{◌∙◌}
+use Rattle.volume_record.specs.Record.{record_of}
+use Rattle.volume_table.specs.Table.{name_of}
+use Rattle.volume_table.proofs.Tables.{front}
 use Rattle.volume_table.proofs.table.name_of.Goals as goal
 
-pub returns-then-name-n : goal.returns-then-name-n
-returns-then-name-n c =
-    name_whole_field c.args.r.now c.field_bytes-name.ensures c.get_field-n.ensures.0
-    c.if-name-n.true
-
 pub returns : goal.returns
+unfolding name_of record_of
 returns c =
-    name_front c.args.r.now c.field_bytes-name.ensures
-    c.get_field-n.ensures.0
+    rw c.unwrap_or.ensures
+    (front c.field_bytes-name.result _ _ c.get.ensures.lookup
+    ∙ rw (c.field_bytes-name.ensures, c.get_field-n.ensures.0))

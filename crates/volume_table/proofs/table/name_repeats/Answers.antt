@@ -1,8 +1,7 @@
 -- `volume_table::table::name_repeats` meets its contract: none of the first i records has the name of record j. Assumes
 -- nothing.
 use mathlib.Core.Path.{◌≡◌, sym, ◌∙◌}
-use mathlib.Core.Bool.{false}
-use Prim.Native.Nat.{◌*◌, ◌-◌}
+use Prim.Native.Nat.{◌*◌}
 use native.Mathlib.Nat.{add-sub_cancel_left}
 use native.Mathlib.Omega.{arith}
 use Rattle.base.proofs.Below.{any_intro, any_more}
@@ -28,23 +27,19 @@ names_clash-requires c =
 
 pub returns-then-names_clash : goal.returns-then-names_clash
 returns-then-names_clash c =
-    let judged : let a = c.args in
-    c.names_clash.result ≡ repeats a.t.now a.j c.loop-i.i = let a = c.args in
-    repeats_as a.t.now a.j c.loop-i.i (empty_at (172 * a.j) a.t.now c.is_empty.ensures)
-    c.if-is_empty.false (rw (add-sub_cancel_left, add-sub_cancel_left) at c.names_clash.ensures) in
     let a = c.args in
-    sym (any_intro a.j (repeats a.t.now a.j) c.loop-i.i (omega arith)
-    (sym judged ∙ c.if-names_clash.true))
+    let judged : c.names_clash.result ≡ repeats a.t.now a.j c.loop-i.i =
+    repeats_as a.t.now a.j c.loop-i.i (empty_at (172 * a.j) a.t.now c.is_empty.ensures)
+    c.if-is_empty.false (simp add-sub_cancel_left at c.names_clash.ensures) in
+    sym (any_intro a.j (repeats a.t.now a.j) c.loop-i.i (omega arith) (sym judged ∙ c.if-names_clash.true))
 
 pub loop-i-preserved : goal.loop-i-preserved
 loop-i-preserved c =
-    let judged : let a = c.args in
-    c.names_clash.result ≡ repeats a.t.now a.j c.loop-i.i = let a = c.args in
-    repeats_as a.t.now a.j c.loop-i.i (empty_at (172 * a.j) a.t.now c.is_empty.ensures)
-    c.if-is_empty.false (rw (add-sub_cancel_left, add-sub_cancel_left) at c.names_clash.ensures) in
     let a = c.args in
-    (omega arith, any_more (repeats a.t.now a.j) c.loop-i.i c.loop-i.invariant.1 (sym judged ∙ c.if-names_clash.false))
+    let judged : c.names_clash.result ≡ repeats a.t.now a.j c.loop-i.i =
+    repeats_as a.t.now a.j c.loop-i.i (empty_at (172 * a.j) a.t.now c.is_empty.ensures)
+    c.if-is_empty.false (simp add-sub_cancel_left at c.names_clash.ensures) in
+    any_more (repeats a.t.now a.j) c.loop-i.i c.loop-i.invariant (sym judged ∙ c.if-names_clash.false)
 
 pub returns : goal.returns
-returns c =
-    let e : c.loop-i.i ≡ c.args.j = omega arith in sym (rw e at c.loop-i.invariant.1)
+returns c = let e : c.loop-i.i ≡ c.args.j = omega arith in sym (rw e at c.loop-i.invariant)

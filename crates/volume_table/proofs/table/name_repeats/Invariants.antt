@@ -2,13 +2,9 @@
 -- nothing.
 use mathlib.Core.Path.{◌≡◌}
 use mathlib.Core.Bool.{false}
-use Prim.Native.Nat.{◌≤◌, ◌-◌}
 use Rattle.base.specs.Below.{any_below}
 use Rattle.volume_table.proofs.Tables.{repeats}
 use Rattle.volume_table.proofs.table.name_repeats.Given as goal
 
 abbrev pub invariant-loop-i : goal.invariant-loop-i
-invariant-loop-i l = (l.i ≤ l.j) × (any_below l.i (repeats l.t l.j) ≡ false)
-
-abbrev pub decreases-loop-i : goal.decreases-loop-i
-decreases-loop-i l = l.j - l.i
+invariant-loop-i l = any_below l.i (repeats l.t l.j) ≡ false

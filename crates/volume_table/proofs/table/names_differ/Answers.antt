@@ -1,7 +1,6 @@
 -- `volume_table::table::names_differ` meets its contract: none of the first j records repeats a name. Assumes nothing.
 use mathlib.Core.Path.{◌≡◌, sym, ◌∙◌}
-use mathlib.Core.Bool.{false}
-use Prim.Native.Nat.{ℕ, ◌-◌}
+use Prim.Native.Nat.{ℕ}
 use native.Mathlib.Omega.{arith}
 use Rattle.base.specs.Below.{any_below}
 use Rattle.base.proofs.Below.{any_intro, any_more}
@@ -16,12 +15,9 @@ returns-then-name_repeats c =
 
 pub loop-j-preserved : goal.loop-j-preserved
 loop-j-preserved c =
-    let t = c.args.t.now in (
-      omega arith,
-      any_more (λ (k : ℕ). any_below k (repeats t k)) c.loop-j.j c.loop-j.invariant.1
-          (sym c.name_repeats.ensures ∙ c.if-name_repeats.false),
-    )
+    let t = c.args.t.now in
+    any_more (λ (k : ℕ). any_below k (repeats t k)) c.loop-j.j c.loop-j.invariant
+    (sym c.name_repeats.ensures ∙ c.if-name_repeats.false)
 
 pub returns : goal.returns
-returns c =
-    let e : c.loop-j.j ≡ c.args.n = omega arith in rw (rw e at c.loop-j.invariant.1)
+returns c = let e : c.loop-j.j ≡ c.args.n = omega arith in rw (rw e at c.loop-j.invariant)

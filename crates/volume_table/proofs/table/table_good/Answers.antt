@@ -1,73 +1,71 @@
 -- `volume_table::table::table_good` meets its contract: one broken rule is enough. Assumes nothing.
-use Prim.Native.Nat.{◌*◌, ◌≤◌}
+use mathlib.Core.Path.{sym, ◌∙◌}
+use borrow.Author.Tests.{leb-true, leb-false}
+use Rattle.std.specs.Prelude.{Some}
 use native.Mathlib.Omega.{arith}
-use borrow.Author.Tests.{not-true, not-false}
-use lib.ListN.{length}
-use Rattle.volume_table.proofs.Tables.{count_small, all_there, no_records, too_short, Summed, not_fine, too_many}
-use Rattle.volume_table.proofs.Tables.{too_much_lem, names_decide}
+use Rattle.volume_table.proofs.Tables.{count_small, all_there, no_records, too_short, not_fine, too_many}
+use Rattle.volume_table.proofs.Tables.{Summed, too_much_lem, names_decide}
 use Rattle.volume_table.proofs.table.table_good.Goals as goal
+use Rattle.volume_table.proofs.table.table_good.Goals.{then-sum-le-MOST_AUTORESIZE, else-sum-le-MOST_AUTORESIZE}
 
 pub returns-then-n-eq0 : goal.returns-then-n-eq0
 returns-then-n-eq0 c =
     let a = c.args in
-    no_records a.leb_size a.unit a.peb_count a.content.now c.record_count-n.ensures
-    c.if-n-eq0.true
+    no_records a.leb_size a.unit a.peb_count a.content.now c.record_count-n.ensures c.if-n-eq0.true
 
 pub overflow_mul-n : goal.overflow_mul-n
-overflow_mul-n c =
-    omega (arith, count_small c.args.leb_size)
+overflow_mul-n c = omega (arith, count_small c.args.leb_size)
 
 pub returns-then-content-n : goal.returns-then-content-n
 returns-then-content-n c =
     let a = c.args in
-    too_short a.leb_size a.unit a.peb_count a.content.now c.record_count-n.ensures
-    c.if-content-n.true
+    too_short a.leb_size a.unit a.peb_count a.content.now c.record_count-n.ensures c.if-content-n.true
 
-pub tally-sum-requires : goal.tally-sum-requires
-tally-sum-requires c =
-    let whole : 172 * c.record_count-n.result ≤ length c.records_part-t.result.now = all_there c.args.leb_size c.args.content.now c.record_count-n.ensures
-    c.records_part-t.ensures c.if-content-n.false in
-    (omega (arith, count_small c.args.leb_size), (whole, c.empty_record-empty.ensures))
-
-pub returns-then-not-sum : goal.returns-then-not-sum
-returns-then-not-sum c =
-    let summed : let a = c.args in
-    Summed a.leb_size a.unit a.content.now c.record_count-n.result c.records_part-t.result.now c.tally-sum.result = record { count = c.record_count-n.ensures; records = c.records_part-t.ensures; sums = c.tally-sum.ensures } in
+pub tally-requires : goal.tally-requires
+tally-requires c =
     let a = c.args in
-    not_fine a.leb_size a.unit a.peb_count a.content.now summed
-    (not-true c.tally-sum.result.good c.if-not-sum.true)
+    let w = all_there a.leb_size a.content.now c.record_count-n.ensures c.records_part-t.ensures c.if-content-n.false in
+    (omega (arith, count_small a.leb_size), (w, c.empty_record-empty.ensures))
 
-pub returns-then-sum-gt1 : goal.returns-then-sum-gt1
-returns-then-sum-gt1 c =
-    let summed : let a = c.args in
-    Summed a.leb_size a.unit a.content.now c.record_count-n.result c.records_part-t.result.now c.tally-sum.result = record { count = c.record_count-n.ensures; records = c.records_part-t.ensures; sums = c.tally-sum.ensures } in
+pub returns-in_default : goal.returns-in_default
+returns-in_default c =
     let a = c.args in
-    too_many a.leb_size a.unit a.peb_count a.content.now summed
-    (not-false c.tally-sum.result.good c.if-not-sum.false) c.if-sum-gt1.true
-
-pub returns-then-most_reserved-sum : goal.returns-then-most_reserved-sum
-returns-then-most_reserved-sum c =
-    let summed : let a = c.args in
-    Summed a.leb_size a.unit a.content.now c.record_count-n.result c.records_part-t.result.now c.tally-sum.result = record { count = c.record_count-n.ensures; records = c.records_part-t.ensures; sums = c.tally-sum.ensures } in
-    let a = c.args in
-    too_much_lem a.leb_size a.unit a.peb_count a.content.now summed
-    (not-false c.tally-sum.result.good c.if-not-sum.false)
-    (rw c.most_reserved.ensures at c.if-most_reserved-sum.true)
+    not_fine a.leb_size a.unit a.peb_count a.content.now
+    (record { count = c.record_count-n.ensures; records = c.records_part-t.ensures; sums = c.in_default.ensures })
 
 pub names_differ-requires : goal.names_differ-requires
 names_differ-requires c =
-    let whole : 172 * c.record_count-n.result ≤ length c.records_part-t.result.now = all_there c.args.leb_size c.args.content.now c.record_count-n.ensures
-    c.records_part-t.ensures c.if-content-n.false in
-    (omega (arith, count_small c.args.leb_size), (whole, c.empty_record-empty.ensures))
-
-pub returns : goal.returns
-returns c =
-    let summed : let a = c.args in
-    Summed a.leb_size a.unit a.content.now c.record_count-n.result c.records_part-t.result.now c.tally-sum.result = record { count = c.record_count-n.ensures; records = c.records_part-t.ensures; sums = c.tally-sum.ensures } in
-    let whole : 172 * c.record_count-n.result ≤ length c.records_part-t.result.now = all_there c.args.leb_size c.args.content.now c.record_count-n.ensures
-    c.records_part-t.ensures c.if-content-n.false in
     let a = c.args in
-    names_decide a.leb_size a.unit a.peb_count a.content.now summed
-    (not-false c.tally-sum.result.good c.if-not-sum.false)
-    c.if-n-eq0.false whole c.if-sum-gt1.false
-    (rw c.most_reserved.ensures at c.if-most_reserved-sum.false) c.names_differ.ensures
+    let w = all_there a.leb_size a.content.now c.record_count-n.ensures c.records_part-t.ensures c.if-content-n.false in
+    (omega (arith, count_small a.leb_size), (w, c.empty_record-empty.ensures))
+
+pub returns-then-sum-most_reserved : goal.returns-then-sum-most_reserved
+returns-then-sum-most_reserved c =
+    let a = c.args in
+    let w = all_there a.leb_size a.content.now c.record_count-n.ensures c.records_part-t.ensures c.if-content-n.false in
+    let s : Summed a.leb_size a.unit a.content.now c.record_count-n.result c.records_part-t.result.now
+    (Some c.in-Some.sum) =
+    record { count = c.record_count-n.ensures; records = c.records_part-t.ensures; sums = c.in-Some.ensures } in
+    elim c.if-sum-le-MOST_AUTORESIZE.branch [
+      | then-sum-le-MOST_AUTORESIZE x ↦
+          names_decide a.leb_size a.unit a.peb_count a.content.now s c.if-n-eq0.false w x.if-sum-le-MOST_AUTORESIZE.true
+          (rw x.most_reserved.ensures at (leb-true _ _ (sym x.value-is ∙ c.if-sum-most_reserved.true)))
+          c.names_differ.ensures
+      | else-sum-le-MOST_AUTORESIZE x ↦
+          absurd (omega (arith, leb-true _ _ (sym x.value-is ∙ c.if-sum-most_reserved.true)))
+    ]
+
+pub returns-else-sum-most_reserved : goal.returns-else-sum-most_reserved
+returns-else-sum-most_reserved c =
+    let a = c.args in
+    let s : Summed a.leb_size a.unit a.content.now c.record_count-n.result c.records_part-t.result.now
+    (Some c.in-Some.sum) =
+    record { count = c.record_count-n.ensures; records = c.records_part-t.ensures; sums = c.in-Some.ensures } in
+    c.if-sum-most_reserved.false
+    ∙ elim c.if-sum-le-MOST_AUTORESIZE.branch [
+      | then-sum-le-MOST_AUTORESIZE x ↦
+          too_much_lem a.leb_size a.unit a.peb_count a.content.now s
+          (rw x.most_reserved.ensures at (leb-false _ _ (sym x.value-is ∙ c.if-sum-most_reserved.false)))
+      | else-sum-le-MOST_AUTORESIZE x ↦
+          too_many a.leb_size a.unit a.peb_count a.content.now s x.if-sum-le-MOST_AUTORESIZE.false
+    ]

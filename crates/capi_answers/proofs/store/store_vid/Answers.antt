@@ -1,7 +1,0 @@
--- `capi_answers::store::store_vid` meets its contract. Assumes nothing.
-use mathlib.Core.Path.{refl}
-use Rattle.capi_answers.proofs.store.store_vid.Goals as goal
-
-pub returns-in-Good : goal.returns-in-Good
-returns-in-Good c =
-    rw c.in-Good.is (record { answer = refl; words = rw c.vid_words-words.ensures at c.store_words.ensures })

@@ -1,1 +1,0 @@
--- `capi_words::write::vid_words` meets its contract. Assumes nothing.

@@ -1,9 +1,0 @@
--- `test_builder::main` is safe and ends. Assumes nothing.
-use Prim.Native.Nat.{◌-◌}
-use Rattle.test_builder.proofs.main.Given as goal
-
-abbrev pub invariant-loop : goal.invariant-loop
-invariant-loop l = Unit {0}
-
-abbrev pub decreases-loop : goal.decreases-loop
-decreases-loop l = l.end - l.counter
