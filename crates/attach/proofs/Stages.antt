@@ -41,10 +41,10 @@ use Rattle.report.specs.Attach.{
   attached_answer,
   answer_of,
   tables_after,
-  slip_refused,
 }
 use Rattle.report.specs.declared.Report.{Report}
-use Rattle.report.specs.declared.Refused.{Refused}
+use Rattle.refusals.specs.declared.Refused.{Refused}
+use Rattle.refusals.specs.Slip.{slip_refused}
 use Rattle.std.specs.declared.option.Option as rust
 use Rattle.std.specs.Prelude.{Some, None, Result, Ok, Err}
 use Rattle.report.specs.Scratch.{key_words, keys_of, marked_words}

@@ -17,7 +17,7 @@ use Rattle.geometry.specs.Slip.{value_at}
 use Rattle.geometry.specs.Geometry.{geometry_read}
 use Rattle.geometry.specs.declared.SlipError.{SlipError}
 use Rattle.geometry.specs.declared.SlipError.TheVariants.{Malformed, Outside}
-use Rattle.report.specs.Attach.{slip_refused}
+use Rattle.refusals.specs.Slip.{slip_refused}
 use Rattle.geometry.specs.declared.Geometry.{Geometry}
 use Rattle.geometry.proofs.Laws.{placed, image_least, image_few}
 use Rattle.builder_rules.specs.Slip.{volume_count, volume_field, builder_slip, builder_geometry}

@@ -7,7 +7,7 @@ use Rattle.geometry.specs.declared.Geometry.{Geometry}
 use Rattle.builder_rules.specs.Slip.{volume_count, builder_geometry}
 use Rattle.builder_rules.specs.Table.{slip_table, volume_rules}
 use Rattle.builder_rules.specs.Blocks.{BuildPlan, volume_of, length_of, room, built_image}
-use Rattle.report.specs.declared.Refused.{Refused}
+use Rattle.refusals.specs.declared.Refused.{Refused}
 
 -- 21 "lengths not one for each volume or not summing to the content, or content longer than its volume's reserved LEBs
 -- hold"

@@ -61,10 +61,11 @@ pub fn read_ec(header: &[u8]) -> Result<EcHeader, ReadError>
 }
 
 // Would the reader call the header good?
+#[tactic(auto, unfolding(header::specs::Ec::judge_ec, header::specs::Ec::ec_rules))]
 pub fn ec_readable(h: EcHeader) -> bool
     ensures { result ≡ is_good (judge_ec h) }
 {
-    judge_ec(h).is_ok()
+    h.version == 1 && h.counter <= MOST_COUNTER
 }
 
 // The fields are stored.

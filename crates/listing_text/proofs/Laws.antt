@@ -93,6 +93,16 @@ pub next_written : (f : ℕ → List ℕ) (i : ℕ) {at r e : ℕ} {s s₁ s₂ 
 next_written f i {at} {r} {e} {s} {s₁} {s₂} p q = subst (λ (k : ℕ). Written s at (concat_below k f) e s₂)
     (sym (add-one i)) (both_written p q)
 
+-- a buffer keeps its length
+pub written_length : {at r : ℕ} {t s s' : List ℕ} → Written s at t r s' → length s' ≡ length s
+written_length {at} {r} {t} {s} {s'} w = ap length w.bytes ∙ same at t s
+  where
+    same : (at : ℕ) (t s : List ℕ) → length (clipped at t s) ≡ length s
+    same at t [] = refl
+    same zero [] (y ∷ s) = refl
+    same zero (x ∷ t) (y ∷ s) = ap suc (same zero t s)
+    same (suc at) t (y ∷ s) = ap suc (same at t s)
+
 -- ---- numbers in decimal
 
 small_digit : (d : ℕ) → d < 10 → hex_digit_ascii d ≡ 48 + d

@@ -1,6 +1,6 @@
 -- The data of a move: what lies behind its end is 0xFF. Assumes nothing.
 use mathlib.Core.Path.{◌≡◌, refl, sym, ◌∙◌, ap, ap₂}
-use mathlib.Core.Bool.{true}
+use mathlib.Core.Bool.{true, ◌&&◌, cond, and-true, and-false, and_assoc}
 use mathlib.Core.List.{List, [], ◌∷◌, ◌++◌}
 use Prim.Native.Nat.{ℕ, zero, suc, ◌+◌, ◌-◌, ◌*◌, ◌/◌, ◌%◌, ◌≤◌, ◌<◌}
 use native.Mathlib.Nat.{sub-zero, div-add-mod', mod-lt, mul-le-mul_right}
@@ -9,7 +9,7 @@ use lib.Dec.{eqb}
 use borrow.Author.Tests.{eqb-true}
 use lib.ListN.{length, take, drop, replicate}
 use lib.Seq.{take-add, length-take-le}
-use Rattle.base.proofs.Answers.{by_test, and_left, and_right}
+use Rattle.base.proofs.Answers.{by_test, either_way, and_left, and_right}
 use Rattle.base.proofs.Lists.{drop_take}
 use Rattle.base.proofs.Stores.{drop_replicate, take_replicate}
 use Rattle.geometry.specs.Geometry.{round_up}
@@ -39,6 +39,19 @@ end_rest (b ∷ l) zero h = by_test (all_ff (b ∷ l)) (λ q. rw sub-zero (all_f
 end_rest (b ∷ l) (suc s) h =
     by_test (all_ff (b ∷ l)) (λ q. ap (drop (suc s)) (all_ff_lem (b ∷ l) q) ∙ drop_replicate 0xFF (suc s) (length (b ∷ l)))
     (λ q. let e : suc (length l) - suc s ≡ length l - s = omega arith in rw e (end_rest l s (omega (arith, rw q at h))))
+
+-- one byte more: an end that is found by a loop
+all_ff_snoc : (l : List ℕ) (b : ℕ) → all_ff (l ++ (b ∷ [])) ≡ all_ff l && eqb b 0xFF
+unfolding all_ff
+all_ff_snoc [] b = and-true (eqb b 0xFF)
+all_ff_snoc (x ∷ l) b = rw (all_ff_snoc l b) (sym (and_assoc (eqb x 0xFF) (all_ff l) (eqb b 0xFF)))
+
+pub end_snoc : (l : List ℕ) (b : ℕ) → data_end (l ++ (b ∷ [])) ≡ cond (eqb b 0xFF) (data_end l) (suc (length l))
+unfolding data_end all_ff
+end_snoc [] b = either_way (λ c. cond {A = ℕ} (c && true) 0 1 ≡ cond c 0 1) (eqb b 0xFF) refl refl
+end_snoc (x ∷ l) b =
+    rw (all_ff_snoc l b, end_snoc l b)
+    (by_test (eqb b 0xFF) (λ c. rw (c, and-true (all_ff l))) (λ c. rw (c, and-false (all_ff l), and-false (eqb x 0xFF))))
 
 -- the first s bytes of b, with 0xFF behind, have the same first m bytes as b, if the end of those is within s
 pub same_content : (m s big : ℕ) (a b : List ℕ) → data_end (take m b) ≤ s → s ≤ m → m ≤ length b → m ≤ big

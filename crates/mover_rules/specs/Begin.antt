@@ -11,7 +11,7 @@ use Rattle.report.specs.Report.{highest_of, is_internal, read_only_of, class_at,
 use Rattle.report.specs.Attach.{AttachRequest, Outcome, early, late, whole, attaching}
 use Rattle.mover_rules.specs.Headers.{is_static, new_vid, old_counter, new_ec}
 use Rattle.mover_rules.specs.declared.Plan.{Plan}
-use Rattle.report.specs.declared.Refused.{Refused}
+use Rattle.refusals.specs.declared.Refused.{Refused}
 
 -- is the LEB in the map?
 abbrev pub is_in : ℕ → ℕ → List Entry → Bool

@@ -14,9 +14,7 @@ use Rattle.report.specs.Scan.{Refusal, image_seq_of}
 use Rattle.report.specs.Volumes.{Entry}
 use Rattle.report.specs.Report.{class_at, counter_at, entries, state_at, mean_of, highest_of, read_only_of, grade_of, taken, mark, refusal}
 use Rattle.report.specs.declared.Report.{Report}
-use Rattle.report.specs.declared.Refused.{Refused}
-use Rattle.geometry.specs.declared.SlipError.{SlipError}
-use Rattle.geometry.specs.declared.SlipError.TheVariants.{Malformed, Outside}
+use Rattle.refusals.specs.declared.Refused.{Refused}
 
 -- the lent tables: the words of the PEBs, of the map and of the volume states
 pub record Tables : Type 0 where
@@ -100,11 +98,6 @@ answer_of (whole m) = given (report_of m)
 abbrev pub attached_answer : Result Report Refused → Answer Report
 attached_answer (Ok r) = given r
 attached_answer (Err e) = refused e.number e.place
-
--- refusals 1 and 2, as they leave a call that attaches or builds
-abbrev pub slip_refused : SlipError → Refused
-slip_refused Malformed = record { number = 1; place = 0 }
-slip_refused Outside = record { number = 2; place = 0 }
 
 -- lent words of which the first are given; "lent words .. beyond an answer .. never change"
 abbrev pub over : List ℕ → List ℕ → List ℕ

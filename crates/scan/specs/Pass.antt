@@ -14,7 +14,7 @@ use Rattle.report.specs.Report.{counter_or, has_counter, highest_of, read_only_o
 use Rattle.report.specs.Scratch.{key_words, keys_of}
 use Rattle.scan.specs.Totals.{with_ec, with_vid, SmallTotals, refusal_of}
 use Rattle.scan.specs.declared.ScanTotals.{ScanTotals}
-use Rattle.report.specs.declared.Refused.{Refused}
+use Rattle.refusals.specs.declared.Refused.{Refused}
 
 -- the totals of the first n PEBs
 pub record TotalsOf (n : ℕ) (vs : Views) (s : ScanTotals) : Type 0 where

@@ -31,7 +31,7 @@ use Rattle.report.specs.Attach.{
   tables_after,
 }
 use Rattle.report.specs.declared.Report.{Report}
-use Rattle.report.specs.declared.Refused.{Refused}
+use Rattle.refusals.specs.declared.Refused.{Refused}
 use Rattle.std.specs.Prelude.{Result}
 use Rattle.report.proofs.Tables.{entries_fit}
 use Rattle.report.proofs.Words.{entry_words_length, peb_words_length}

@@ -12,7 +12,7 @@ use Rattle.report.specs.Choice.{refusal9}
 use Rattle.report.specs.Report.{refusal, records, taken, mark}
 use Rattle.report.specs.Attach.{Outcome, Tables, by_refusal, attached_answer, answer_of, tables_after, peb_words}
 use Rattle.report.specs.declared.Report.{Report}
-use Rattle.report.specs.declared.Refused.{Refused}
+use Rattle.refusals.specs.declared.Refused.{Refused}
 use Rattle.report.specs.Scratch.{keys_of}
 use Rattle.scan.specs.Pass.{TotalsOf, first_words_of}
 use Rattle.scan.specs.declared.ScanTotals.{ScanTotals}

@@ -23,19 +23,19 @@ on_after room most p q (Ok n) t below moved failed e = on_next _ _ _ _ below mov
 on_after room most p q (Err x) t below moved failed e = on_next _ _ _ _ below failed.2 e
 
 -- where a call moved no more than there is room for and none is due after it, that is an input
-input_of_bytes : (p : Progress) (n : ℕ) (t : Transfer) → p.moved < 61441 → p.moved + n ≤ 61441
-    → t ≡ after_call 61441 p (pos (min n 9223372036854775807)) false → ((q : Progress) → t ≡ On q → ⊥)
+input_of_bytes : (p : Progress) (n most : ℕ) (t : Transfer) → p.moved < 61441 → p.moved + n ≤ 61441
+    → 61441 ≤ most → t ≡ after_call 61441 p (pos (min n most)) false → ((q : Progress) → t ≡ On q → ⊥)
     → IsSome (input_of t) × IfSome (input_of t) (λ i. within i 61440)
 unfolding after_call after_bytes
-input_of_bytes p n t below fits e ended = grind (arith, nat_tests, common_steps)
+input_of_bytes p n most t below fits much e ended = grind (arith, nat_tests, common_steps)
 
 -- the same, of what std answered
-pub input_after : (p : Progress) {r : Result ℕ Error} {t : Transfer} {n : ℕ} {x : Option Input} → p.moved < 61441
-    → IfOk r (λ m. p.moved < 61441 → p.moved + m ≤ 61441)
-    → IfOk r (λ m. t ≡ after_call 61441 p (pos (min m 9223372036854775807)) false)
+pub input_after : (most : ℕ) (p : Progress) {r : Result ℕ Error} {t : Transfer} {n : ℕ} {x : Option Input}
+    → 61441 ≤ most → p.moved < 61441 → IfOk r (λ m. p.moved < 61441 → p.moved + m ≤ 61441)
+    → IfOk r (λ m. t ≡ after_call 61441 p (pos (min m most)) false)
     → r ≡ Ok n → ((q : Progress) → t ≡ On q → ⊥) → x ≡ input_of t
     → IsSome x × IfSome x (λ i. within i 61440)
-input_after p {r} {t} {n} {x} below fits moved e ended q =
+input_after most p {r} {t} {n} {x} much below fits moved e ended q =
     let f = rw e at fits in
     let m = rw e at moved in
-    rw q (input_of_bytes p n t below (f below) m ended)
+    rw q (input_of_bytes p n most t below (f below) much m ended)

@@ -58,7 +58,12 @@ pub fn first_of(map: &[u32], count: usize, volume: u32) -> Option<usize>
     requires { map_words_needed count ≤ length map.now }
     ensures { FirstBelow count (is_of map.now volume) result }
 {
-    (0..count).find(|k| volume_word(map, *k) == volume)
+    for k in 0..count {
+        if volume_word(map, k) == volume {
+            return Some(k);
+        }
+    }
+    None
 }
 
 // How many entries the volume has.
@@ -66,7 +71,9 @@ pub fn entries_of(map: &[u32], count: usize, volume: u32) -> usize
     requires { map_words_needed count ≤ length map.now }
     ensures { result ≡ count_below count (is_of map.now volume) }
 {
-    (0..count)
-        .filter(|k| volume_word(map, *k) == volume)
-        .count()
+    let mut found: usize = 0;
+    for k in 0..count {
+        found += usize::from(volume_word(map, k) == volume);
+    }
+    found
 }

@@ -6,7 +6,7 @@ use native.Mathlib.Omega.{arith}
 use Rattle.std.proofs.Common.{Ok, Err}
 use Rattle.std.proofs.lemmas.Result.{err_from_is_err_and}
 use Prim.Native.Nat.{ℕ}
-use Rattle.report.specs.declared.Refused.{Refused}
+use Rattle.refusals.specs.declared.Refused.{Refused}
 use Rattle.report.specs.View.{views_of, medium_of}
 use Rattle.scan.proofs.Passes.{passing_none, pass_on, pass_refused, pass_whole}
 use Rattle.scan.proofs.run.pass.Goals as goal
