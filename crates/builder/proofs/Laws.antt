@@ -2,7 +2,7 @@
 use mathlib.Core.Path.{◌≡◌, refl}
 use mathlib.Core.Bool.{Bool, true, false}
 use mathlib.Core.List.{List}
-use Rattle.std.proofs.Common.{Err}
+use Rattle.std.proofs.Common.{Result, Err}
 use Prim.Native.Nat.{ℕ, ◌<◌, ◌^◌}
 use native.Mathlib.Nat.{mod-le}
 use borrow.Author.Tests.{eqb-true}
@@ -109,3 +109,16 @@ slip_refuses slip seq lengths contents image Malformed q =
     promised slip seq lengths contents image (refused 1 0) q (refl, refl)
 slip_refuses slip seq lengths contents image Outside q =
     promised slip seq lengths contents image (refused 2 0) q (refl, refl)
+
+-- of a malformed slip alone: with these the check judges each number that could be answered to it
+pub malformed_answer : (slip : List ℕ) (seq : ℕ) (lengths contents image : List ℕ) {r : Result Geometry SlipError}
+    → r ≡ Err Malformed → geometry_read r ≡ builder_geometry slip
+    → refused 1 0 ≡ without_plan (building slip seq lengths contents image)
+malformed_answer slip seq lengths contents image e q =
+    (slip_refuses slip seq lengths contents image Malformed (rw e at q)).0
+
+pub malformed_image : (slip : List ℕ) (seq : ℕ) (lengths contents image : List ℕ) {r : Result Geometry SlipError}
+    → r ≡ Err Malformed → geometry_read r ≡ builder_geometry slip
+    → image ≡ image_after (building slip seq lengths contents image) image
+malformed_image slip seq lengths contents image e q =
+    (slip_refuses slip seq lengths contents image Malformed (rw e at q)).1

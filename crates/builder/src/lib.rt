@@ -83,6 +83,7 @@ fn build_chip(
 }
 
 // The lent image is filled with the volumes of the slip and their contents, one after another; or it stays as it is.
+#[tactic(auto, using(crate::proofs::Laws::malformed_answer, crate::proofs::Laws::malformed_image))]
 pub fn build(
     slip: &[u8],
     image_seq: u32,

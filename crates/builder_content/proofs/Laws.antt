@@ -4,7 +4,7 @@ use mathlib.Core.Logic.{◌≢◌}
 use mathlib.Core.Bool.{Bool, true, false, and-true}
 use mathlib.Core.List.{List}
 use Rattle.std.proofs.Common.{sum}
-use Prim.Native.Nat.{ℕ, zero, suc, ◌+◌, ◌-◌, ◌*◌, ◌≤◌, ◌<◌}
+use Prim.Native.Nat.{ℕ, zero, suc, ◌+◌, ◌-◌, ◌*◌, ◌^◌, ◌≤◌, ◌<◌}
 use native.Mathlib.Numerals.{add-one}
 use native.Mathlib.Omega.{arith}
 use Rattle.std.proofs.lemmas.List.Sums.{sum_by_more}
@@ -30,6 +30,11 @@ sum_before : (xs : List ℕ) (n : ℕ) → n ≤ length xs → sum (take n xs) �
 sum_before xs zero h = refl
 sum_before xs (suc n) h =
     rw add-one at (sum_by_more (λ (x : ℕ). x) xs n 0 (omega arith)) ∙ rw (sum_before xs n (omega arith))
+
+-- numbers of 32 bits
+pub sum_small : (n : ℕ) (f : ℕ → ℕ) → ((i : ℕ) → f i < 2 ^ 32) → sum_below n f ≤ n * 2 ^ 32
+sum_small zero f h = omega arith
+sum_small (suc n) f h = omega (arith, sum_small n f h, h n)
 
 pub sum_is : (xs : List ℕ) → sum xs ≡ sum_below (length xs) (λ i. get_or xs i 0)
 sum_is xs = rw (take_all (length xs) xs (omega arith)) at (sum_before xs (length xs) (omega arith))

@@ -31,4 +31,4 @@ loop-p-preserved c =
     rw q
     (rows_next a.first k g.peb_size f a.image.now (λ _. free_length g a.f.now.placed ec)
     (rw e (omega (arith, mul-le-mul_right g.peb_size h, c.requires.1.1))) l.invariant refl
-    (c.peb_start.ensures ∙ ap (λ (m : ℕ). m * g.peb_size) (sym e)) c.store_free.ensures)
+    (c.peb_start.ensures ∙ ap (λ (m : ℕ). m * g.peb_size) (omega arith)) c.store_free.ensures)
