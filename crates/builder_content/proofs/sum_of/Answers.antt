@@ -13,4 +13,5 @@ pub returns : goal.returns
 returns c =
     let xs = c.args.lengths.now in
     let e : c.sum.result ≡ sum xs = search rules in
-    omega (arith, e, sum_is xs, sum_small (length xs) (λ (i : ℕ). get_or xs i 0) (λ i. omega (arith, c.type_inv.lengths i)), c.requires)
+    let s = sum_small (length xs) (λ (i : ℕ). get_or xs i 0) (λ i. omega (arith, c.type_inv.lengths i)) in
+    omega (arith, e, sum_is xs, s, c.requires)

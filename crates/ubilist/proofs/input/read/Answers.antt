@@ -6,14 +6,14 @@ use Rattle.ubilist.proofs.input.read.Goals as goal
 pub unwrap-requires : goal.unwrap-requires
 unwrap-requires g c =
     let l = c.loop-next in
-    (input_after 9223372036854775807 l.p (omega arith) l.invariant c.read_some-got.ensures c.after-t.ensures.moved c.in_ok-got.was
-    c.in_default.not-On c.input_of.ensures).0
+    (input_after 9223372036854775807 l.p (omega arith) l.invariant c.read_some-got.ensures c.after-t.ensures.moved
+    c.in_ok-got.was c.in_default.not-On c.input_of.ensures).0
 
 pub returns-in_default : goal.returns-in_default
 returns-in_default g c =
     let l = c.loop-next in
-    let i = input_after 9223372036854775807 l.p (omega arith) l.invariant c.read_some-got.ensures c.after-t.ensures.moved c.in_ok-got.was
-    c.in_default.not-On c.input_of.ensures in
+    let i = input_after 9223372036854775807 l.p (omega arith) l.invariant c.read_some-got.ensures
+    c.after-t.ensures.moved c.in_ok-got.was c.in_default.not-On c.input_of.ensures in
     rw c.unwrap.ensures at i.1
 
 pub loop-next-smaller : goal.loop-next-smaller
